@@ -1,0 +1,11 @@
+pub mod Values
+pub mod Stores
+pub mod Lookups
+pub mod Traces
+pub mod Expressions
+pub mod Statements
+pub mod Heads
+pub mod Loops
+pub mod Blocks
+pub mod Runs
+pub mod Laws
