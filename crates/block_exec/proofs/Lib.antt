@@ -1,0 +1,4 @@
+pub mod Chained
+pub mod Plain
+pub mod Tells
+pub mod Runs
