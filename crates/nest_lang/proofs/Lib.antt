@@ -1,2 +1,6 @@
+pub mod Agree
+pub mod Cuts
+pub mod ExpressionLemmas
 pub mod Present
+pub mod StatementLemmas
 pub mod Trips
