@@ -37,7 +37,7 @@ alike-same m t = inl refl
 pub alike-zero : (t u : Trace) → Alike 0 t u
 alike-zero t u = inr (record { same = refl; first = omega arith; second = omega arith })
 
-take-less : {A : Type 0} (k m : ℕ) (xs ys : List A) → k ≤ m → take m xs ≡ take m ys → take k xs ≡ take k ys
+pub take-less : {A : Type 0} (k m : ℕ) (xs ys : List A) → k ≤ m → take m xs ≡ take m ys → take k xs ≡ take k ys
 take-less k m xs ys h e = sym (take-take k m xs h) ∙ ap (take k) e ∙ take-take k m ys h
   where
     take-take : {A : Type 0} (k m : ℕ) (xs : List A) → k ≤ m → take k (take m xs) ≡ take k xs

@@ -2,5 +2,6 @@ pub mod Agree
 pub mod Cuts
 pub mod ExpressionLemmas
 pub mod Present
+pub mod RunLemmas
 pub mod StatementLemmas
 pub mod Trips
