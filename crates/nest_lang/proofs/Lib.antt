@@ -1,4 +1,5 @@
 pub mod Agree
+pub mod Computed
 pub mod Cuts
 pub mod ExpressionLemmas
 pub mod Present

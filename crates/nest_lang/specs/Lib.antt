@@ -10,3 +10,4 @@ pub mod Blocks
 pub mod Rules
 pub mod Runs
 pub mod Laws
+pub mod Examples

@@ -15,13 +15,13 @@ abbrev pub has_statements : List Stmt → Bool
 has_statements [] = false
 has_statements (s ∷ ss) = true
 
--- loops inside one another: no stride is 0, and the innermost body has a statement, so that every turn
--- takes a step
-abbrev pub bodies_keep : List Stmt → List Loop → Bool
-bodies_keep pre [] = has_statements pre
-bodies_keep pre (l ∷ ls) = strides l.head && bodies_keep l.pre ls
+-- a loop and the loops inside of it: no stride is 0, and the innermost body has a statement, so that
+-- every turn takes a step
+abbrev pub loop_keeps : Loop → List Loop → Bool
+loop_keeps l [] = strides l.head && has_statements l.pre
+loop_keeps l (m ∷ ls) = strides l.head && loop_keeps m ls
 
 -- a nest: one to six loops that keep these rules
 unfoldable pub keeps_rules : List Loop → Bool
 keeps_rules [] = false
-keeps_rules (l ∷ ls) = nat_le (length ls) 5 && strides l.head && bodies_keep l.pre ls
+keeps_rules (l ∷ ls) = nat_le (length ls) 5 && loop_keeps l ls
