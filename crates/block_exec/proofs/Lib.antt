@@ -1,3 +1,4 @@
+pub mod Announcements
 pub mod Chained
 pub mod Plain
 pub mod Tells

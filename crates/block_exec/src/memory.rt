@@ -1,6 +1,6 @@
 //! The plain port.
 
-ghost use Rattle.std.specs.Prelude.{◌≡◌};
+ghost use Rattle.std.specs.Prelude.{◌≡◌, ◌↔◌, ◌<◌, ◌≤ℤ◌, IsTrue, pos, unsigned_abs};
 ghost use Rattle.nest_lang.specs.Lookups.{plain};
 
 use crate::port::Port;
@@ -15,7 +15,7 @@ pub struct MemoryPort<'a> {
 impl<'a> MemoryPort<'a> {
     /// A port over these words. The word at address a is `memory[a]`.
     pub fn new(memory: &'a mut [i64]) -> MemoryPort<'a>
-        ensures { result.memory.now ≡ memory.now }
+        ensures { result.memory ≡ memory.entry }
     {
         MemoryPort { memory }
     }
@@ -32,18 +32,25 @@ impl Port for MemoryPort<'_> {
 
     #[tactic(auto, using(crate::proofs::Plain::plain_looks))]
     fn load(&mut self, _access: u8, address: i64) -> Result<i64, Stop> {
-        if address < 0 {
+        if !is_word(address, self.memory.len()) {
             return Err(Stop::Outside(address));
         }
-        self.memory.get(address as usize).copied().ok_or(Stop::Outside(address))
+        Ok(self.memory[address as usize])
     }
 
     #[tactic(auto, using(crate::proofs::Plain::plain_looks))]
     fn store(&mut self, _access: u8, address: i64, value: i64) -> Result<(), Stop> {
-        if address < 0 || self.memory.len() as u64 <= address as u64 {
+        if !is_word(address, self.memory.len()) {
             return Err(Stop::Outside(address));
         }
         self.memory[address as usize] = value;
         Ok(())
     }
+}
+
+/// The address is that of one of so many words.
+fn is_word(address: i64, words: usize) -> bool
+    ensures { IsTrue result ↔ ((pos 0 ≤ℤ address) × (unsigned_abs address < words)) }
+{
+    0 <= address && (address as u64) < words as u64
 }

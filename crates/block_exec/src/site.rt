@@ -28,6 +28,7 @@ impl Site<'_> {
     }
 
     /// Shows that the instance is due, and then the scalars.
+    #[tactic(auto, using(crate::proofs::Announcements::announces))]
     pub fn announce<W: Watch>(&self, scalars: &[i64], watch: &mut W)
         requires { length scalars.now ≤ 256 }
         ensures { Chain W.may watch.old (announced (frame_at self.now plain) (store_of [] scalars.now [])) watch.new }
