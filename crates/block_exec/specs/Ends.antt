@@ -1,7 +1,9 @@
 -- Ends: how blocks and heads end, as the code says it.
-use Rattle.std.specs.Prelude.{◌≡◌, ◌≢◌, ℕ, zero, suc, ℤ, pos, List, [], Option, Some, None, Result, Ok, Err}
+use Rattle.std.specs.Prelude.{ℕ, zero, suc, ◌<◌, ℤ, FitsSigned, List, [], Option, Some, None, Result, Ok, Err}
+use Rattle.std.specs.Int.{w64}
 use Rattle.nest_lang.specs.declared.tree.Head.{Head}
 use Rattle.nest_lang.specs.declared.tree.Head.TheVariants.{For, While}
+use Rattle.nest_lang.specs.Values.{turn_value}
 use Rattle.nest_lang.specs.Traces.{Observation, Halt, Trapped, Stopped, Finish, Done, Halted, Limited}
 use Rattle.nest_lang.specs.Heads.{Yield, Bounds, Tested}
 use Rattle.block_exec.specs.declared.halt.Halt as code
@@ -46,12 +48,26 @@ abbrev pub shown_where_left : ℕ → List Observation → List Observation
 shown_where_left zero os = []
 shown_where_left (suc n) os = os
 
--- the stride of a `for` is not 0
-abbrev pub Strides : Head → Type 0
-Strides (For lower upper stride) = stride ≢ pos 0
-Strides (While condition) = Unit {0}
-
 -- what a head's evaluation gives
 abbrev pub head_answered : Result HeadEnd code.Halt → Option (Result Yield Halt)
 head_answered (Ok end) = yielded end
 head_answered (Err h) = Some (Err (halt_by h))
+
+-- a halt that is a trap
+abbrev pub IsTrap : code.Halt → Type 0
+IsTrap (halt.Trapped trap) = Unit {0}
+IsTrap (halt.Stopped access seen expected) = ⊥
+
+-- a block or a head that was not stopped, as over a port that does not verify
+abbrev pub IsUnstopped : BlockEnd → Type 0
+IsUnstopped (block.Stopped access seen expected) = ⊥
+IsUnstopped end = Unit {0}
+
+abbrev pub IsHeadUnstopped : HeadEnd → Type 0
+IsHeadUnstopped (head.Stopped access seen expected) = ⊥
+IsHeadUnstopped end = Unit {0}
+
+-- the values of a `for`'s name are i64 in each of its turns
+abbrev pub TurnsFit : Head → HeadEnd → Type 0
+TurnsFit (For lower upper stride) (head.For from trip) = (t : ℕ) → t < trip → FitsSigned w64 (turn_value from stride t)
+TurnsFit h end = Unit {0}

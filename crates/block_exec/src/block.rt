@@ -1,13 +1,13 @@
 //! Execution of blocks.
 
-ghost use Rattle.std.specs.Prelude.{◌≡◌, ◌+◌, ◌≤◌, ◌^◌, ◌++◌, [], length, slice_set, unsigned_abs, MatchResult, IsOk, OnOk, OnErr};
+ghost use Rattle.std.specs.Prelude.{◌≡◌, ◌+◌, ◌≤◌, ◌^◌, ◌++◌, [], length, slice_set, unsigned_abs, MatchResult, IsOk, OnOk, OnErr, IfErr, false};
 ghost use Rattle.nest_lang.specs.declared.observe.Seen.TheVariants.{Address};
 ghost use Rattle.nest_lang.specs.Stores.{store_of};
 ghost use Rattle.nest_lang.specs.Lookups.{look_store};
 ghost use Rattle.nest_lang.specs.Traces.{cut_of, cut, seen_in};
 ghost use Rattle.nest_lang.specs.Expressions.{or_stopped};
 ghost use Rattle.nest_lang.specs.Statements.{statement_trace, block_trace, started, announced};
-ghost use Rattle.block_exec.specs.Ends.{halt_by, finish_by};
+ghost use Rattle.block_exec.specs.Ends.{halt_by, finish_by, IsTrap, IsUnstopped};
 ghost use Rattle.block_exec.specs.Watches.{Chain, observed, frame_of, frame_at};
 
 use crate::expression::evaluate;
@@ -62,6 +62,7 @@ pub fn exec_block<P: Port, W: Watch>(
     }
     ensures expects { P.expects port.new ≡ P.expects port.old }
     ensures basis { P.basis port.new ≡ P.basis port.old }
+    ensures quiet { (P.expects port.old).verifies ≡ false → IsUnstopped result }
     ensures kept { steps.new.left + steps.new.used ≡ steps.old.left + steps.old.used }
     ensures fewer { steps.new.left ≤ steps.old.left }
     ensures words { length (P.memory port.new) ≡ length (P.memory port.old) }
@@ -99,6 +100,7 @@ fn run_statement<P: Port, W: Watch>(
     }
     ensures expects { P.expects port.new ≡ P.expects port.old }
     ensures basis { P.basis port.new ≡ P.basis port.old }
+    ensures quiet { (P.expects port.old).verifies ≡ false → IsUnstopped result }
     ensures kept { steps.new.left + steps.new.used ≡ steps.old.left + steps.old.used }
     ensures fewer { steps.new.left ≤ steps.old.left }
 {
@@ -170,6 +172,7 @@ fn run_statements<P: Port, W: Watch>(
     }
     ensures expects { P.expects port.new ≡ P.expects port.old }
     ensures basis { P.basis port.new ≡ P.basis port.old }
+    ensures quiet { (P.expects port.old).verifies ≡ false → IsUnstopped result }
     ensures kept { steps.new.left + steps.new.used ≡ steps.old.left + steps.old.used }
     ensures fewer { steps.new.left ≤ steps.old.left }
 {
@@ -192,6 +195,7 @@ fn put(places: &mut [i64], number: u8, value: i64)
 }
 
 /// Stores through a port, where the address is shown before.
+#[tactic(auto, using(crate::proofs::Quiet::quiet))]
 fn store<P: Port, W: Watch>(
     access: u8,
     address: i64,
@@ -209,6 +213,7 @@ fn store<P: Port, W: Watch>(
     ensures err { OnErr result (P.memory port.new ≡ P.memory port.old) }
     ensures expects { P.expects port.new ≡ P.expects port.old }
     ensures basis { P.basis port.new ≡ P.basis port.old }
+    ensures quiet { (P.expects port.old).verifies ≡ false → IfErr result IsTrap }
 {
     site.show(Seen::Address(access), address, watch);
     match port.store(access, address, value) {

@@ -1,10 +1,10 @@
 //! Evaluation of expressions.
 
-ghost use Rattle.std.specs.Prelude.{◌≡◌};
+ghost use Rattle.std.specs.Prelude.{◌≡◌, false, IfErr};
 ghost use Rattle.nest_lang.specs.Lookups.{look_load};
 ghost use Rattle.nest_lang.specs.Expressions.{told_by, or_stopped};
 ghost use Rattle.nest_lang.specs.declared.observe.Seen.TheVariants.{Address};
-ghost use Rattle.block_exec.specs.Ends.{answered};
+ghost use Rattle.block_exec.specs.Ends.{answered, IsTrap};
 ghost use Rattle.block_exec.specs.Watches.{Chain, observed, frame_at};
 
 use crate::halt::{Halt, halt_of, or_trap};
@@ -28,6 +28,7 @@ pub fn evaluate<P: Port, W: Watch>(
     ensures memory { P.memory port.new ≡ P.memory port.old }
     ensures expects { P.expects port.new ≡ P.expects port.old }
     ensures basis { P.basis port.new ≡ P.basis port.old }
+    ensures quiet { (P.expects port.old).verifies ≡ false → IfErr result IsTrap }
 {
     match expr {
         Expr::Number(number) => Ok(*number),
@@ -49,12 +50,14 @@ pub fn evaluate<P: Port, W: Watch>(
 }
 
 /// Loads through a port, where the address is shown before.
+#[tactic(auto, using(crate::proofs::Quiet::quiet))]
 fn load<P: Port, W: Watch>(access: u8, address: i64, site: &Site<'_>, port: &mut P, watch: &mut W) -> Result<i64, Halt>
     ensures value { answered result ≡ or_stopped access (look_load (P.expects port.old) (P.memory port.old) access address) }
     ensures watch { W.may watch.old (observed site.now.block site.now.counters.now (Address access) address) watch.new }
     ensures memory { P.memory port.new ≡ P.memory port.old }
     ensures expects { P.expects port.new ≡ P.expects port.old }
     ensures basis { P.basis port.new ≡ P.basis port.old }
+    ensures quiet { (P.expects port.old).verifies ≡ false → IfErr result IsTrap }
 {
     site.show(Seen::Address(access), address, watch);
     match port.load(access, address) {

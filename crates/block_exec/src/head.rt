@@ -1,10 +1,11 @@
 //! Evaluation of loop heads.
 
-ghost use Rattle.std.specs.Prelude.{◌≡◌, ◌+◌, ◌-◌, ◌≤◌, ◌^◌, ◌++◌, [], length, min};
+ghost use Rattle.std.specs.Prelude.{◌≡◌, ◌+◌, ◌-◌, ◌≤◌, ◌^◌, ◌++◌, [], length, min, true, false};
 ghost use Rattle.nest_lang.specs.Stores.{store_of};
 ghost use Rattle.nest_lang.specs.Statements.{announced};
 ghost use Rattle.nest_lang.specs.Heads.{head_of};
-ghost use Rattle.block_exec.specs.Ends.{Strides, yielded, where_left, shown_where_left, head_answered};
+ghost use Rattle.nest_lang.specs.Rules.{strides};
+ghost use Rattle.block_exec.specs.Ends.{IsHeadUnstopped, TurnsFit, yielded, where_left, shown_where_left, head_answered};
 ghost use Rattle.block_exec.specs.Watches.{Chain, frame_of, frame_at};
 
 use crate::expression::evaluate;
@@ -47,7 +48,7 @@ pub fn exec_head<P: Port, W: Watch>(
 ) -> HeadEnd
     requires steps { steps.old.left + steps.old.used ≤ 2 ^ 32 }
     requires scalars { length scalars.now ≤ 256 }
-    requires strides { Strides head.now }
+    requires strides { strides head.now ≡ true }
     ensures value {
         let start = store_of (P.memory port.old) scalars.now [] in
         let f = frame_of at counters.now values.now (P.expects port.old) in
@@ -63,6 +64,8 @@ pub fn exec_head<P: Port, W: Watch>(
     ensures memory { P.memory port.new ≡ P.memory port.old }
     ensures expects { P.expects port.new ≡ P.expects port.old }
     ensures basis { P.basis port.new ≡ P.basis port.old }
+    ensures quiet { (P.expects port.old).verifies ≡ false → IsHeadUnstopped result }
+    ensures turns { TurnsFit head.now result }
 {
     let site = &Site { block: at, counters, values };
     site.announce(scalars, watch);
@@ -84,7 +87,7 @@ fn evaluate_head<P: Port, W: Watch>(
     port: &mut P,
     watch: &mut W,
 ) -> Result<HeadEnd, Halt>
-    requires { Strides head.now }
+    requires { strides head.now ≡ true }
     ensures value {
         let start = store_of (P.memory port.old) scalars.now [] in
         let f = frame_at site.now (P.expects port.old) in
