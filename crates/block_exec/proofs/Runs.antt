@@ -1,5 +1,5 @@
 -- How runs of blocks go on, in code's words.
-use Rattle.std.proofs.Common.{◌≡◌, refl, ap, sym, ◌∙◌, ℕ, ◌<◌, ◌≤◌, ◌+◌, ℤ, List, [], ◌∷◌, ◌++◌, length, drop, get_or, append-nil, set, arith, rules}
+use Rattle.std.proofs.Common.{◌≡◌, refl, ap, sym, ◌∙◌, ℕ, ◌<◌, ◌≤◌, ◌+◌, ℤ, List, [], ◌∷◌, ◌++◌, length, take, drop, get_or, append-nil, set, arith, rules}
 use Rattle.nest_lang.specs.declared.tree.Stmt.{Stmt}
 use Rattle.nest_lang.specs.Stores.{Store, store_of, Effect, Nothing, Local, Scalar, Word, effect_on}
 use Rattle.nest_lang.specs.Traces.{Observation, Entry, Trace, Finish, Done, Cut, cut_of, cut, seen_in, after_all}
@@ -34,6 +34,34 @@ shown-out may f xs i x s s' left used left' used' e w0 w w' whole run other h it
     let next : seen_in (block_trace f (drop i xs) s) left ≡ seen_in (statement_trace f x s) left ++ [] =
         seen-block-at f xs i x s left used h item ∙ ap (λ k. seen_in (statement_trace f x s) left ++ rest_seen k (block_trace f (drop (i + 1) xs))) (sym run) ∙ ap (λ z. seen_in (statement_trace f x s) left ++ z) (rest_seen-not e s' left' (block_trace f (drop (i + 1) xs)) other) in
     go w' (rw (next, append-nil) step)
+
+-- a store outside of blocks
+abbrev pub bare : Store → Store
+bare s = store_of s.memory s.scalars []
+
+set-none : (i : ℕ) (v : ℤ) → set [] i v ≡ []
+set-none i v = refl
+
+effect-bare : (s : Store) (e : Effect) → effect_on (bare s) e ≡ bare (effect_on s e)
+effect-bare s Nothing = refl
+effect-bare s (Local number value) = ap (store_of s.memory s.scalars) (set-none number value)
+effect-bare s (Scalar number value) = refl
+effect-bare s (Word address value) = refl
+
+after-bare : (s : Store) (es : List Entry) → after_all (bare s) es ≡ bare (after_all s es)
+after-bare s [] = refl
+after-bare s (e ∷ es) = ap (λ z. after_all z es) (effect-bare s e.effect) ∙ after-bare (effect_on s e.effect) es
+
+abbrev pub bare_cut : Cut → Cut
+bare_cut c = cut_of (bare c.store) c.left c.used c.ending
+
+cut-bare : (t : Trace) (s : Store) (left used : ℕ) → cut t (bare s) left used ≡ bare_cut (cut t s left used)
+unfolding cut
+cut-bare t s left used = rw (after-bare s (take left t.entries)) refl
+
+-- the locals of a block are gone after it
+pub without-locals : (t : Trace) (s s' : Store) (left used left' used' : ℕ) (e : Finish) → cut_of s' left' used' e ≡ cut t s left used → cut_of (bare s') left' used' e ≡ cut t (bare s) left used
+without-locals t s s' left used left' used' e run = ap bare_cut run ∙ sym (cut-bare t s left used)
 
 pub ruleset steps = (statements, cut-step, cut-end, seen-step, seen-ends, chain-append, chain-one, append-nil)
 
