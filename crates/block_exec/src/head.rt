@@ -1,11 +1,12 @@
 //! Evaluation of loop heads.
 
-ghost use Rattle.std.specs.Prelude.{◌≡◌, ◌+◌, ◌-◌, ◌≤◌, ◌^◌, ◌++◌, [], length, min, true, false};
+ghost use Rattle.std.specs.Prelude.{◌≡◌, ◌+◌, ◌-◌, ◌≤◌, ◌^◌, ◌++◌, [], length, min, true, false, not, pos, IfOk, IfErr};
 ghost use Rattle.nest_lang.specs.Stores.{store_of};
 ghost use Rattle.nest_lang.specs.Statements.{announced};
-ghost use Rattle.nest_lang.specs.Heads.{head_of};
+ghost use Rattle.nest_lang.specs.Heads.{head_of, as_number};
 ghost use Rattle.nest_lang.specs.Rules.{strides};
-ghost use Rattle.block_exec.specs.Ends.{IsHeadUnstopped, TurnsFit, yielded, where_left, shown_where_left, head_answered};
+ghost use Rattle.nest_lang.specs.Values.{same};
+ghost use Rattle.block_exec.specs.Ends.{IsTrap, IsHeadUnstopped, TurnsFit, yielded, where_left, shown_where_left, head_answered};
 ghost use Rattle.block_exec.specs.Watches.{Chain, frame_of, frame_at};
 
 use crate::expression::evaluate;
@@ -80,6 +81,7 @@ pub fn exec_head<P: Port, W: Watch>(
 }
 
 /// What a head yields where a step is taken for it.
+#[tactic(auto, using(crate::proofs::Tells::yields))]
 fn evaluate_head<P: Port, W: Watch>(
     head: &Head,
     site: &Site<'_>,
@@ -101,6 +103,8 @@ fn evaluate_head<P: Port, W: Watch>(
     ensures memory { P.memory port.new ≡ P.memory port.old }
     ensures expects { P.expects port.new ≡ P.expects port.old }
     ensures basis { P.basis port.new ≡ P.basis port.old }
+    ensures quiet { (P.expects port.old).verifies ≡ false → IfErr result IsTrap }
+    ensures turns { IfOk result (λ end. TurnsFit head.now end × IsHeadUnstopped end) }
 {
     match head {
         Head::For(lower, upper, stride) => {
@@ -108,13 +112,28 @@ fn evaluate_head<P: Port, W: Watch>(
             let upper = evaluate(upper, site, scalars, &[], port, watch)?;
             let trip = trip_of(lower, upper, *stride);
             site.show(Seen::Lower, lower, watch);
-            watch.see(site.block, site.counters, Seen::Trip, i128::from(trip));
+            site.show_count(Seen::Trip, trip, watch);
             Ok(HeadEnd::For(lower, trip))
         }
         Head::While(condition) => {
-            let holds = evaluate(condition, site, scalars, &[], port, watch)? != 0;
-            site.show(Seen::Condition, i64::from(holds), watch);
+            let value = evaluate(condition, site, scalars, &[], port, watch)?;
+            let holds = is_not_zero(value);
+            site.show(Seen::Condition, number_of(holds), watch);
             Ok(HeadEnd::While(holds))
         }
     }
+}
+
+/// A condition holds where its value is not 0.
+fn is_not_zero(value: i64) -> bool
+    ensures { result ≡ not (same value (pos 0)) }
+{
+    value != 0
+}
+
+/// A condition as it is shown.
+fn number_of(holds: bool) -> i64
+    ensures { result ≡ as_number holds }
+{
+    i64::from(holds)
 }

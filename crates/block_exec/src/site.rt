@@ -1,6 +1,6 @@
 //! Where a block runs, and what is shown of it.
 
-ghost use Rattle.std.specs.Prelude.{◌≡◌, ◌≤◌, [], length};
+ghost use Rattle.std.specs.Prelude.{◌≡◌, ◌≤◌, [], length, pos};
 ghost use Rattle.nest_lang.specs.Lookups.{plain};
 ghost use Rattle.nest_lang.specs.Stores.{store_of};
 ghost use Rattle.nest_lang.specs.Expressions.{place_value};
@@ -25,6 +25,13 @@ impl Site<'_> {
         ensures { W.may watch.old (observed self.now.block self.now.counters.now what value) watch.new }
     {
         watch.see(self.block, self.counters, what, i128::from(value));
+    }
+
+    /// Shows a number of turns.
+    pub fn show_count<W: Watch>(&self, what: Seen, count: u64, watch: &mut W)
+        ensures { W.may watch.old (observed self.now.block self.now.counters.now what (pos count)) watch.new }
+    {
+        watch.see(self.block, self.counters, what, i128::from(count));
     }
 
     /// Shows that the instance is due, and then the scalars.
