@@ -1,6 +1,7 @@
 pub mod Announcements
 pub mod Chained
 pub mod Fits
+pub mod Instances
 pub mod Plain
 pub mod Quiet
 pub mod Shows

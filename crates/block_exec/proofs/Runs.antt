@@ -25,14 +25,14 @@ pub shown-next : {W : Type 0} (may : W → Observation → W → Type 0) (f : Fr
 shown-next may f xs i x s s' left used left' used' e w0 w w' whole run is h item step go v rest =
     let done : cut_of s' left' used' Done ≡ cut (statement_trace f x s) s left used = rw is at run in
     let next : seen_in (block_trace f (drop i xs) s) left ≡ seen_in (statement_trace f x s) left ++ seen_in (block_trace f (drop (i + 1) xs) s') left' =
-        seen-block-at f xs i x s left used h item ∙ ap (λ k. seen_in (statement_trace f x s) left ++ rest_seen k (block_trace f (drop (i + 1) xs))) (sym done) in
+    seen-block-at f xs i x s left used h item ∙ ap (λ k. seen_in (statement_trace f x s) left ++ rest_seen k (block_trace f (drop (i + 1) xs))) (sym done) in
     go v (rw next (chain-append may w w' v _ _ step rest))
 
 -- a statement was run and was not done
 pub shown-out : {W : Type 0} (may : W → Observation → W → Type 0) (f : Frame) (xs : List Stmt) (i : ℕ) (x : Stmt) (s s' : Store) (left used left' used' : ℕ) (e : Finish) (w0 w w' : W) (whole : List Observation) → cut_of s' left' used' e ≡ cut (statement_trace f x s) s left used → (e ≡ Done → ⊥) → i < length xs → x ≡ get_or xs i x → Chain may w (seen_in (statement_trace f x s) left) w' → ((v : W) → Chain may w (seen_in (block_trace f (drop i xs) s) left) v → Chain may w0 whole v) → Chain may w0 whole w'
 shown-out may f xs i x s s' left used left' used' e w0 w w' whole run other h item step go =
     let next : seen_in (block_trace f (drop i xs) s) left ≡ seen_in (statement_trace f x s) left ++ [] =
-        seen-block-at f xs i x s left used h item ∙ ap (λ k. seen_in (statement_trace f x s) left ++ rest_seen k (block_trace f (drop (i + 1) xs))) (sym run) ∙ ap (λ z. seen_in (statement_trace f x s) left ++ z) (rest_seen-not e s' left' (block_trace f (drop (i + 1) xs)) other) in
+    seen-block-at f xs i x s left used h item ∙ ap (λ k. seen_in (statement_trace f x s) left ++ rest_seen k (block_trace f (drop (i + 1) xs))) (sym run) ∙ ap (λ z. seen_in (statement_trace f x s) left ++ z) (rest_seen-not e s' left' (block_trace f (drop (i + 1) xs)) other) in
     go w' (rw (next, append-nil) step)
 
 -- a store outside of blocks

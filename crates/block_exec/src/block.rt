@@ -49,17 +49,13 @@ pub fn exec_block<P: Port, W: Watch>(
 ) -> BlockEnd
     requires steps { steps.old.left + steps.old.used ≤ 2 ^ 32 }
     requires scalars { length scalars.old ≤ 256 }
-    ensures run {
-        let start = store_of (P.memory port.old) scalars.old [] in
+    ensures run { let start = store_of (P.memory port.old) scalars.old [] in
         let f = frame_of at counters.now values.now (P.expects port.old) in
         cut_of (store_of (P.memory port.new) scalars.new []) steps.new.left steps.new.used (finish_by result)
-            ≡ cut (block_trace f block.now (started start)) start steps.old.left steps.old.used
-    }
-    ensures watch {
-        let start = store_of (P.memory port.old) scalars.old [] in
+        ≡ cut (block_trace f block.now (started start)) start steps.old.left steps.old.used }
+    ensures watch { let start = store_of (P.memory port.old) scalars.old [] in
         let f = frame_of at counters.now values.now (P.expects port.old) in
-        Chain W.may watch.old (announced f start ++ seen_in (block_trace f block.now (started start)) steps.old.left) watch.new
-    }
+        Chain W.may watch.old (announced f start ++ seen_in (block_trace f block.now (started start)) steps.old.left) watch.new }
     ensures expects { P.expects port.new ≡ P.expects port.old }
     ensures basis { P.basis port.new ≡ P.basis port.old }
     ensures quiet { (P.expects port.old).verifies ≡ false → IsUnstopped result }
@@ -68,7 +64,11 @@ pub fn exec_block<P: Port, W: Watch>(
     ensures words { length (P.memory port.new) ≡ length (P.memory port.old) }
     ensures scalars { length scalars.new ≡ length scalars.old }
 {
-    let site = &Site { block: at, counters, values };
+    let site = &Site {
+        block: at,
+        counters,
+        values,
+    };
     site.announce(scalars, watch);
     let mut locals = [0; 16];
     run_statements(block, site, scalars, &mut locals, port, steps, watch)
@@ -87,17 +87,13 @@ fn run_statement<P: Port, W: Watch>(
     watch: &mut W,
 ) -> BlockEnd
     requires { steps.old.left + steps.old.used ≤ 2 ^ 32 }
-    ensures run {
-        let start = store_of (P.memory port.old) scalars.old locals.old in
+    ensures run { let start = store_of (P.memory port.old) scalars.old locals.old in
         let f = frame_at site.now (P.expects port.old) in
         cut_of (store_of (P.memory port.new) scalars.new locals.new) steps.new.left steps.new.used (finish_by result)
-            ≡ cut (statement_trace f statement.now start) start steps.old.left steps.old.used
-    }
-    ensures watch {
-        let start = store_of (P.memory port.old) scalars.old locals.old in
+        ≡ cut (statement_trace f statement.now start) start steps.old.left steps.old.used }
+    ensures watch { let start = store_of (P.memory port.old) scalars.old locals.old in
         let f = frame_at site.now (P.expects port.old) in
-        Chain W.may watch.old (seen_in (statement_trace f statement.now start) steps.old.left) watch.new
-    }
+        Chain W.may watch.old (seen_in (statement_trace f statement.now start) steps.old.left) watch.new }
     ensures expects { P.expects port.new ≡ P.expects port.old }
     ensures basis { P.basis port.new ≡ P.basis port.old }
     ensures quiet { (P.expects port.old).verifies ≡ false → IsUnstopped result }
@@ -136,7 +132,9 @@ fn run_statement<P: Port, W: Watch>(
                 Err(halt) => halt.end(),
             }
         }
-        Stmt::If(condition, first, second) => match evaluate(condition, site, scalars, locals, port, watch) {
+        Stmt::If(condition, first, second) => match evaluate(
+            condition, site, scalars, locals, port, watch,
+        ) {
             Ok(value) => {
                 let chosen = if value == 0 { second } else { first };
                 run_statements(chosen.as_slice(), site, scalars, locals, port, steps, watch)
@@ -159,17 +157,13 @@ fn run_statements<P: Port, W: Watch>(
     watch: &mut W,
 ) -> BlockEnd
     requires { steps.old.left + steps.old.used ≤ 2 ^ 32 }
-    ensures run {
-        let start = store_of (P.memory port.old) scalars.old locals.old in
+    ensures run { let start = store_of (P.memory port.old) scalars.old locals.old in
         let f = frame_at site.now (P.expects port.old) in
         cut_of (store_of (P.memory port.new) scalars.new locals.new) steps.new.left steps.new.used (finish_by result)
-            ≡ cut (block_trace f statements.now start) start steps.old.left steps.old.used
-    }
-    ensures watch {
-        let start = store_of (P.memory port.old) scalars.old locals.old in
+        ≡ cut (block_trace f statements.now start) start steps.old.left steps.old.used }
+    ensures watch { let start = store_of (P.memory port.old) scalars.old locals.old in
         let f = frame_at site.now (P.expects port.old) in
-        Chain W.may watch.old (seen_in (block_trace f statements.now start) steps.old.left) watch.new
-    }
+        Chain W.may watch.old (seen_in (block_trace f statements.now start) steps.old.left) watch.new }
     ensures expects { P.expects port.new ≡ P.expects port.old }
     ensures basis { P.basis port.new ≡ P.basis port.old }
     ensures quiet { (P.expects port.old).verifies ≡ false → IsUnstopped result }
@@ -204,10 +198,8 @@ fn store<P: Port, W: Watch>(
     port: &mut P,
     watch: &mut W,
 ) -> Result<(), Halt>
-    ensures value {
-        let answer = or_stopped access (look_store (P.expects port.old) (P.memory port.old) access address) in
-        MatchResult result (λ _. IsOk answer) (λ halt. answer ≡ Err (halt_by halt))
-    }
+    ensures value { let answer = or_stopped access (look_store (P.expects port.old) (P.memory port.old) access address) in
+        MatchResult result (λ _. IsOk answer) (λ halt. answer ≡ Err (halt_by halt)) }
     ensures watch { W.may watch.old (observed site.now.block site.now.counters.now (Address access) address) watch.new }
     ensures ok { OnOk result (P.memory port.new ≡ slice_set (P.memory port.old) (unsigned_abs address) value) }
     ensures err { OnErr result (P.memory port.new ≡ P.memory port.old) }

@@ -51,7 +51,13 @@ pub fn evaluate<P: Port, W: Watch>(
 
 /// Loads through a port, where the address is shown before.
 #[tactic(auto, using(crate::proofs::Quiet::quiet))]
-fn load<P: Port, W: Watch>(access: u8, address: i64, site: &Site<'_>, port: &mut P, watch: &mut W) -> Result<i64, Halt>
+fn load<P: Port, W: Watch>(
+    access: u8,
+    address: i64,
+    site: &Site<'_>,
+    port: &mut P,
+    watch: &mut W,
+) -> Result<i64, Halt>
     ensures value { answered result ≡ or_stopped access (look_load (P.expects port.old) (P.memory port.old) access address) }
     ensures watch { W.may watch.old (observed site.now.block site.now.counters.now (Address access) address) watch.new }
     ensures memory { P.memory port.new ≡ P.memory port.old }

@@ -52,16 +52,12 @@ pub fn exec_head<P: Port, W: Watch>(
     requires steps { steps.old.left + steps.old.used ≤ 2 ^ 32 }
     requires scalars { length scalars.now ≤ 256 }
     requires strides { strides head.now ≡ true }
-    ensures value {
-        let start = store_of (P.memory port.old) scalars.now [] in
+    ensures value { let start = store_of (P.memory port.old) scalars.now [] in
         let f = frame_of at counters.now values.now (P.expects port.old) in
-        yielded result ≡ where_left steps.old.left (head_of f head.now start).value
-    }
-    ensures watch {
-        let start = store_of (P.memory port.old) scalars.now [] in
+        yielded result ≡ where_left steps.old.left (head_of f head.now start).value }
+    ensures watch { let start = store_of (P.memory port.old) scalars.now [] in
         let f = frame_of at counters.now values.now (P.expects port.old) in
-        Chain W.may watch.old (announced f start ++ shown_where_left steps.old.left (head_of f head.now start).seen) watch.new
-    }
+        Chain W.may watch.old (announced f start ++ shown_where_left steps.old.left (head_of f head.now start).seen) watch.new }
     ensures left { steps.new.left ≡ steps.old.left - 1 }
     ensures used { steps.new.used ≡ steps.old.used + min 1 steps.old.left }
     ensures memory { P.memory port.new ≡ P.memory port.old }
@@ -70,7 +66,11 @@ pub fn exec_head<P: Port, W: Watch>(
     ensures quiet { (P.expects port.old).verifies ≡ false → IsHeadUnstopped result }
     ensures turns { TurnsFit head.now result }
 {
-    let site = &Site { block: at, counters, values };
+    let site = &Site {
+        block: at,
+        counters,
+        values,
+    };
     site.announce(scalars, watch);
     if !steps.take() {
         return HeadEnd::Limited;
@@ -91,16 +91,12 @@ fn evaluate_head<P: Port, W: Watch>(
     watch: &mut W,
 ) -> Result<HeadEnd, Halt>
     requires { strides head.now ≡ true }
-    ensures value {
-        let start = store_of (P.memory port.old) scalars.now [] in
+    ensures value { let start = store_of (P.memory port.old) scalars.now [] in
         let f = frame_at site.now (P.expects port.old) in
-        head_answered result ≡ Some (head_of f head.now start).value
-    }
-    ensures watch {
-        let start = store_of (P.memory port.old) scalars.now [] in
+        head_answered result ≡ Some (head_of f head.now start).value }
+    ensures watch { let start = store_of (P.memory port.old) scalars.now [] in
         let f = frame_at site.now (P.expects port.old) in
-        Chain W.may watch.old (head_of f head.now start).seen watch.new
-    }
+        Chain W.may watch.old (head_of f head.now start).seen watch.new }
     ensures memory { P.memory port.new ≡ P.memory port.old }
     ensures expects { P.expects port.new ≡ P.expects port.old }
     ensures basis { P.basis port.new ≡ P.basis port.old }
@@ -108,7 +104,9 @@ fn evaluate_head<P: Port, W: Watch>(
     ensures turns { IfOk result (λ end. TurnsFit head.now end × IsHeadUnstopped end) }
 {
     match head {
-        Head::For(lower, upper, stride) => evaluate_for(lower, upper, *stride, site, scalars, port, watch),
+        Head::For(lower, upper, stride) => evaluate_for(
+            lower, upper, *stride, site, scalars, port, watch,
+        ),
         Head::While(condition) => evaluate_while(condition, site, scalars, port, watch),
     }
 }
@@ -125,16 +123,12 @@ fn evaluate_for<P: Port, W: Watch>(
     watch: &mut W,
 ) -> Result<HeadEnd, Halt>
     requires { stride ≢ pos 0 }
-    ensures value {
-        let start = store_of (P.memory port.old) scalars.now [] in
+    ensures value { let start = store_of (P.memory port.old) scalars.now [] in
         let f = frame_at site.now (P.expects port.old) in
-        head_answered result ≡ Some (head_of f (Head.For lower.now upper.now stride) start).value
-    }
-    ensures watch {
-        let start = store_of (P.memory port.old) scalars.now [] in
+        head_answered result ≡ Some (head_of f (Head.For lower.now upper.now stride) start).value }
+    ensures watch { let start = store_of (P.memory port.old) scalars.now [] in
         let f = frame_at site.now (P.expects port.old) in
-        Chain W.may watch.old (head_of f (Head.For lower.now upper.now stride) start).seen watch.new
-    }
+        Chain W.may watch.old (head_of f (Head.For lower.now upper.now stride) start).seen watch.new }
     ensures memory { P.memory port.new ≡ P.memory port.old }
     ensures expects { P.expects port.new ≡ P.expects port.old }
     ensures basis { P.basis port.new ≡ P.basis port.old }
@@ -155,16 +149,12 @@ fn evaluate_while<P: Port, W: Watch>(
     port: &mut P,
     watch: &mut W,
 ) -> Result<HeadEnd, Halt>
-    ensures value {
-        let start = store_of (P.memory port.old) scalars.now [] in
+    ensures value { let start = store_of (P.memory port.old) scalars.now [] in
         let f = frame_at site.now (P.expects port.old) in
-        head_answered result ≡ Some (head_of f (Head.While condition.now) start).value
-    }
-    ensures watch {
-        let start = store_of (P.memory port.old) scalars.now [] in
+        head_answered result ≡ Some (head_of f (Head.While condition.now) start).value }
+    ensures watch { let start = store_of (P.memory port.old) scalars.now [] in
         let f = frame_at site.now (P.expects port.old) in
-        Chain W.may watch.old (head_of f (Head.While condition.now) start).seen watch.new
-    }
+        Chain W.may watch.old (head_of f (Head.While condition.now) start).seen watch.new }
     ensures memory { P.memory port.new ≡ P.memory port.old }
     ensures expects { P.expects port.new ≡ P.expects port.old }
     ensures basis { P.basis port.new ≡ P.basis port.old }
@@ -181,10 +171,8 @@ fn evaluate_while<P: Port, W: Watch>(
 fn show_bounds<W: Watch>(lower: i64, upper: i64, stride: i64, site: &Site<'_>, watch: &mut W) -> u64
     requires { stride ≢ pos 0 }
     ensures trip { result ≡ trip_count lower upper stride }
-    ensures watch {
-        let trip = pos (trip_count lower upper stride) in
-        Chain W.may watch.old (observed site.now.block site.now.counters.now Lower lower ∷ observed site.now.block site.now.counters.now Trip trip ∷ []) watch.new
-    }
+    ensures watch { let trip = pos (trip_count lower upper stride) in
+        Chain W.may watch.old (observed site.now.block site.now.counters.now Lower lower ∷ observed site.now.block site.now.counters.now Trip trip ∷ []) watch.new }
     ensures turns { (t : ℕ) → t < result → FitsSigned w64 (turn_value lower stride t) }
 {
     let trip = trip_of(lower, upper, stride);

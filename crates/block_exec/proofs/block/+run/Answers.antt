@@ -15,7 +15,7 @@ run_statements-loop-statement-preserved g t c =
       expects = cc;
       basis = cc;
       rest = run-next _ _ _ _ _ _ _ _ _ _ _ _ run done c.loop-statement-test.true c.statement-item.is c.loop-statement.invariant.rest;
-      shown = shown-next g.W.Watch.may _ _ _ _ _ _ _ _ _ _ _ _ _ _ _ run done c.loop-statement-test.true c.statement-item.is watch c.loop-statement.invariant.shown
+      shown = shown-next g.W.Watch.may _ _ _ _ _ _ _ _ _ _ _ _ _ _ _ run done c.loop-statement-test.true c.statement-item.is watch c.loop-statement.invariant.shown;
     }
 
 pub run_statements-returns-in_default : goal.run_statements-returns-in_default
@@ -30,5 +30,5 @@ run_statements-returns-in_default g t c =
       basis = cc;
       quiet = λ q. c.run_statement.ensures.quiet (ap (λ x. x.verifies) c.loop-statement.invariant.expects ∙ q);
       kept = omega arith;
-      fewer = omega arith
+      fewer = omega arith;
     }

@@ -12,7 +12,7 @@ invariant-run_statements-loop-statement g l = record {
   expects : g.P.Port.expects l.port ≡ g.P.Port.expects l.fn.port;
   basis : g.P.Port.basis l.port ≡ g.P.Port.basis l.fn.port;
   rest : cut (block_trace (frame_at l.site (g.P.Port.expects l.fn.port)) (drop l.statement-index l.statements) (store_of (g.P.Port.memory l.port) l.scalars l.locals)) (store_of (g.P.Port.memory l.port) l.scalars l.locals) l.steps.left l.steps.used
-    ≡ cut (block_trace (frame_at l.site (g.P.Port.expects l.fn.port)) l.statements (store_of (g.P.Port.memory l.fn.port) l.fn.scalars l.fn.locals)) (store_of (g.P.Port.memory l.fn.port) l.fn.scalars l.fn.locals) l.fn.steps.left l.fn.steps.used;
+      ≡ cut (block_trace (frame_at l.site (g.P.Port.expects l.fn.port)) l.statements (store_of (g.P.Port.memory l.fn.port) l.fn.scalars l.fn.locals)) (store_of (g.P.Port.memory l.fn.port) l.fn.scalars l.fn.locals) l.fn.steps.left l.fn.steps.used;
   shown : (w : _) → Chain g.W.Watch.may l.watch (seen_in (block_trace (frame_at l.site (g.P.Port.expects l.fn.port)) (drop l.statement-index l.statements) (store_of (g.P.Port.memory l.port) l.scalars l.locals)) l.steps.left) w
-    → Chain g.W.Watch.may l.fn.watch (seen_in (block_trace (frame_at l.site (g.P.Port.expects l.fn.port)) l.statements (store_of (g.P.Port.memory l.fn.port) l.fn.scalars l.fn.locals)) l.fn.steps.left) w
+      → Chain g.W.Watch.may l.fn.watch (seen_in (block_trace (frame_at l.site (g.P.Port.expects l.fn.port)) l.statements (store_of (g.P.Port.memory l.fn.port) l.fn.scalars l.fn.locals)) l.fn.steps.left) w;
 }
