@@ -63,7 +63,7 @@ alike-joined m None es t u (inr b) =
     inr (record {
       same = long-behind m es t.entries u.entries b.same;
       first = omega (arith, length-append es t.entries, b.first);
-      second = omega (arith, length-append es u.entries, b.second);
+      second = omega (arith, length-append es u.entries, b.second)
     })
 
 -- one more entry

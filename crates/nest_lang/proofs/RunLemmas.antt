@@ -48,15 +48,15 @@ cut-whole t s left used h =
 within-cut : (t : Trace) (s : Store) (left used : ℕ) → ((cut t s left used).ending ≡ Limited → ⊥) → length t.entries ≤ left
 within-cut t s left used other =
     elim (nat_le (length t.entries) left) as (λ b. nat_le (length t.entries) left ≡ b → length t.entries ≤ left) [
-      | true ↦ λ e. grind arith
-      | false ↦ λ e. absurd (other (ap (λ c. c.ending) (cut-long t s left used (grind arith))))
+      true ↦ λ e. grind arith
+    | false ↦ λ e. absurd (other (ap (λ c. c.ending) (cut-long t s left used (grind arith))))
     ] refl
 
 stays-alike : (t u : Trace) (s : Store) (n m : ℕ) → n ≤ m → Alike (n + 1) t u → ((run_of (cut t s n 0)).ending ≡ Limited → ⊥) → run_of (cut u s m 0) ≡ run_of (cut t s n 0)
 stays-alike t u s n m h (inl e) other =
     let few : length t.entries ≤ n = within-cut t s n 0 other in
     let here : run_of (cut t s m 0) ≡ run_of (cut t s n 0) =
-    ap run_of (cut-whole t s m 0 (omega arith)) ∙ sym (ap run_of (cut-whole t s n 0 few)) in
+        ap run_of (cut-whole t s m 0 (omega arith)) ∙ sym (ap run_of (cut-whole t s n 0 few)) in
     ap (λ z. run_of (cut z s m 0)) (sym e) ∙ here
 stays-alike t u s n m h (inr b) other = absurd (omega (arith, within-cut t s n 0 other, b.first))
 

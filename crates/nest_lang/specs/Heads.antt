@@ -36,11 +36,11 @@ as_number b = if b then pos 1 else pos 0
 unfoldable pub head_of : Frame → Head → Store → Headed
 head_of f (For lower upper stride) s =
     then_head (told f s lower).seen (told f s lower).value (λ from.
-    then_head (told f s upper).seen (told f s upper).value (λ to.
-    heading (shown f Lower from ∷ shown f Trip (pos (trip_count from to stride)) ∷ []) (Ok (Bounds from (trip_count from to stride)))))
+        then_head (told f s upper).seen (told f s upper).value (λ to.
+            heading (shown f Lower from ∷ shown f Trip (pos (trip_count from to stride)) ∷ []) (Ok (Bounds from (trip_count from to stride)))))
 head_of f (While condition) s =
     then_head (told f s condition).seen (told f s condition).value (λ v.
-    heading (shown f Condition (as_number (not (same v (pos 0)))) ∷ []) (Ok (Tested (not (same v (pos 0))))))
+        heading (shown f Condition (as_number (not (same v (pos 0)))) ∷ []) (Ok (Tested (not (same v (pos 0))))))
 
 -- the step of a head, and what follows from what it yields
 abbrev pub head_step : List Observation → List Observation → Result Yield Halt → (Yield → List (Store → Trace)) → Step

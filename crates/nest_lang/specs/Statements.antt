@@ -32,12 +32,12 @@ statement_level f (Stmt-F.Set number e) s =
     with_value (told f s e).seen (told f s e).value (λ v. step_of [] (told f s e).seen (Scalar number v) None [])
 statement_level f (Stmt-F.Store access a e) s =
     with_value (told f s a).seen (told f s a).value (λ address.
-    with_value ((told f s a).seen ++ (told f s e).seen) (told f s e).value (λ v.
-    stored ((told f s a).seen ++ (told f s e).seen ++ shown f (Address access) address ∷ []) address v
-    (or_stopped access (look_store f.expects s.memory access address))))
+        with_value ((told f s a).seen ++ (told f s e).seen) (told f s e).value (λ v.
+            stored ((told f s a).seen ++ (told f s e).seen ++ shown f (Address access) address ∷ []) address v
+                (or_stopped access (look_store f.expects s.memory access address))))
 statement_level f (Stmt-F.If e first second) s =
     with_value (told f s e).seen (told f s e).value (λ v.
-    step_of [] (told f s e).seen Nothing None (if same v (pos 0) then second else first))
+        step_of [] (told f s e).seen Nothing None (if same v (pos 0) then second else first))
 
 unfoldable pub statement_trace : Frame → Stmt → Store → Trace
 statement_trace f = fold-Stmt (Store → Trace) (λ x s. traced (statement_level f x s) s)
