@@ -1,0 +1,6 @@
+pub mod Announcements
+pub mod Chained
+pub mod Plain
+pub mod Quiet
+pub mod Tells
+pub mod Runs

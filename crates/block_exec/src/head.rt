@@ -1,0 +1,139 @@
+//! Evaluation of loop heads.
+
+ghost use Rattle.std.specs.Prelude.{◌≡◌, ◌+◌, ◌-◌, ◌≤◌, ◌^◌, ◌++◌, [], length, min, true, false, not, pos, IfOk, IfErr};
+ghost use Rattle.nest_lang.specs.Stores.{store_of};
+ghost use Rattle.nest_lang.specs.Statements.{announced};
+ghost use Rattle.nest_lang.specs.Heads.{head_of, as_number};
+ghost use Rattle.nest_lang.specs.Rules.{strides};
+ghost use Rattle.nest_lang.specs.Values.{same};
+ghost use Rattle.block_exec.specs.Ends.{IsTrap, IsHeadUnstopped, TurnsFit, yielded, where_left, shown_where_left, head_answered};
+ghost use Rattle.block_exec.specs.Watches.{Chain, frame_of, frame_at};
+
+use crate::expression::evaluate;
+use crate::halt::Halt;
+use crate::port::Port;
+use crate::site::Site;
+use crate::watch::Watch;
+use nest_lang::{BlockRef, Budget, Expr, Head, Seen, Trap, trip_of};
+
+/// What a head yields, or why it doesn't.
+#[derive(Clone, Copy, Debug, PartialEq, Eq)]
+pub enum HeadEnd {
+    /// The lower bound of a `for`, and the number of its turns.
+    For(i64, u64),
+    /// Whether the condition of a `while` holds.
+    While(bool),
+    /// The step trapped.
+    Trapped(Trap),
+    /// The step made an access (its number and its address) that the port does not expect; last is the
+    /// line of what is expected of it, or None where nothing is.
+    Stopped(u8, i64, Option<i128>),
+    /// The step is due, and none is left.
+    Limited,
+}
+
+/// Evaluates the head of a loop, which is one step and changes nothing. `values`, `counters` and the up
+/// to 256 scalars are as for `exec_block`. It shows the watch `Start` and each scalar, also where no
+/// step is left, then each address before the port is asked, and last the lower bound and the number
+/// of turns, or the condition. `Limited` comes exactly where no step is left. The stride of a `for` is
+/// not 0 (docs/DEFINITIONS.md, Heads).
+pub fn exec_head<P: Port, W: Watch>(
+    at: BlockRef,
+    head: &Head,
+    scalars: &[i64],
+    values: &[i64],
+    counters: &[i64],
+    port: &mut P,
+    steps: &mut Budget,
+    watch: &mut W,
+) -> HeadEnd
+    requires steps { steps.old.left + steps.old.used ≤ 2 ^ 32 }
+    requires scalars { length scalars.now ≤ 256 }
+    requires strides { strides head.now ≡ true }
+    ensures value {
+        let start = store_of (P.memory port.old) scalars.now [] in
+        let f = frame_of at counters.now values.now (P.expects port.old) in
+        yielded result ≡ where_left steps.old.left (head_of f head.now start).value
+    }
+    ensures watch {
+        let start = store_of (P.memory port.old) scalars.now [] in
+        let f = frame_of at counters.now values.now (P.expects port.old) in
+        Chain W.may watch.old (announced f start ++ shown_where_left steps.old.left (head_of f head.now start).seen) watch.new
+    }
+    ensures left { steps.new.left ≡ steps.old.left - 1 }
+    ensures used { steps.new.used ≡ steps.old.used + min 1 steps.old.left }
+    ensures memory { P.memory port.new ≡ P.memory port.old }
+    ensures expects { P.expects port.new ≡ P.expects port.old }
+    ensures basis { P.basis port.new ≡ P.basis port.old }
+    ensures quiet { (P.expects port.old).verifies ≡ false → IsHeadUnstopped result }
+    ensures turns { TurnsFit head.now result }
+{
+    let site = &Site { block: at, counters, values };
+    site.announce(scalars, watch);
+    if !steps.take() {
+        return HeadEnd::Limited;
+    }
+    match evaluate_head(head, site, scalars, port, watch) {
+        Ok(end) => end,
+        Err(Halt::Trapped(trap)) => HeadEnd::Trapped(trap),
+        Err(Halt::Stopped(access, seen, expected)) => HeadEnd::Stopped(access, seen, expected),
+    }
+}
+
+/// What a head yields where a step is taken for it.
+#[tactic(auto, using(crate::proofs::Tells::yields))]
+fn evaluate_head<P: Port, W: Watch>(
+    head: &Head,
+    site: &Site<'_>,
+    scalars: &[i64],
+    port: &mut P,
+    watch: &mut W,
+) -> Result<HeadEnd, Halt>
+    requires { strides head.now ≡ true }
+    ensures value {
+        let start = store_of (P.memory port.old) scalars.now [] in
+        let f = frame_at site.now (P.expects port.old) in
+        head_answered result ≡ Some (head_of f head.now start).value
+    }
+    ensures watch {
+        let start = store_of (P.memory port.old) scalars.now [] in
+        let f = frame_at site.now (P.expects port.old) in
+        Chain W.may watch.old (head_of f head.now start).seen watch.new
+    }
+    ensures memory { P.memory port.new ≡ P.memory port.old }
+    ensures expects { P.expects port.new ≡ P.expects port.old }
+    ensures basis { P.basis port.new ≡ P.basis port.old }
+    ensures quiet { (P.expects port.old).verifies ≡ false → IfErr result IsTrap }
+    ensures turns { IfOk result (λ end. TurnsFit head.now end × IsHeadUnstopped end) }
+{
+    match head {
+        Head::For(lower, upper, stride) => {
+            let lower = evaluate(lower, site, scalars, &[], port, watch)?;
+            let upper = evaluate(upper, site, scalars, &[], port, watch)?;
+            let trip = trip_of(lower, upper, *stride);
+            site.show(Seen::Lower, lower, watch);
+            site.show_count(Seen::Trip, trip, watch);
+            Ok(HeadEnd::For(lower, trip))
+        }
+        Head::While(condition) => {
+            let value = evaluate(condition, site, scalars, &[], port, watch)?;
+            let holds = is_not_zero(value);
+            site.show(Seen::Condition, number_of(holds), watch);
+            Ok(HeadEnd::While(holds))
+        }
+    }
+}
+
+/// A condition holds where its value is not 0.
+fn is_not_zero(value: i64) -> bool
+    ensures { result ≡ not (same value (pos 0)) }
+{
+    value != 0
+}
+
+/// A condition as it is shown.
+fn number_of(holds: bool) -> i64
+    ensures { result ≡ as_number holds }
+{
+    i64::from(holds)
+}
