@@ -1,5 +1,6 @@
 pub mod Announcements
 pub mod Chained
+pub mod Fits
 pub mod Plain
 pub mod Quiet
 pub mod Tells

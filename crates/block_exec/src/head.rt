@@ -1,13 +1,15 @@
 //! Evaluation of loop heads.
 
-ghost use Rattle.std.specs.Prelude.{◌≡◌, ◌+◌, ◌-◌, ◌≤◌, ◌^◌, ◌++◌, [], length, min, true, false, not, pos, IfOk, IfErr};
+ghost use Rattle.std.specs.Prelude.{◌≡◌, ◌≢◌, ℕ, ◌<◌, FitsSigned, ◌∷◌, ◌+◌, ◌-◌, ◌≤◌, ◌^◌, ◌++◌, [], length, min, true, false, not, pos, IfOk, IfErr};
+ghost use Rattle.std.specs.Int.{w64};
+ghost use Rattle.nest_lang.specs.declared.observe.Seen.TheVariants.{Lower, Trip};
 ghost use Rattle.nest_lang.specs.Stores.{store_of};
 ghost use Rattle.nest_lang.specs.Statements.{announced};
 ghost use Rattle.nest_lang.specs.Heads.{head_of, as_number};
 ghost use Rattle.nest_lang.specs.Rules.{strides};
-ghost use Rattle.nest_lang.specs.Values.{same};
+ghost use Rattle.nest_lang.specs.Values.{same, trip_count, turn_value};
 ghost use Rattle.block_exec.specs.Ends.{IsTrap, IsHeadUnstopped, TurnsFit, yielded, where_left, shown_where_left, head_answered};
-ghost use Rattle.block_exec.specs.Watches.{Chain, frame_of, frame_at};
+ghost use Rattle.block_exec.specs.Watches.{Chain, observed, frame_of, frame_at};
 
 use crate::expression::evaluate;
 use crate::halt::Halt;
@@ -110,10 +112,7 @@ fn evaluate_head<P: Port, W: Watch>(
         Head::For(lower, upper, stride) => {
             let lower = evaluate(lower, site, scalars, &[], port, watch)?;
             let upper = evaluate(upper, site, scalars, &[], port, watch)?;
-            let trip = trip_of(lower, upper, *stride);
-            site.show(Seen::Lower, lower, watch);
-            site.show_count(Seen::Trip, trip, watch);
-            Ok(HeadEnd::For(lower, trip))
+            Ok(HeadEnd::For(lower, show_bounds(lower, upper, *stride, site, watch)))
         }
         Head::While(condition) => {
             let value = evaluate(condition, site, scalars, &[], port, watch)?;
@@ -122,6 +121,22 @@ fn evaluate_head<P: Port, W: Watch>(
             Ok(HeadEnd::While(holds))
         }
     }
+}
+
+/// The number of turns from one bound to the other, where the lower bound and that number are shown.
+fn show_bounds<W: Watch>(lower: i64, upper: i64, stride: i64, site: &Site<'_>, watch: &mut W) -> u64
+    requires { stride ≢ pos 0 }
+    ensures trip { result ≡ trip_count lower upper stride }
+    ensures watch {
+        let trip = pos (trip_count lower upper stride) in
+        Chain W.may watch.old (observed site.now.block site.now.counters.now Lower lower ∷ observed site.now.block site.now.counters.now Trip trip ∷ []) watch.new
+    }
+    ensures turns { (t : ℕ) → t < result → FitsSigned w64 (turn_value lower stride t) }
+{
+    let trip = trip_of(lower, upper, stride);
+    site.show(Seen::Lower, lower, watch);
+    site.show_count(Seen::Trip, trip, watch);
+    trip
 }
 
 /// A condition holds where its value is not 0.
