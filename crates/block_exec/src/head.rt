@@ -83,7 +83,6 @@ pub fn exec_head<P: Port, W: Watch>(
 }
 
 /// What a head yields where a step is taken for it.
-#[tactic(auto, using(crate::proofs::Tells::yields))]
 fn evaluate_head<P: Port, W: Watch>(
     head: &Head,
     site: &Site<'_>,
@@ -109,18 +108,73 @@ fn evaluate_head<P: Port, W: Watch>(
     ensures turns { IfOk result (λ end. TurnsFit head.now end × IsHeadUnstopped end) }
 {
     match head {
-        Head::For(lower, upper, stride) => {
-            let lower = evaluate(lower, site, scalars, &[], port, watch)?;
-            let upper = evaluate(upper, site, scalars, &[], port, watch)?;
-            Ok(HeadEnd::For(lower, show_bounds(lower, upper, *stride, site, watch)))
-        }
-        Head::While(condition) => {
-            let value = evaluate(condition, site, scalars, &[], port, watch)?;
-            let holds = is_not_zero(value);
-            site.show(Seen::Condition, number_of(holds), watch);
-            Ok(HeadEnd::While(holds))
-        }
+        Head::For(lower, upper, stride) => evaluate_for(lower, upper, *stride, site, scalars, port, watch),
+        Head::While(condition) => evaluate_while(condition, site, scalars, port, watch),
     }
+}
+
+/// The lower bound of a `for` and the number of its turns.
+#[tactic(auto, using(crate::proofs::Tells::yields))]
+fn evaluate_for<P: Port, W: Watch>(
+    lower: &Expr,
+    upper: &Expr,
+    stride: i64,
+    site: &Site<'_>,
+    scalars: &[i64],
+    port: &mut P,
+    watch: &mut W,
+) -> Result<HeadEnd, Halt>
+    requires { stride ≢ pos 0 }
+    ensures value {
+        let start = store_of (P.memory port.old) scalars.now [] in
+        let f = frame_at site.now (P.expects port.old) in
+        head_answered result ≡ Some (head_of f (Head.For lower.now upper.now stride) start).value
+    }
+    ensures watch {
+        let start = store_of (P.memory port.old) scalars.now [] in
+        let f = frame_at site.now (P.expects port.old) in
+        Chain W.may watch.old (head_of f (Head.For lower.now upper.now stride) start).seen watch.new
+    }
+    ensures memory { P.memory port.new ≡ P.memory port.old }
+    ensures expects { P.expects port.new ≡ P.expects port.old }
+    ensures basis { P.basis port.new ≡ P.basis port.old }
+    ensures quiet { (P.expects port.old).verifies ≡ false → IfErr result IsTrap }
+    ensures turns { IfOk result (λ end. TurnsFit (Head.For lower.now upper.now stride) end × IsHeadUnstopped end) }
+{
+    let from = evaluate(lower, site, scalars, &[], port, watch)?;
+    let to = evaluate(upper, site, scalars, &[], port, watch)?;
+    Ok(HeadEnd::For(from, show_bounds(from, to, stride, site, watch)))
+}
+
+/// Whether the condition of a `while` holds.
+#[tactic(auto, using(crate::proofs::Tells::yields))]
+fn evaluate_while<P: Port, W: Watch>(
+    condition: &Expr,
+    site: &Site<'_>,
+    scalars: &[i64],
+    port: &mut P,
+    watch: &mut W,
+) -> Result<HeadEnd, Halt>
+    ensures value {
+        let start = store_of (P.memory port.old) scalars.now [] in
+        let f = frame_at site.now (P.expects port.old) in
+        head_answered result ≡ Some (head_of f (Head.While condition.now) start).value
+    }
+    ensures watch {
+        let start = store_of (P.memory port.old) scalars.now [] in
+        let f = frame_at site.now (P.expects port.old) in
+        Chain W.may watch.old (head_of f (Head.While condition.now) start).seen watch.new
+    }
+    ensures memory { P.memory port.new ≡ P.memory port.old }
+    ensures expects { P.expects port.new ≡ P.expects port.old }
+    ensures basis { P.basis port.new ≡ P.basis port.old }
+    ensures quiet { (P.expects port.old).verifies ≡ false → IfErr result IsTrap }
+    ensures turns { IfOk result (λ end. TurnsFit (Head.While condition.now) end × IsHeadUnstopped end) }
+{
+    let value = evaluate(condition, site, scalars, &[], port, watch)?;
+    let holds = is_not_zero(value);
+    site.show(Seen::Condition, number_of(holds), watch);
+    Ok(HeadEnd::While(holds))
 }
 
 /// The number of turns from one bound to the other, where the lower bound and that number are shown.
