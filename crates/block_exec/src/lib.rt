@@ -24,3 +24,6 @@ pub use memory::MemoryPort;
 pub use nest_lang::{Seen, Stop};
 pub use port::Port;
 pub use watch::{Blind, Watch};
+
+#[cfg(test)]
+mod tests;
