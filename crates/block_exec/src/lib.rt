@@ -13,6 +13,7 @@ mod block;
 mod expression;
 mod halt;
 mod head;
+pub mod laws;
 mod memory;
 mod port;
 mod site;
