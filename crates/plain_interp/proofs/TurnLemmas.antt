@@ -1,5 +1,5 @@
 -- Turns of a loop, one after another.
-use Rattle.std.proofs.Common.{◌≡◌, refl, ap, ◌∙◌, sym, subst, ℕ, ℤ, pos, zero, suc, ◌<◌, ◌+◌, ◌-◌, ◌≤◌, min, List, [], ◌∷◌, length, Option, Some, None, Result, Ok, Err, map, Bool, true, false, if◌then◌else◌, nat_le, arith, rules}
+use Rattle.std.proofs.Common.{◌≡◌, refl, ap, ◌∙◌, sym, subst, ℕ, ℤ, pos, ◌+ℤ◌, FitsSigned, w64, to_z, of_z, zero, suc, ◌<◌, ◌+◌, ◌-◌, ◌≤◌, min, List, [], ◌∷◌, length, Option, Some, None, slice_get, Result, Ok, Err, map, Bool, true, false, if◌then◌else◌, nat_le, arith, rules}
 use Rattle.nest_lang.specs.declared.tree.Stmt.{Stmt}
 use Rattle.nest_lang.specs.declared.tree.Expr.{Expr}
 use Rattle.nest_lang.specs.declared.tree.Head.{Head}
@@ -8,17 +8,22 @@ use Rattle.nest_lang.specs.declared.tree.Loop.{Loop}
 use Rattle.nest_lang.specs.declared.tree.Nest.{Nest}
 use Rattle.nest_lang.specs.declared.tree.Part.TheVariants as part
 use Rattle.nest_lang.specs.Values.{turn_value, trip_count}
-use Rattle.nest_lang.specs.Stores.{Store}
+use Rattle.nest_lang.specs.Stores.{Store, store_of}
 use Rattle.nest_lang.specs.Lookups.{plain}
-use Rattle.nest_lang.specs.Traces.{Halt, Trace, ends, in_turn, traced, Finish, Done, Halted, Limited, finish_of, Cut, cut_of, cut}
+use Rattle.nest_lang.specs.Traces.{Entry, Halt, Trace, ends, in_turn, traced, Finish, Done, Halted, Limited, finish_of, Cut, cut_of, cut}
 use Rattle.nest_lang.specs.Expressions.{Frame, shown, told}
 use Rattle.nest_lang.specs.Statements.{instance_trace, block_trace, started}
 use Rattle.nest_lang.specs.declared.observe.Seen.TheVariants.{Lower, Trip}
 use Rattle.nest_lang.specs.Heads.{Bounds, Tested, heading, then_head, head_of, headed}
 use Rattle.nest_lang.specs.Loops.{turn_trace, turns_from, turns_of, frame_of, inward, outside, loop_by, loops_trace}
 use Rattle.nest_lang.specs.Runs.{run_of, plain_run, nests_trace, nest_trace}
-use Rattle.nest_lang.proofs.Cuts.{cut-and_then, cut-end, cut-ends, cut-turn, cut-only, resumed, resumed-not}
-use Rattle.block_exec.specs.Ends.{where_left}
+use Rattle.std.specs.Int.{w128}
+use Rattle.std.proofs.lemmas.Int.{ints}
+use Rattle.nest_lang.proofs.StatementLemmas.{block-cons, statement-due}
+use Rattle.nest_lang.proofs.Cuts.{trace_of, cut-and_then, cut-end, cut-ends, cut-turn, cut-only, resumed, resumed-not}
+use Rattle.block_exec.specs.declared.block.BlockEnd.{BlockEnd}
+use Rattle.block_exec.specs.declared.block.BlockEnd.TheVariants as block
+use Rattle.block_exec.specs.Ends.{where_left, finish_by}
 use Rattle.block_exec.proofs.Instances.{cut-instance, cut-no_instance, cut-head_yields, cut-head_halts, cut-head_limited}
 
 -- one turn, and the others
@@ -158,3 +163,44 @@ for-no_while f h lower upper stride s left {b} is yields = at (told f s lower).v
     at (Err h) up (suc n) e = absurd (cc)
     at (Ok from) (Err h) (suc n) e = absurd (cc)
     at (Ok from) (Ok to) (suc n) e = absurd (cc)
+
+entries-some : (entries : List Entry) (halt : Option Halt) (s : Store) → cut (trace_of entries halt) s 0 0 ≡ cut_of s 0 0 Limited → 0 < length entries
+entries-some [] None s due = absurd (let e : Done ≡ Limited = ap (λ (c : Cut). c.ending) (sym (cut-end None s 0 0) ∙ due) in cc)
+entries-some [] (Some halt) s due = absurd (let e : Halted halt ≡ Limited = ap (λ (c : Cut). c.ending) (sym (cut-end (Some halt) s 0 0) ∙ due) in cc)
+entries-some (e ∷ es) halt s due = omega arith
+
+-- an instance has a step
+pub instance-some : (f : Frame) (block : List Stmt) (s : Store) → 0 < length block → 0 < length (instance_trace f block s).entries
+instance-some f [] s some = absurd (omega arith)
+instance-some f (x ∷ xs) s some =
+    entries-some (instance_trace f (x ∷ xs) s).entries (instance_trace f (x ∷ xs) s).halt (started s)
+      (cut-instance f (x ∷ xs) s (started s) 0 0 ∙ block-cons f x xs (started s) 0 0 ∙ ap (λ (c : Cut). resumed c (block_trace f xs)) (statement-due f x (started s) 0 0 refl))
+
+pub instance-steps : (f : Frame) (block : List Stmt) (s s' : Store) (left used left' used' : ℕ) (e : Finish) → cut_of s' left' used' e ≡ cut (instance_trace f block s) s left used → 0 < length block → e ≡ Done → left' < left
+instance-steps f block s s' left used left' used' e run some is = done-steps (instance_trace f block s) s s' left used left' used' e (instance-some f block s some) run is
+
+-- the value of a turn, as it is computed in numbers of 128 bits
+pub value-of : (lower z : ℤ) → FitsSigned w64 lower → FitsSigned w64 (lower +ℤ z) → to_z w64 (of_z w64 (to_z w128 (of_z w128 (to_z w128 (of_z w128 lower) +ℤ to_z w128 (of_z w128 z))))) ≡ lower +ℤ z
+value-of lower z l f = omega (arith, ints)
+
+-- the words that a port leaves
+pub left-words : (m m' scalars : List ℤ) (left used : ℕ) (e : Finish) (whole : Cut) → m ≡ m' → cut_of (store_of m' scalars []) left used e ≡ whole → cut_of (store_of m scalars []) left used e ≡ whole
+left-words m m' scalars left used e whole same run = rw same run
+
+pub finish_by-done : (e : BlockEnd) → finish_by e ≡ Done → e ≡ block.Ended
+finish_by-done block.Ended h = refl
+finish_by-done (block.Trapped trap) h = absurd (cc)
+finish_by-done (block.Stopped access seen expected) h = absurd (cc)
+finish_by-done block.Limited h = absurd (cc)
+
+-- the plain run of a nest, from the run of its one loop
+pub nest-ran : (nest : Nest) (l first : Loop) (m scalars : List ℤ) (start t : Store) (n left used : ℕ) (e e' : Finish) → nest ≡ record { loops = l ∷ [] } → Some first ≡ slice_get nest.loops 0 → store_of m scalars [] ≡ start
+    → cut_of t left used e ≡ cut (loops_trace plain (n + 1) 1 (first ∷ []) outside (store_of m scalars [])) (store_of m scalars []) n 0 → e' ≡ e
+    → record { store = t; ending = e'; steps = used } ≡ plain_run (nest ∷ []) start n
+nest-ran nest l first m scalars start t n left used e e' alone found view run ends_so =
+    let here : Some first ≡ Some l = found ∙ ap (λ (x : Nest). slice_get x.loops 0) alone in
+    let same : first ≡ l = cc in
+    let alike : nest ≡ record { loops = first ∷ [] } = alone ∙ ap (λ (x : Loop). record { loops = x ∷ [] }) (sym same) in
+    let from : cut_of t left used e ≡ cut (loops_trace plain (n + 1) 1 (first ∷ []) outside start) start n 0 =
+        run ∙ ap (λ (s : Store). cut (loops_trace plain (n + 1) 1 (first ∷ []) outside s) s n 0) view in
+    rw ends_so (run-is nest first start t n left used e alike from)

@@ -26,11 +26,23 @@ pub fn run_plain(nest: &Nest, state: &mut State, limit: u64) -> (Ending, u64)
     requires form { IsOneFor nest.now }
     ensures { record { store = state.new; ending = finish_by result.0; steps = result.1 } ≡ plain_run (nest.now ∷ []) state.old limit }
 {
+    run_words(nest, &mut state.memory, &mut state.scalars, limit)
+}
+
+/// The same over the words and the scalars.
+fn run_words(nest: &Nest, memory: &mut [i64], scalars: &mut [i64], limit: u64) -> (Ending, u64)
+    requires limit { limit ≤ 2 ^ 32 }
+    requires scalars { length scalars.old ≤ 256 }
+    requires form { IsOneFor nest.now }
+    ensures {
+        record { store = store_of memory.new scalars.new []; ending = finish_by result.0; steps = result.1 }
+            ≡ plain_run (nest.now ∷ []) (store_of memory.old scalars.old []) limit
+    }
+{
     let Some(first) = nest.loops.get(0) else {
         unreachable!()
     };
     let mut steps = Budget { left: limit, used: 0 };
-    let State { memory, scalars } = state;
     let end = run_loop(first, scalars, memory, &mut steps);
     (ending_of(end), steps.used)
 }

@@ -1,4 +1,5 @@
-use Rattle.std.proofs.Common.{◌≡◌, refl, ap, ◌∙◌, sym, ℕ, ℤ, [], rules, arith}
+use Rattle.std.proofs.lemmas.Int.{to_z-of_z}
+use Rattle.std.proofs.Common.{FitsSigned, w64, ◌≡◌, refl, ap, ◌∙◌, sym, ℕ, ℤ, [], rules, arith}
 use Rattle.nest_lang.specs.declared.tree.Stmt.{Stmt}
 use Rattle.nest_lang.specs.declared.tree.Loop.{Loop}
 use Rattle.nest_lang.specs.Stores.{store_of}
@@ -13,8 +14,11 @@ pub returns-in-For-enter-clause-run : goal.returns-in-For-enter-clause-run
 returns-in-For-enter-clause-run c = λ k.
     let post : c.args.first.now.post ≡ [] = ap (λ (l : Loop). l.post) c.requires.form.shape in
     let block : c.as_slice.result.now ≡ c.args.first.now.pre = c.as_slice.ensures in
-    let run = rw (c.enter.ensures.memory, block) at c.run_turns.ensures.run in
-    run ∙ for-yields c.args.first.now _ _ _ _ _ k _ _ _ _ _ c.in-For.is post (rw c.in-For-enter.is at c.enter.ensures.value) c.enter.ensures.left c.enter.ensures.used
+    let lower : FitsSigned w64 c.in-For-enter.lower = search rules in
+    let stride : FitsSigned w64 c.in-For.stride = search rules in
+    let run = simp to_z-of_z at (rw (c.enter.ensures.memory, block) at c.run_turns.ensures.run) in
+    let yields = rw c.in-For-enter.is at c.enter.ensures.value in
+    run ∙ for-yields c.args.first.now _ _ c.in-For.stride c.in-For-enter.lower c.in-For-enter.trip k _ _ _ _ _ c.in-For.is post yields c.enter.ensures.left c.enter.ensures.used
 
 pub returns-in-Trapped-clause-run : goal.returns-in-Trapped-clause-run
 returns-in-Trapped-clause-run c = λ k.

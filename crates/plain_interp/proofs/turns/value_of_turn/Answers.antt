@@ -1,5 +1,15 @@
-use Rattle.std.proofs.Common.{◌≡◌, pos, ◌+ℤ◌, ◌*ℤ◌, FitsSigned, arith, rules}
+use Rattle.std.proofs.Common.{◌≡◌, pos, ◌+ℤ◌, ◌*ℤ◌, FitsSigned, w64, arith, rules}
+use Rattle.std.specs.Int.{w128}
+use Rattle.std.proofs.lemmas.Int.{ints, to_z-of_z}
+use Rattle.plain_interp.proofs.TurnLemmas.{value-of}
 use Rattle.plain_interp.proofs.turns.value_of_turn.Goals as goal
 
 pub returns : goal.returns
-returns c = ?
+returns c =
+    let lower : FitsSigned w64 c.args.lower = c.ranges.lower in
+    let narrow : FitsSigned w64 c.args.stride = c.ranges.stride in
+    let stride : FitsSigned w128 c.args.stride = search (rules, ints) in
+    let turn : FitsSigned w128 (pos c.args.turn) = search (rules, ints) in
+    let a : c.from.result ≡ c.args.lower = simp to_z-of_z at c.from.ensures in
+    let b : c.from-2.result ≡ c.args.stride = simp to_z-of_z at c.from-2.ensures in
+    rw (a, b, c.from-3.ensures) (simp to_z-of_z (value-of c.args.lower (c.args.stride *ℤ pos c.args.turn) lower c.requires))
