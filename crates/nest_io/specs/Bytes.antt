@@ -9,7 +9,3 @@ Takes before now bytes = IfSome before (λ left. (rest : List ℕ) × (left ≡ 
 -- these bytes stand behind those that were held
 abbrev pub Appends : Option (List ℕ) → Option (List ℕ) → List ℕ → Type 0
 Appends before now bytes = IfSome before (λ held. now ≡ Some (held ++ bytes))
-
--- no bytes are left
-abbrev pub IsAtEnd : Option (List ℕ) → Type 0
-IsAtEnd now = IfSome now (λ left. left ≡ [])

@@ -1,7 +1,7 @@
 // A source is read to its end or to a limit.
 ghost use Rattle.std.specs.Prelude.{◌≡◌, ◌+◌, ◌<◌, ◌≤◌, ◌↔◌, ℕ, List, [], Some, false, if◌then◌else◌, length, take, drop, IsTrue, IfOk, IfSome, OnOk, OnErr, IsErrOf};
 ghost use Rattle.nest_io.specs.Faults.{Rose};
-ghost use Rattle.nest_io.specs.Bytes.{Takes, IsAtEnd};
+ghost use Rattle.nest_io.specs.Bytes.{Takes};
 
 use crate::{Failed, ReadEnd, Source, Steps};
 use std::alloc::Global;
@@ -50,7 +50,7 @@ pub fn read_all_counted<S: Source, L: Ledger>(
     ensures gone { OnOk result (IfSome (S.left source.old) (λ text. S.left source.new ≡ Some (drop (most + 1) text))) }
     ensures limit { IfOk result (λ taken. length taken.bytes.items ≤ most + 1) }
     ensures whole { IfOk result (λ taken. (taken.whole ≡ false) ↔ (length taken.bytes.items ≡ most + 1)) }
-    ensures end { IfOk result (λ taken. IsTrue taken.whole → IsAtEnd (S.left source.new)) }
+    ensures end { IfOk result (λ taken. IsTrue taken.whole → IfSome (S.left source.old) (λ text. (taken.bytes.items ≡ text) × (S.left source.new ≡ Some []))) }
 
     // After a refusal some of the first bytes are gone.
     ensures refused { OnErr result ((bytes : List ℕ) × Takes (S.left source.old) (S.left source.new) bytes
@@ -61,7 +61,7 @@ pub fn read_all_counted<S: Source, L: Ledger>(
 
     ensures reads { IfOk result (λ taken. steps.new ≤ steps.old + (length taken.bytes.items + (if taken.whole then 1 else 0))) }
     ensures at_most { steps.new ≤ steps.old + (most + 1) }
-    ensures onward { steps.old < steps.new }
+    ensures onward { steps.old ≤ steps.new }
 {
     let mut bytes = Vec::new(alloc);
     let mut piece = [0u8; PIECE];
@@ -92,7 +92,7 @@ fn read_all_over<S: Source, L: Ledger>(
     ensures gone { OnOk result (IfSome (S.left source.old) (λ text. S.left source.new ≡ Some (drop (most + 1) text))) }
     ensures limit { IfOk result (λ taken. length taken.bytes.items ≤ most + 1) }
     ensures whole { IfOk result (λ taken. (taken.whole ≡ false) ↔ (length taken.bytes.items ≡ most + 1)) }
-    ensures end { IfOk result (λ taken. IsTrue taken.whole → IsAtEnd (S.left source.new)) }
+    ensures end { IfOk result (λ taken. IsTrue taken.whole → IfSome (S.left source.old) (λ text. (taken.bytes.items ≡ text) × (S.left source.new ≡ Some []))) }
     ensures refused { OnErr result ((bytes : List ℕ) × Takes (S.left source.old) (S.left source.new) bytes
         × (length bytes ≤ most + 1)) }
     ensures fault { IsErrOf result ReadEnd.Fault → Rose (S.faults source.old) (S.faults source.new) }
@@ -113,7 +113,7 @@ pub fn read_all<S: Source>(
     ensures gone { OnOk result (IfSome (S.left source.old) (λ text. S.left source.new ≡ Some (drop (most + 1) text))) }
     ensures limit { IfOk result (λ taken. length taken.bytes.items ≤ most + 1) }
     ensures whole { IfOk result (λ taken. (taken.whole ≡ false) ↔ (length taken.bytes.items ≡ most + 1)) }
-    ensures end { IfOk result (λ taken. IsTrue taken.whole → IsAtEnd (S.left source.new)) }
+    ensures end { IfOk result (λ taken. IsTrue taken.whole → IfSome (S.left source.old) (λ text. (taken.bytes.items ≡ text) × (S.left source.new ≡ Some []))) }
 
     // After a refusal some of the first bytes are gone.
     ensures refused { OnErr result ((bytes : List ℕ) × Takes (S.left source.old) (S.left source.new) bytes
