@@ -9,6 +9,7 @@
 //! and that `write_all` puts all bytes or, after a fault, a front of them.
 #![tactic(auto)]
 
+mod memory;
 mod reading;
 mod refusals;
 mod sink;
@@ -16,6 +17,7 @@ mod source;
 mod steps;
 mod writing;
 
+pub use memory::{MemSink, MemSource};
 pub use reading::{Taken, read_all, read_all_counted};
 pub use refusals::{Failed, NoMemory, ReadEnd};
 pub use sink::Sink;
