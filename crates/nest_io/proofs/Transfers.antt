@@ -1,7 +1,7 @@
 -- Bytes that were taken in turn were taken at once, and so for bytes that were put.
 use Rattle.std.specs.Prelude.{◌≡◌, ◌+◌, ◌-◌, ◌<◌, ◌≤◌, ◌↔◌, ℕ, List, [], ◌∷◌, ◌++◌, length, take, drop, Option, Some, None, IfSome}
 use Rattle.std.proofs.Common.{sym, ◌∙◌, ap, subst, refl, arith, rules, append_assoc}
-use Rattle.std.proofs.lemmas.List.{append-nil, length-append, length-drop, length-take-le, take-append-drop, take_all, take_at}
+use Rattle.std.proofs.lemmas.List.{append-nil, drop-drop, length-append, length-drop, length-take-le, take-append-drop, take_all, take_at}
 use Rattle.std.proofs.Math.Seq.{drop-append_seam, take-append_seam}
 use Rattle.nest_io.specs.Bytes.{Takes, Appends}
 
@@ -64,3 +64,13 @@ pub take_more : (first second third : Option (List ℕ)) (bytes piece : List ℕ
 take_more first second third bytes piece count limit before now taken more room fits steps =
     let len : length (bytes ++ take count piece) ≡ length bytes + count = length-append bytes (take count piece) ∙ ap (λ (n : ℕ). length bytes + n) (length-take-le count piece room) in
     (bytes ++ take count piece, Takes-trans first second third bytes (take count piece) taken more, omega arith, omega arith)
+
+-- what was copied to the front of a buffer from what is behind `given` is taken from there
+pub front_copied : (whole shown left into after : List ℕ) (given count : ℕ) → shown ≡ whole → drop given whole ≡ left → count ≤ length (take (length shown - given) (drop given shown)) → after ≡ take count (take (length shown - given) (drop given shown)) ++ drop count into → (rest : List ℕ) × (left ≡ take count after ++ rest) × (Some (drop (given + count) whole) ≡ Some rest)
+front_copied whole shown left into after given count same behind fits copied =
+    let cut : take (length shown - given) (drop given shown) ≡ drop given shown = search (rules, take_all, length-drop) in
+    let seen : take (length shown - given) (drop given shown) ≡ left = cut ∙ (ap (λ (xs : List ℕ). drop given xs) same ∙ behind) in
+    let there : count ≤ length left = subst (λ (xs : List ℕ). count ≤ length xs) seen fits in
+    let front : after ≡ take count left ++ drop count into = copied ∙ ap (λ (xs : List ℕ). take count xs ++ drop count into) seen in
+    let back : take count after ≡ take count left = ap (λ (xs : List ℕ). take count xs) front ∙ take_at (take count left) (drop count into) count (length-take-le count left there) in
+    (drop count left, sym (ap (λ (xs : List ℕ). xs ++ drop count left) back ∙ take-append-drop count left), ap Some (sym (drop-drop count given whole) ∙ ap (λ (xs : List ℕ). drop count xs) behind))

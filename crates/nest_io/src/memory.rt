@@ -45,6 +45,16 @@ impl MemSource {
     }
 }
 
+// Copies the first bytes, at most `most`, to the front of `into`, and says how many.
+fn copy_front(bytes: &[u8], into: &mut [u8], most: usize) -> usize
+    ensures count { result ≡ min (min (length bytes.now) (length into.old)) most }
+    ensures bytes { into.new ≡ take result bytes.now ++ drop result into.old }
+{
+    let count = bytes.len().min(into.len()).min(most);
+    into[..count].copy_from_slice(&bytes[..count]);
+    count
+}
+
 impl Source for MemSource {
     ghost left = { λ s. Some s.left };
 
@@ -71,9 +81,7 @@ impl Source for MemSource {
             self.faults = self.faults.saturating_add(1);
             return Err(Failed);
         }
-        let left = &self.bytes[self.given..];
-        let count = left.len().min(into.len()).min(self.most);
-        into[..count].copy_from_slice(&left[..count]);
+        let count = copy_front(&self.bytes[self.given..], into, self.most);
         self.given += count;
         Ok(count)
     }
