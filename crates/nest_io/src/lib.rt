@@ -14,6 +14,7 @@ mod reading;
 mod refusals;
 mod sink;
 mod source;
+mod standard;
 mod steps;
 mod writing;
 
@@ -22,5 +23,6 @@ pub use reading::{Taken, read_all, read_all_counted};
 pub use refusals::{Failed, NoMemory, ReadEnd};
 pub use sink::Sink;
 pub use source::Source;
+pub use standard::{StdSink, StdSource};
 pub use steps::Steps;
 pub use writing::{write_all, write_all_counted};
