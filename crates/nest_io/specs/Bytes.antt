@@ -1,6 +1,6 @@
 -- What happens to the bytes that a source has left and to those that a sink holds. `Some bytes` where the object
 -- tells them; of an object that tells nothing, nothing is said.
-use Rattle.std.specs.Prelude.{◌≡◌, ℕ, List, [], ◌++◌, Option, Some, IfSome}
+use Rattle.std.specs.Prelude.{◌≡◌, ◌<◌, ◌≤◌, ℕ, List, ◌++◌, length, take, Option, Some, IfSome}
 
 -- these bytes were the first that were left, and are gone
 abbrev pub Takes : Option (List ℕ) → Option (List ℕ) → List ℕ → Type 0
@@ -9,3 +9,11 @@ Takes before now bytes = IfSome before (λ left. (rest : List ℕ) × (left ≡ 
 -- these bytes stand behind those that were held
 abbrev pub Appends : Option (List ℕ) → Option (List ℕ) → List ℕ → Type 0
 Appends before now bytes = IfSome before (λ held. now ≡ Some (held ++ bytes))
+
+-- the first of the bytes that were left are gone, and not more than `limit` of them
+abbrev pub TakesUpTo : ℕ → Option (List ℕ) → Option (List ℕ) → Type 0
+TakesUpTo limit before now = (bytes : List ℕ) × Takes before now bytes × (length bytes ≤ limit)
+
+-- a front of these bytes stands behind those that were held, and not all of them
+abbrev pub AppendsFront : Option (List ℕ) → Option (List ℕ) → List ℕ → Type 0
+AppendsFront before now bytes = (count : ℕ) × (count < length bytes) × Appends before now (take count bytes)

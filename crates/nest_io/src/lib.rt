@@ -26,3 +26,8 @@ pub use source::Source;
 pub use standard::{StdSink, StdSource};
 pub use steps::Steps;
 pub use writing::{write_all, write_all_counted};
+
+#[cfg(test)]
+mod caller;
+#[cfg(test)]
+mod tests;

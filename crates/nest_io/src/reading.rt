@@ -1,7 +1,7 @@
 // A source is read to its end or to a limit.
 ghost use Rattle.std.specs.Prelude.{◌≡◌, ◌+◌, ◌<◌, ◌≤◌, ◌↔◌, ℕ, List, [], Some, false, if◌then◌else◌, length, take, drop, IsTrue, IfOk, IfSome, OnOk, OnErr, IsErrOf};
 ghost use Rattle.nest_io.specs.Faults.{Rose};
-ghost use Rattle.nest_io.specs.Bytes.{Takes};
+ghost use Rattle.nest_io.specs.Bytes.{Takes, TakesUpTo};
 
 use crate::{Failed, ReadEnd, Source, Steps};
 use std::alloc::Global;
@@ -93,8 +93,7 @@ fn read_all_over<S: Source, L: Ledger>(
     ensures limit { IfOk result (λ taken. length taken.bytes.items ≤ most + 1) }
     ensures whole { IfOk result (λ taken. (taken.whole ≡ false) ↔ (length taken.bytes.items ≡ most + 1)) }
     ensures end { IfOk result (λ taken. IsTrue taken.whole → IfSome (S.left source.old) (λ text. (taken.bytes.items ≡ text) × (S.left source.new ≡ Some []))) }
-    ensures refused { OnErr result ((bytes : List ℕ) × Takes (S.left source.old) (S.left source.new) bytes
-        × (length bytes ≤ most + 1)) }
+    ensures refused { OnErr result (TakesUpTo (most + 1) (S.left source.old) (S.left source.new)) }
     ensures fault { IsErrOf result ReadEnd.Fault → Rose (S.faults source.old) (S.faults source.new) }
     ensures never_falls { S.faults source.old ≤ S.faults source.new }
 {
@@ -116,8 +115,7 @@ pub fn read_all<S: Source>(
     ensures end { IfOk result (λ taken. IsTrue taken.whole → IfSome (S.left source.old) (λ text. (taken.bytes.items ≡ text) × (S.left source.new ≡ Some []))) }
 
     // After a refusal some of the first bytes are gone.
-    ensures refused { OnErr result ((bytes : List ℕ) × Takes (S.left source.old) (S.left source.new) bytes
-        × (length bytes ≤ most + 1)) }
+    ensures refused { OnErr result (TakesUpTo (most + 1) (S.left source.old) (S.left source.new)) }
 
     ensures fault { IsErrOf result ReadEnd.Fault → Rose (S.faults source.old) (S.faults source.new) }
     ensures never_falls { S.faults source.old ≤ S.faults source.new }

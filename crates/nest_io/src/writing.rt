@@ -1,7 +1,7 @@
 // All bytes are put into a sink.
 ghost use Rattle.std.specs.Prelude.{◌≡◌, ◌+◌, ◌<◌, ◌≤◌, ℕ, [], length, take, IfOk, OnOk, OnErr};
 ghost use Rattle.nest_io.specs.Faults.{Rose};
-ghost use Rattle.nest_io.specs.Bytes.{Appends};
+ghost use Rattle.nest_io.specs.Bytes.{Appends, AppendsFront};
 
 use crate::{Failed, Sink, Steps};
 use std::marker::Brand;
@@ -61,8 +61,7 @@ fn write_all_over<K: Sink, L: Ledger>(
     requires whole { blank.parts ≡ L.parts }
     requires one { blank.parts ≡ 1 }
     ensures put { OnOk result (Appends (K.held sink.old) (K.held sink.new) bytes.now) }
-    ensures front { OnErr result ((put : ℕ) × (put < length bytes.now)
-        × Appends (K.held sink.old) (K.held sink.new) (take put bytes.now)) }
+    ensures front { OnErr result (AppendsFront (K.held sink.old) (K.held sink.new) bytes.now) }
     ensures cause { OnErr result (Rose (K.faults sink.old) (K.faults sink.new)) }
     ensures never_falls { K.faults sink.old ≤ K.faults sink.new }
 {
@@ -74,9 +73,7 @@ fn write_all_over<K: Sink, L: Ledger>(
 pub fn write_all<K: Sink>(sink: &mut K, bytes: &[u8]) -> Result<(), Failed>
     ensures put { OnOk result (Appends (K.held sink.old) (K.held sink.new) bytes.now) }
 
-    // After a fault the first `put` bytes stand in the sink, and not all of them.
-    ensures front { OnErr result ((put : ℕ) × (put < length bytes.now)
-        × Appends (K.held sink.old) (K.held sink.new) (take put bytes.now)) }
+    ensures front { OnErr result (AppendsFront (K.held sink.old) (K.held sink.new) bytes.now) }
 
     ensures cause { OnErr result (Rose (K.faults sink.old) (K.faults sink.new)) }
     ensures never_falls { K.faults sink.old ≤ K.faults sink.new }
