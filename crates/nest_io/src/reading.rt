@@ -50,6 +50,7 @@ pub fn read_all_counted<S: Source, L: Ledger>(
     ensures gone { OnOk result (IfSome (S.left source.old) (λ text. S.left source.new ≡ Some (drop (most + 1) text))) }
     ensures limit { IfOk result (λ taken. length taken.bytes.items ≤ most + 1) }
     ensures whole { IfOk result (λ taken. (taken.whole ≡ false) ↔ (length taken.bytes.items ≡ most + 1)) }
+    ensures fits { IfOk result (λ taken. IsTrue taken.whole → length taken.bytes.items ≤ most) }
     ensures end { IfOk result (λ taken. IsTrue taken.whole → IfSome (S.left source.old) (λ text. (taken.bytes.items ≡ text) × (S.left source.new ≡ Some []))) }
 
     // After a refusal some of the first bytes are gone.
@@ -92,6 +93,7 @@ fn read_all_over<S: Source, L: Ledger>(
     ensures gone { OnOk result (IfSome (S.left source.old) (λ text. S.left source.new ≡ Some (drop (most + 1) text))) }
     ensures limit { IfOk result (λ taken. length taken.bytes.items ≤ most + 1) }
     ensures whole { IfOk result (λ taken. (taken.whole ≡ false) ↔ (length taken.bytes.items ≡ most + 1)) }
+    ensures fits { IfOk result (λ taken. IsTrue taken.whole → length taken.bytes.items ≤ most) }
     ensures end { IfOk result (λ taken. IsTrue taken.whole → IfSome (S.left source.old) (λ text. (taken.bytes.items ≡ text) × (S.left source.new ≡ Some []))) }
     ensures refused { OnErr result (TakesUpTo (most + 1) (S.left source.old) (S.left source.new)) }
     ensures fault { IsErrOf result ReadEnd.Fault → Rose (S.faults source.old) (S.faults source.new) }
@@ -112,6 +114,7 @@ pub fn read_all<S: Source>(
     ensures gone { OnOk result (IfSome (S.left source.old) (λ text. S.left source.new ≡ Some (drop (most + 1) text))) }
     ensures limit { IfOk result (λ taken. length taken.bytes.items ≤ most + 1) }
     ensures whole { IfOk result (λ taken. (taken.whole ≡ false) ↔ (length taken.bytes.items ≡ most + 1)) }
+    ensures fits { IfOk result (λ taken. IsTrue taken.whole → length taken.bytes.items ≤ most) }
     ensures end { IfOk result (λ taken. IsTrue taken.whole → IfSome (S.left source.old) (λ text. (taken.bytes.items ≡ text) × (S.left source.new ≡ Some []))) }
 
     // After a refusal some of the first bytes are gone.
