@@ -105,11 +105,7 @@ fn read_all_over<S: Source, L: Ledger>(
 
 /// Reads a source to its end, or until `most + 1` bytes are taken: one more than is wanted, so that a
 /// text that is too long shows. What is behind them stays in the source.
-pub fn read_all<S: Source>(
-    alloc: Global,
-    source: &mut S,
-    most: usize,
-) -> Result<Taken, ReadEnd>
+pub fn read_all<S: Source>(alloc: Global, source: &mut S, most: usize) -> Result<Taken, ReadEnd>
     ensures bytes { IfOk result (λ taken. IfSome (S.left source.old) (λ text. taken.bytes.items ≡ take (most + 1) text)) }
     ensures gone { OnOk result (IfSome (S.left source.old) (λ text. S.left source.new ≡ Some (drop (most + 1) text))) }
     ensures limit { IfOk result (λ taken. length taken.bytes.items ≤ most + 1) }
