@@ -21,15 +21,19 @@ pub enum Copied {
 /// Copies a text of at most `LIMIT` bytes.
 pub fn copy<S: Source, K: Sink>(alloc: Global, source: &mut S, sink: &mut K) -> Copied
     ensures whole { result ≡ Copied.Whole → IfSome (S.left source.old) (λ text.
-        (length text ≤ LIMIT) × (S.left source.new ≡ Some []) × Appends (K.held sink.old) (K.held sink.new) text) }
+        (length text ≤ LIMIT) × (S.left source.new ≡ Some [])
+        × Appends (K.held sink.old) (K.held sink.new) text) }
 
     // A text that is too long is refused after exactly LIMIT + 1 bytes, and the rest is left.
     ensures too_long { result ≡ Copied.TooLong → IfSome (S.left source.old) (λ text.
-        (LIMIT < length text) × (S.left source.new ≡ Some (drop (LIMIT + 1) text)) × (K.held sink.new ≡ K.held sink.old)) }
+        (LIMIT < length text) × (S.left source.new ≡ Some (drop (LIMIT + 1) text))
+        × (K.held sink.new ≡ K.held sink.old)) }
 
-    ensures source_fault { result ≡ Copied.SourceFault → Rose (S.faults source.old) (S.faults source.new) × (K.held sink.new ≡ K.held sink.old) }
+    ensures source_fault { result ≡ Copied.SourceFault →
+        Rose (S.faults source.old) (S.faults source.new) × (K.held sink.new ≡ K.held sink.old) }
     ensures sink_fault { result ≡ Copied.SinkFault → Rose (K.faults sink.old) (K.faults sink.new) }
-    ensures front { result ≡ Copied.SinkFault → IfSome (S.left source.old) (λ text. AppendsFront (K.held sink.old) (K.held sink.new) text) }
+    ensures front { result ≡ Copied.SinkFault → IfSome (S.left source.old) (λ text.
+        AppendsFront (K.held sink.old) (K.held sink.new) text) }
     ensures no_memory { result ≡ Copied.NoMemory → K.held sink.new ≡ K.held sink.old }
 {
     let taken = match read_all(alloc, source, LIMIT) {

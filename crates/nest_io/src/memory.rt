@@ -22,7 +22,13 @@ pub struct MemSource {
 impl Model for MemSource {
     ghost Value = { MemorySource };
 
-    ghost view = { λ s. record { left = drop s.given s.bytes.items; most = s.most; failing = s.failing.items; reads = s.reads; faults = s.faults } };
+    ghost view = { λ s. record {
+      left = drop s.given s.bytes.items;
+      most = s.most;
+      failing = s.failing.items;
+      reads = s.reads;
+      faults = s.faults;
+    } };
 
     ghost invariant = { λ s. (s.given ≤ vec_len s.bytes) × (1 ≤ s.most) };
 }
@@ -32,7 +38,13 @@ impl MemSource {
     /// in `failing` fail, where the first read is 1. Reads and faults are counted up to 2^64 - 1.
     pub fn new(bytes: Vec<u8>, most: usize, failing: Vec<u64>) -> MemSource
         requires { 1 ≤ most }
-        ensures { result ≡ record { left = bytes.items; most = most; failing = failing.items; reads = 0; faults = 0 } }
+        ensures { result ≡ record {
+          left = bytes.items;
+          most = most;
+          failing = failing.items;
+          reads = 0;
+          faults = 0;
+        } }
     {
         MemSource {
             bytes,
@@ -62,16 +74,25 @@ impl Source for MemSource {
 
     fn read(&mut self, into: &mut [u8]) -> Result<usize, Failed>
         ensures fails { IsErr result ↔ ReadFails self.old }
-        ensures count { IfOk result (λ count. count ≡ min (min (length self.old.left) (length into.old)) self.old.most) }
+        ensures count { IfOk result (λ count.
+            count ≡ min (min (length self.old.left) (length into.old)) self.old.most) }
         ensures bytes { IfOk result (λ count. into.new ≡ take count self.old.left ++ drop count into.old) }
-        ensures ok { IfOk result (λ count. self.new ≡ record self.old { left = drop count self.old.left; reads = next_count self.old.reads }) }
-        ensures err { OnErr result (self.new ≡ record self.old { reads = next_count self.old.reads; faults = next_count self.old.faults }) }
+        ensures ok { IfOk result (λ count. self.new ≡ record self.old {
+          left = drop count self.old.left;
+          reads = next_count self.old.reads;
+        }) }
+        ensures err { OnErr result (self.new ≡ record self.old {
+          reads = next_count self.old.reads;
+          faults = next_count self.old.faults;
+        }) }
         ensures same { OnErr result (into.new ≡ into.old) }
 
         // What every source ensures.
         ensures room { IfOk result (λ count. count ≤ length into.new) }
-        ensures taken { IfOk result (λ count. Takes (Some self.old.left) (Some self.new.left) (take count into.new)) }
-        ensures end { IfOk result (λ count. 0 < length into.new → (count ≡ 0) ↔ (self.old.left ≡ [])) }
+        ensures taken { IfOk result (λ count.
+            Takes (Some self.old.left) (Some self.new.left) (take count into.new)) }
+        ensures end { IfOk result (λ count.
+            0 < length into.new → (count ≡ 0) ↔ (self.old.left ≡ [])) }
         ensures nothing { OnErr result (Takes (Some self.old.left) (Some self.new.left) []) }
         ensures cause { OnErr result (Rose self.old.faults self.new.faults) }
         ensures never_falls { self.old.faults ≤ self.new.faults }
@@ -101,10 +122,18 @@ pub struct MemSink {
 impl Model for MemSink {
     ghost Value = { MemorySink };
 
-    ghost view = { λ s. record { held = s.bytes.items; room = s.room; most = s.most; failing = s.failing.items; writes = s.writes; faults = s.faults } };
+    ghost view = { λ s. record {
+      held = s.bytes.items;
+      room = s.room;
+      most = s.most;
+      failing = s.failing.items;
+      writes = s.writes;
+      faults = s.faults;
+    } };
 
     // It has the memory for all that it may hold, so a write takes none.
-    ghost invariant = { λ s. (vec_len s.bytes ≤ s.room) × (s.room ≤ vec_capacity s.bytes) × (1 ≤ s.most) };
+    ghost invariant = { λ s.
+        (vec_len s.bytes ≤ s.room) × (s.room ≤ vec_capacity s.bytes) × (1 ≤ s.most) };
 }
 
 impl MemSink {
@@ -118,7 +147,14 @@ impl MemSink {
         failing: Vec<u64>,
     ) -> Result<MemSink, NoMemory>
         requires { 1 ≤ most }
-        ensures { IfOk result (λ sink. sink ≡ record { held = []; room = room; most = most; failing = failing.items; writes = 0; faults = 0 }) }
+        ensures { IfOk result (λ sink. sink ≡ record {
+          held = [];
+          room = room;
+          most = most;
+          failing = failing.items;
+          writes = 0;
+          faults = 0;
+        }) }
     {
         Ok(MemSink {
             bytes: Vec::with_capacity(alloc, room)?,
@@ -145,14 +181,22 @@ impl Sink for MemSink {
 
     fn write(&mut self, piece: &[u8]) -> Result<usize, Failed>
         ensures fails { IsErr result ↔ WriteFails self.old }
-        ensures count { IfOk result (λ count. count ≡ min (min (length piece.now) (self.old.room - length self.old.held)) self.old.most) }
-        ensures ok { IfOk result (λ count. self.new ≡ record self.old { held = self.old.held ++ take count piece.now; writes = next_count self.old.writes }) }
-        ensures err { OnErr result (self.new ≡ record self.old { writes = next_count self.old.writes; faults = next_count self.old.faults }) }
+        ensures count { IfOk result (λ count.
+            count ≡ min (min (length piece.now) (self.old.room - length self.old.held)) self.old.most) }
+        ensures ok { IfOk result (λ count. self.new ≡ record self.old {
+          held = self.old.held ++ take count piece.now;
+          writes = next_count self.old.writes;
+        }) }
+        ensures err { OnErr result (self.new ≡ record self.old {
+          writes = next_count self.old.writes;
+          faults = next_count self.old.faults;
+        }) }
 
         // What every sink ensures.
         ensures most { IfOk result (λ count. count ≤ length piece.now) }
         ensures least { IfOk result (λ count. 0 < length piece.now → 1 ≤ count) }
-        ensures put { IfOk result (λ count. Appends (Some self.old.held) (Some self.new.held) (take count piece.now)) }
+        ensures put { IfOk result (λ count.
+            Appends (Some self.old.held) (Some self.new.held) (take count piece.now)) }
         ensures nothing { OnErr result (Appends (Some self.old.held) (Some self.new.held) []) }
         ensures cause { OnErr result (Rose self.old.faults self.new.faults) }
         ensures never_falls { self.old.faults ≤ self.new.faults }

@@ -27,8 +27,10 @@ fn read_piece<S: Source, L: Ledger>(
     steps: &mut Steps<L>,
 ) -> Result<usize, Failed>
     ensures room { IfOk result (λ count. count ≤ length into.new) }
-    ensures taken { IfOk result (λ count. Takes (S.left source.old) (S.left source.new) (take count into.new)) }
-    ensures end { IfOk result (λ count. 0 < length into.new → IfSome (S.left source.old) (λ bytes. (count ≡ 0) ↔ (bytes ≡ []))) }
+    ensures taken { IfOk result (λ count.
+        Takes (S.left source.old) (S.left source.new) (take count into.new)) }
+    ensures end { IfOk result (λ count. 0 < length into.new → IfSome (S.left source.old) (λ bytes.
+        (count ≡ 0) ↔ (bytes ≡ []))) }
     ensures nothing { OnErr result (Takes (S.left source.old) (S.left source.new) []) }
     ensures cause { OnErr result (Rose (S.faults source.old) (S.faults source.new)) }
     ensures never_falls { S.faults source.old ≤ S.faults source.new }
@@ -46,21 +48,27 @@ pub fn read_all_counted<S: Source, L: Ledger>(
     most: usize,
     steps: &mut Steps<L>,
 ) -> Result<Taken, ReadEnd>
-    ensures bytes { IfOk result (λ taken. IfSome (S.left source.old) (λ text. taken.bytes.items ≡ take (most + 1) text)) }
-    ensures gone { OnOk result (IfSome (S.left source.old) (λ text. S.left source.new ≡ Some (drop (most + 1) text))) }
+    ensures bytes { IfOk result (λ taken. IfSome (S.left source.old) (λ text.
+        taken.bytes.items ≡ take (most + 1) text)) }
+    ensures gone { OnOk result (IfSome (S.left source.old) (λ text.
+        S.left source.new ≡ Some (drop (most + 1) text))) }
     ensures limit { IfOk result (λ taken. length taken.bytes.items ≤ most + 1) }
-    ensures whole { IfOk result (λ taken. (taken.whole ≡ false) ↔ (length taken.bytes.items ≡ most + 1)) }
+    ensures whole { IfOk result (λ taken.
+        (taken.whole ≡ false) ↔ (length taken.bytes.items ≡ most + 1)) }
     ensures fits { IfOk result (λ taken. IsTrue taken.whole → length taken.bytes.items ≤ most) }
-    ensures end { IfOk result (λ taken. IsTrue taken.whole → IfSome (S.left source.old) (λ text. (taken.bytes.items ≡ text) × (S.left source.new ≡ Some []))) }
+    ensures end { IfOk result (λ taken. IsTrue taken.whole → IfSome (S.left source.old) (λ text.
+        (taken.bytes.items ≡ text) × (S.left source.new ≡ Some []))) }
 
     // After a refusal some of the first bytes are gone.
-    ensures refused { OnErr result ((bytes : List ℕ) × Takes (S.left source.old) (S.left source.new) bytes
+    ensures refused { OnErr result ((bytes : List ℕ)
+        × Takes (S.left source.old) (S.left source.new) bytes
         × (length bytes ≤ most + 1) × (steps.new ≤ steps.old + (length bytes + 1))) }
 
     ensures fault { IsErrOf result ReadEnd.Fault → Rose (S.faults source.old) (S.faults source.new) }
     ensures never_falls { S.faults source.old ≤ S.faults source.new }
 
-    ensures reads { IfOk result (λ taken. steps.new ≤ steps.old + (length taken.bytes.items + (if taken.whole then 1 else 0))) }
+    ensures reads { IfOk result (λ taken.
+        steps.new ≤ steps.old + (length taken.bytes.items + (if taken.whole then 1 else 0))) }
     ensures at_most { steps.new ≤ steps.old + (most + 1) }
     ensures onward { steps.old ≤ steps.new }
 {
@@ -89,12 +97,16 @@ fn read_all_over<S: Source, L: Ledger>(
     requires name { blank.name ≡ L.name }
     requires whole { blank.parts ≡ L.parts }
     requires one { blank.parts ≡ 1 }
-    ensures bytes { IfOk result (λ taken. IfSome (S.left source.old) (λ text. taken.bytes.items ≡ take (most + 1) text)) }
-    ensures gone { OnOk result (IfSome (S.left source.old) (λ text. S.left source.new ≡ Some (drop (most + 1) text))) }
+    ensures bytes { IfOk result (λ taken. IfSome (S.left source.old) (λ text.
+        taken.bytes.items ≡ take (most + 1) text)) }
+    ensures gone { OnOk result (IfSome (S.left source.old) (λ text.
+        S.left source.new ≡ Some (drop (most + 1) text))) }
     ensures limit { IfOk result (λ taken. length taken.bytes.items ≤ most + 1) }
-    ensures whole { IfOk result (λ taken. (taken.whole ≡ false) ↔ (length taken.bytes.items ≡ most + 1)) }
+    ensures whole { IfOk result (λ taken.
+        (taken.whole ≡ false) ↔ (length taken.bytes.items ≡ most + 1)) }
     ensures fits { IfOk result (λ taken. IsTrue taken.whole → length taken.bytes.items ≤ most) }
-    ensures end { IfOk result (λ taken. IsTrue taken.whole → IfSome (S.left source.old) (λ text. (taken.bytes.items ≡ text) × (S.left source.new ≡ Some []))) }
+    ensures end { IfOk result (λ taken. IsTrue taken.whole → IfSome (S.left source.old) (λ text.
+        (taken.bytes.items ≡ text) × (S.left source.new ≡ Some []))) }
     ensures refused { OnErr result (TakesUpTo (most + 1) (S.left source.old) (S.left source.new)) }
     ensures fault { IsErrOf result ReadEnd.Fault → Rose (S.faults source.old) (S.faults source.new) }
     ensures never_falls { S.faults source.old ≤ S.faults source.new }
@@ -106,12 +118,16 @@ fn read_all_over<S: Source, L: Ledger>(
 /// Reads a source to its end, or until `most + 1` bytes are taken: one more than is wanted, so that a
 /// text that is too long shows. What is behind them stays in the source.
 pub fn read_all<S: Source>(alloc: Global, source: &mut S, most: usize) -> Result<Taken, ReadEnd>
-    ensures bytes { IfOk result (λ taken. IfSome (S.left source.old) (λ text. taken.bytes.items ≡ take (most + 1) text)) }
-    ensures gone { OnOk result (IfSome (S.left source.old) (λ text. S.left source.new ≡ Some (drop (most + 1) text))) }
+    ensures bytes { IfOk result (λ taken. IfSome (S.left source.old) (λ text.
+        taken.bytes.items ≡ take (most + 1) text)) }
+    ensures gone { OnOk result (IfSome (S.left source.old) (λ text.
+        S.left source.new ≡ Some (drop (most + 1) text))) }
     ensures limit { IfOk result (λ taken. length taken.bytes.items ≤ most + 1) }
-    ensures whole { IfOk result (λ taken. (taken.whole ≡ false) ↔ (length taken.bytes.items ≡ most + 1)) }
+    ensures whole { IfOk result (λ taken.
+        (taken.whole ≡ false) ↔ (length taken.bytes.items ≡ most + 1)) }
     ensures fits { IfOk result (λ taken. IsTrue taken.whole → length taken.bytes.items ≤ most) }
-    ensures end { IfOk result (λ taken. IsTrue taken.whole → IfSome (S.left source.old) (λ text. (taken.bytes.items ≡ text) × (S.left source.new ≡ Some []))) }
+    ensures end { IfOk result (λ taken. IsTrue taken.whole → IfSome (S.left source.old) (λ text.
+        (taken.bytes.items ≡ text) × (S.left source.new ≡ Some []))) }
 
     // After a refusal some of the first bytes are gone.
     ensures refused { OnErr result (TakesUpTo (most + 1) (S.left source.old) (S.left source.new)) }

@@ -6,11 +6,13 @@ use std::alloc::{AllocError, AllocFailed};
 use thiserror::Error;
 
 /// A read or a write that failed. The count of faults of the object rose.
-#[derive(Clone, Copy, Debug, PartialEq, Eq)]
+#[derive(Clone, Copy, Debug, PartialEq, Eq, Error)]
+#[error("a read or a write failed")]
 pub struct Failed;
 
 /// A growth that was refused.
-#[derive(Clone, Copy, Debug, PartialEq, Eq)]
+#[derive(Clone, Copy, Debug, PartialEq, Eq, Error)]
+#[error("out of memory")]
 pub struct NoMemory;
 
 /// Why a text was not read to its end or its limit.

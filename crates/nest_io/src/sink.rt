@@ -18,7 +18,8 @@ pub trait Sink {
     fn write(&mut self, piece: &[u8]) -> Result<usize, Failed>
         ensures most { IfOk result (λ count. count ≤ length piece.now) }
         ensures least { IfOk result (λ count. 0 < length piece.now → 1 ≤ count) }
-        ensures put { IfOk result (λ count. Appends (held self.old) (held self.new) (take count piece.now)) }
+        ensures put { IfOk result (λ count.
+            Appends (held self.old) (held self.new) (take count piece.now)) }
         ensures nothing { OnErr result (Appends (held self.old) (held self.new) []) }
 
         ensures cause { OnErr result (Rose (faults self.old) (faults self.new)) }

@@ -19,8 +19,10 @@ pub trait Source {
         ensures room { IfOk result (λ count. count ≤ length into.new) }
 
         // The bytes at the front of `into` were the first that were left, and are gone.
-        ensures taken { IfOk result (λ count. Takes (left self.old) (left self.new) (take count into.new)) }
-        ensures end { IfOk result (λ count. 0 < length into.new → IfSome (left self.old) (λ bytes. (count ≡ 0) ↔ (bytes ≡ []))) }
+        ensures taken { IfOk result (λ count.
+            Takes (left self.old) (left self.new) (take count into.new)) }
+        ensures end { IfOk result (λ count. 0 < length into.new → IfSome (left self.old) (λ bytes.
+            (count ≡ 0) ↔ (bytes ≡ []))) }
         ensures nothing { OnErr result (Takes (left self.old) (left self.new) []) }
 
         ensures cause { OnErr result (Rose (faults self.old) (faults self.new)) }

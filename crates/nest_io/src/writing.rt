@@ -15,7 +15,8 @@ fn write_piece<K: Sink, L: Ledger>(
 ) -> Result<usize, Failed>
     ensures most { IfOk result (λ count. count ≤ length piece.now) }
     ensures least { IfOk result (λ count. 0 < length piece.now → 1 ≤ count) }
-    ensures put { IfOk result (λ count. Appends (K.held sink.old) (K.held sink.new) (take count piece.now)) }
+    ensures put { IfOk result (λ count.
+        Appends (K.held sink.old) (K.held sink.new) (take count piece.now)) }
     ensures nothing { OnErr result (Appends (K.held sink.old) (K.held sink.new) []) }
     ensures cause { OnErr result (Rose (K.faults sink.old) (K.faults sink.new)) }
     ensures never_falls { K.faults sink.old ≤ K.faults sink.new }
@@ -36,7 +37,8 @@ pub fn write_all_counted<K: Sink, L: Ledger>(
 
     // After a fault the first `put` bytes stand in the sink, and not all of them.
     ensures front { OnErr result ((put : ℕ) × (put < length bytes.now)
-        × Appends (K.held sink.old) (K.held sink.new) (take put bytes.now) × (steps.new ≤ steps.old + (put + 1))) }
+        × Appends (K.held sink.old) (K.held sink.new) (take put bytes.now)
+        × (steps.new ≤ steps.old + (put + 1))) }
 
     ensures cause { OnErr result (Rose (K.faults sink.old) (K.faults sink.new)) }
     ensures never_falls { K.faults sink.old ≤ K.faults sink.new }
