@@ -1,5 +1,6 @@
 // The edge to std: its readers and writers as a source and a sink.
 ghost use Rattle.std.specs.Prelude.{◌≡◌, ◌<◌, ◌≤◌, ℕ, List, Option, None, length, take, IfOk, OnOk, OnErr};
+ghost use Rattle.std.specs.Io.KnownBytes.{ReadConsumes, WriteAppends};
 ghost use Rattle.nest_io.specs.Faults.{Rose, next_count};
 
 use crate::{Failed, Sink, Source};
@@ -14,15 +15,15 @@ pub struct StdSource<R: Read> {
 }
 
 impl<R: Read> Model for StdSource<R> {
-    ghost Value = { ℕ };
+    ghost Value = { R × ℕ };
 
-    ghost view = { λ s. s.faults };
+    ghost view = { λ s. (s.reader, s.faults) };
 }
 
 impl<R: Read> StdSource<R> {
     /// A source over this reader, with no faults yet.
     pub fn new(reader: R) -> StdSource<R>
-        ensures { result ≡ 0 }
+        ensures { result ≡ (reader, 0) }
     {
         StdSource { reader, faults: 0 }
     }
@@ -31,16 +32,18 @@ impl<R: Read> StdSource<R> {
 impl<R: Read> Source for StdSource<R> {
     ghost left = { λ _. None };
 
-    ghost faults = { λ faults. faults };
+    ghost faults = { λ s. s.1 };
 
     fn read(&mut self, into: &mut [u8]) -> Result<usize, Failed>
-        ensures ok { OnOk result (self.new ≡ self.old) }
-        ensures err { OnErr result (self.new ≡ next_count self.old) }
+        // The bytes are the reader's, where std knows them.
+        ensures bytes { ReadConsumes (R.remaining self.old.0) (R.remaining self.new.0) result into.new }
+        ensures ok { OnOk result (self.new.1 ≡ self.old.1) }
+        ensures err { OnErr result (self.new.1 ≡ next_count self.old.1) }
 
         // What every source ensures.
         ensures room { IfOk result (λ count. count ≤ length into.new) }
-        ensures cause { OnErr result (Rose self.old self.new) }
-        ensures never_falls { self.old ≤ self.new }
+        ensures cause { OnErr result (Rose self.old.1 self.new.1) }
+        ensures never_falls { self.old.1 ≤ self.new.1 }
     {
         match self.reader.read(into) {
             Ok(count) => Ok(count),
@@ -61,15 +64,15 @@ pub struct StdSink<W: Write> {
 }
 
 impl<W: Write> Model for StdSink<W> {
-    ghost Value = { ℕ };
+    ghost Value = { W × ℕ };
 
-    ghost view = { λ s. s.faults };
+    ghost view = { λ s. (s.writer, s.faults) };
 }
 
 impl<W: Write> StdSink<W> {
     /// A sink over this writer, with no faults yet.
     pub fn new(writer: W) -> StdSink<W>
-        ensures { result ≡ 0 }
+        ensures { result ≡ (writer, 0) }
     {
         StdSink { writer, faults: 0 }
     }
@@ -78,17 +81,19 @@ impl<W: Write> StdSink<W> {
 impl<W: Write> Sink for StdSink<W> {
     ghost held = { λ _. None };
 
-    ghost faults = { λ faults. faults };
+    ghost faults = { λ s. s.1 };
 
     fn write(&mut self, piece: &[u8]) -> Result<usize, Failed>
-        ensures ok { OnOk result (self.new ≡ self.old) }
-        ensures err { OnErr result (self.new ≡ next_count self.old) }
+        // The bytes go to the writer, where std knows what it holds.
+        ensures bytes { WriteAppends (W.contents self.old.0) (W.contents self.new.0) result piece.now }
+        ensures ok { OnOk result (self.new.1 ≡ self.old.1) }
+        ensures err { OnErr result (self.new.1 ≡ next_count self.old.1) }
 
         // What every sink ensures.
         ensures most { IfOk result (λ count. count ≤ length piece.now) }
         ensures least { IfOk result (λ count. 0 < length piece.now → 1 ≤ count) }
-        ensures cause { OnErr result (Rose self.old self.new) }
-        ensures never_falls { self.old ≤ self.new }
+        ensures cause { OnErr result (Rose self.old.1 self.new.1) }
+        ensures never_falls { self.old.1 ≤ self.new.1 }
     {
         match self.writer.write(piece) {
             Ok(count) if count > 0 || piece.is_empty() => Ok(count),
