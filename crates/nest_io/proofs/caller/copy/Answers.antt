@@ -1,4 +1,4 @@
-use Rattle.std.proofs.Common.{rules, arith, ◌≡◌, ◌+◌, ◌<◌, ◌≤◌, ◌∙◌, ℕ, List, Option, Some, None, [], length, take, drop, IfSome, ap, sym, subst, refl}
+use Rattle.std.proofs.Common.{arith, ◌≡◌, ◌+◌, ◌<◌, ◌≤◌, ◌∙◌, ℕ, List, Option, Some, None, [], length, take, drop, IfSome, ap, subst, refl}
 use Rattle.std.proofs.lemmas.List.{length-take}
 use Rattle.nest_io.specs.Bytes.{Appends}
 use Rattle.nest_io.proofs.caller.copy.Goals as goal

@@ -1,4 +1,4 @@
-use Rattle.std.proofs.Common.{◌≡◌, ◌+◌, ◌-◌, ◌≤◌, ℕ, List, length, vec_len}
+use Rattle.std.proofs.Common.{◌+◌, ◌-◌, ◌≤◌, vec_len}
 use Rattle.nest_io.specs.Bytes.{Takes}
 use Rattle.nest_io.proofs.reading.read_all_counted.Given as goal
 

@@ -1,4 +1,4 @@
-use Rattle.std.proofs.Common.{rules, arith, ap}
+use Rattle.std.proofs.Common.{arith, ap}
 use Rattle.nest_io.specs.Memory.{MemorySource}
 use Rattle.nest_io.proofs.Transfers.{front_copied}
 use Rattle.nest_io.proofs.memory.MemSourceSource.read.Goals as goal
