@@ -1,0 +1,25 @@
+-- The greatest common divisor.
+use Rattle.std.specs.Prelude.{◌≡◌, ℕ, ℤ, pos, zero, suc, ◌%◌, List, [], ◌∷◌, unsigned_abs, refl}
+
+-- Euclid's rule, for at most so many steps
+abbrev pub gcd_within : ℕ → ℕ → ℕ → ℕ
+gcd_within steps a zero = a
+gcd_within zero a (suc b) = a
+gcd_within (suc steps) a (suc b) = gcd_within steps (suc b) (a % suc b)
+
+-- the greatest common divisor of two numbers: each step makes the second smaller, so that b steps are enough
+unfoldable pub gcd : ℕ → ℕ → ℕ
+gcd a b = gcd_within b a b
+
+-- the greatest common divisor of the sizes of these numbers; 0 where they are all 0
+abbrev pub common_divisor : List ℤ → ℕ
+common_divisor [] = 0
+common_divisor (x ∷ xs) = gcd (unsigned_abs x) (common_divisor xs)
+
+gcd-12-18 : gcd 12 18 ≡ 6
+unfolding gcd
+gcd-12-18 = refl
+
+gcd-large : gcd 4611686018427387905 1 ≡ 1
+unfolding gcd
+gcd-large = refl

@@ -1,0 +1,6 @@
+//! Rows of whole-number inequalities.
+#![tactic(auto)]
+
+pub mod row;
+
+pub use row::Row;
