@@ -1,0 +1,4 @@
+pub mod RowSets
+pub mod Elimination
+pub mod Verdicts
+pub mod Ranges
