@@ -1,11 +1,11 @@
 -- Tidied sets of rows. A set of rows is given by a list, in any order and with repetitions; the tidied set is one
 -- list, whose rows rise by their coefficients.
-use Rattle.std.specs.Prelude.{◌≡◌, ℕ, ℤ, pos, ◌≤ℤ◌, Bool, not, ◌&&◌, ◌||◌, ◌≤◌, ◌^◌, nat_lt, int_lt, List, [], ◌∷◌, map, filter, unsigned_abs, ◌↔◌, IsTrue}
+use Rattle.std.specs.Prelude.{◌≡◌, ℕ, ℤ, pos, ◌≤ℤ◌, Bool, not, ◌&&◌, ◌||◌, ◌≤◌, ◌^◌, nat_lt, int_lt, List, [], ◌∷◌, map, filter, unsigned_abs, ◌↔◌, if◌then◌else◌, false}
 use Rattle.std.specs.Ordering.{int_eq, int_cmp, is_eq, match_ordering}
 use Rattle.std.specs.declared.cmp.Ordering.{Ordering}
 use Rattle.std.specs.declared.cmp.Ordering.TheVariants.{Less}
 use Rattle.std.specs.Cmp.Lexicographic.{slice_cmp}
-use Rattle.std.specs.List.{All, AllByRecursion, Any, Contains, list_all, list_any}
+use Rattle.std.specs.List.{All, AllByRecursion, Any, Contains, fold, list_all, list_any}
 use Rattle.affine.specs.declared.row.Row.{Row}
 use Rattle.affine.specs.Rows.{normal}
 
@@ -46,6 +46,38 @@ told rows = filter (λ row. not (says_nothing row)) (map normal rows)
 -- the one with the least constant stays
 unfoldable pub tidied : List Row → List Row
 tidied rows = rising (filter (is_least_of (told rows)) (told rows))
+
+-- the rows rise by their coefficients, so that no two have the same
+abbrev pub Rises : List Row → Type 0
+Rises [] = Unit {0}
+Rises (row ∷ rows) = AllByRecursion (λ other. compare row other ≡ Less) rows × Rises rows
+
+-- a row is the normal form of one of the rows
+abbrev pub IsNormalOf : List Row → Row → Type 0
+IsNormalOf rows row = Any (λ given. normal given ≡ row) rows
+
+-- what tidying keeps of the rows: a normal form that says something, with the least constant for its coefficients
+pub record IsKept (rows : List Row) (row : Row) : Type 0 where
+  pub normal_form : IsNormalOf rows row
+  pub tells : says_nothing row ≡ false
+  pub least : (other : Row) → IsNormalOf rows other → other.coef ≡ row.coef → row.cst ≤ℤ other.cst
+
+-- the tidied set in its own words: the list that rises and has exactly the rows that are kept. There is one
+pub record IsTidied (rows set : List Row) : Type 0 where
+  pub rises : Rises set
+  pub has : (row : Row) → Contains set row ↔ IsKept rows row
+
+-- a tidied set and one row more: the row is dropped where it says nothing or stands there with no greater constant
+abbrev pub kept : Row → List Row → List Row
+kept row [] = row ∷ []
+kept row (other ∷ rows) = match_ordering (compare row other) (row ∷ other ∷ rows) ((if int_lt row.cst other.cst then row else other) ∷ rows) (other ∷ kept row rows)
+
+unfoldable pub with_row : Row → List Row → List Row
+with_row row set = if says_nothing (normal row) then set else kept (normal row) set
+
+-- and one row after another
+abbrev pub with_rows : List Row → List Row → List Row
+with_rows set rows = fold (λ set row. with_row row set) set rows
 
 -- a number above 2^62 in size
 abbrev pub is_wide_number : ℤ → Bool

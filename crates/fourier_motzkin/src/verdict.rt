@@ -42,7 +42,7 @@ pub fn bounds(alloc: Global, rows: &[Row], variables: usize) -> Result<Scan, NoM
     levels.reverse();
     Ok(Scan {
         levels,
-        verdict: ruling(&judgement),
+        verdict: judgement.ruling(),
     })
 }
 
@@ -58,12 +58,14 @@ fn step(alloc: Global, judgement: Eliminated, variable: usize) -> Result<(RowSet
     }
 }
 
-/// What is ruled after the last elimination.
-fn ruling(judgement: &Eliminated) -> Ruling {
-    match judgement {
-        Eliminated::False => Ruling::Empty,
-        Eliminated::Wide => Ruling::Wide,
-        Eliminated::Rows(_) => Ruling::Maybe,
+impl Eliminated {
+    /// What is ruled where this is said after the last elimination.
+    fn ruling(&self) -> Ruling {
+        match self {
+            Eliminated::False => Ruling::Empty,
+            Eliminated::Wide => Ruling::Wide,
+            Eliminated::Rows(_) => Ruling::Maybe,
+        }
     }
 }
 
