@@ -1,0 +1,4 @@
+pub mod DivisorLemmas
+pub mod IntegerLemmas
+pub mod RowLemmas
+pub mod SumLemmas
