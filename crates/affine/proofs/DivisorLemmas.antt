@@ -1,6 +1,7 @@
 -- Euclid's rule gives the greatest common divisor, and the same for a list of numbers.
-use Rattle.std.proofs.Common.{◌≡◌, refl, sym, ◌∙◌, ap, ℕ, zero, suc, ◌≤◌, ◌<◌, ◌%◌, List, [], ◌∷◌, ◌++◌, ℤ, pos, unsigned_abs, arith}
-use Rattle.std.proofs.lemmas.Nat.Gcd.{IsGcd-from_zero, IsGcd-from_mod, IsGcd-swap, same_from_IsGcd, dvd-zero, dvd_trans, dvd_antisymm}
+use Rattle.std.proofs.Common.{◌≡◌, refl, sym, ◌∙◌, ap, ℕ, zero, suc, ◌≤◌, ◌<◌, ◌%◌, List, [], ◌∷◌, ◌++◌, ℤ, pos, unsigned_abs, arith, ◌+◌, length, take, get_or}
+use Rattle.std.proofs.lemmas.List.{take_more, take_all}
+use Rattle.std.proofs.lemmas.Nat.Gcd.{IsGcd-from_zero, IsGcd-from_mod, IsGcd-swap, same_from_IsGcd, dvd-zero, dvd_refl, le_of_dvd, dvd_trans, dvd_antisymm}
 use Rattle.std.proofs.lemmas.List.Elements.{All-nil, All-cons, All-head, All-tail, All-weaker, All-push}
 use Rattle.std.specs.List.{All}
 use Rattle.std.specs.Int.{IsGcd, ◌∣◌}
@@ -56,3 +57,22 @@ common_divisor_unique xs g h =
 pub common_divisor-push : (xs : List ℤ) (x : ℤ) → common_divisor (xs ++ x ∷ []) ≡ gcd (unsigned_abs x) (common_divisor xs)
 common_divisor-push xs x =
     sym (common_divisor_unique (xs ++ x ∷ []) _ (IsGreatestDivisor-push x xs (common_divisor xs) _ (IsGreatestDivisor-common_divisor xs) (IsGcd-gcd (unsigned_abs x) (common_divisor xs))))
+
+pub common_divisor_more : (xs : List ℤ) (i : ℕ) → i < length xs → common_divisor (take (i + 1) xs) ≡ gcd (unsigned_abs (get_or xs i (pos 0))) (common_divisor (take i xs))
+common_divisor_more xs i h = rw (take_more xs i (pos 0) h, common_divisor-push) refl
+
+pub ruleset divisors = (common_divisor_more, take_all)
+
+-- ---- the greatest common divisor is no greater than a bound on the numbers
+
+gcd-zero : (b : ℕ) → gcd 0 b ≡ b
+gcd-zero b = sym (gcd_unique 0 b b (dvd-zero b, dvd_refl b, λ d h k. k))
+
+gcd-≤ : (a b most : ℕ) → a ≤ most → b ≤ most → gcd a b ≤ most
+gcd-≤ zero b most h k = rw (gcd-zero b) k
+gcd-≤ (suc a) b most h k = let small = le_of_dvd (omega arith) (IsGcd-gcd (suc a) b).0 in omega (arith, small)
+
+pub common_divisor-≤ : (xs : List ℤ) (most : ℕ) → All (λ x. unsigned_abs x ≤ most) xs → common_divisor xs ≤ most
+common_divisor-≤ [] most h = omega arith
+common_divisor-≤ (x ∷ xs) most h =
+    gcd-≤ (unsigned_abs x) (common_divisor xs) most (All-head (λ y. unsigned_abs y ≤ most) x xs h) (common_divisor-≤ xs most (All-tail (λ y. unsigned_abs y ≤ most) x xs h))

@@ -1,6 +1,6 @@
 -- Products and sums of whole numbers.
-use Rattle.std.proofs.Common.{◌≡◌, refl, sym, ◌∙◌, ℕ, zero, suc, ℤ, pos, negsuc, ◌+ℤ◌, ◌*ℤ◌, neg_ℤ, ◌-ℤ◌, arith}
-use Rattle.std.proofs.Math.IntN.{suc_ℤ, pred_ℤ, suc_ℤ-+ℤ, pred_ℤ-+ℤ, suc_ℤ-*ℤ, pred_ℤ-*ℤ, +ℤ_idl, zero-*ℤ, *ℤ_comm, -ℤ-+ℤ_cancel}
+use Rattle.std.proofs.Common.{◌≡◌, refl, sym, ◌∙◌, ℕ, zero, suc, ℤ, pos, negsuc, ◌+ℤ◌, ◌*ℤ◌, neg_ℤ, ◌-ℤ◌, ◌≤ℤ◌, arith}
+use Rattle.std.proofs.Math.IntN.{suc_ℤ, pred_ℤ, suc_ℤ-+ℤ, pred_ℤ-+ℤ, suc_ℤ-*ℤ, pred_ℤ-*ℤ, +ℤ_idl, zero-*ℤ, *ℤ_comm, -ℤ-+ℤ_cancel, +ℤ_invr, *ℤ-zero}
 use Rattle.std.proofs.lemmas.Int.{ints}
 
 -- ---- a product of a sum
@@ -48,3 +48,20 @@ mul_assoc (negsuc (suc n)) b c = mul_assoc-pred (negsuc n) b c (mul_assoc (negsu
 
 pub weighted-dot-step : (q x p y z a b : ℤ) → (q *ℤ x +ℤ p *ℤ y) *ℤ z +ℤ (q *ℤ a +ℤ p *ℤ b) ≡ q *ℤ (x *ℤ z +ℤ a) +ℤ p *ℤ (y *ℤ z +ℤ b)
 weighted-dot-step q x p y z a b = rw (add-mul (q *ℤ x) (p *ℤ y) z, mul-add q (x *ℤ z) a, mul-add p (y *ℤ z) b, mul_assoc q x z, mul_assoc p y z) (omega (arith, ints))
+
+-- ---- order
+
+pub mul-non_negative : (a b : ℤ) → pos 0 ≤ℤ a → pos 0 ≤ℤ b → pos 0 ≤ℤ (a *ℤ b)
+mul-non_negative (pos m) (pos n) h k = omega (arith, ints)
+mul-non_negative (pos m) (negsuc n) h k = absurd (omega (arith, ints))
+mul-non_negative (negsuc m) b h k = absurd (omega (arith, ints))
+
+pub mul-≤ℤ : (d a b : ℤ) → pos 0 ≤ℤ d → a ≤ℤ b → (d *ℤ a) ≤ℤ (d *ℤ b)
+mul-≤ℤ d a b p h =
+    let e : a +ℤ (b -ℤ a) ≡ b = omega (arith, ints) in
+    let sum : d *ℤ b ≡ d *ℤ a +ℤ d *ℤ (b -ℤ a) = rw e at (mul-add d a (b -ℤ a)) in
+    let more = mul-non_negative d (b -ℤ a) p (omega (arith, ints)) in
+    omega (arith, ints)
+
+pub mul-neg : (d a : ℤ) → d *ℤ neg_ℤ a ≡ neg_ℤ (d *ℤ a)
+mul-neg d a = let sum : d *ℤ pos 0 ≡ d *ℤ a +ℤ d *ℤ neg_ℤ a = rw +ℤ_invr at (mul-add d a (neg_ℤ a)) in let z = *ℤ-zero d in omega (arith, ints)

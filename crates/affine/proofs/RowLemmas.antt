@@ -5,7 +5,7 @@ use Rattle.std.proofs.lemmas.Int.{ints}
 use Rattle.affine.specs.declared.row.Row.{Row}
 use Rattle.affine.specs.Sums.{dot, weighted}
 use Rattle.affine.specs.Rows.{variables, coefficient, sum_at, Meets, combination}
-use Rattle.affine.proofs.IntegerLemmas.{mul-add}
+use Rattle.affine.proofs.IntegerLemmas.{mul-add, mul-non_negative}
 use Rattle.affine.proofs.SumLemmas.{dot-weighted, dot-push, length-weighted, get_or-weighted}
 
 -- the sum of q·P + p·N is q times the sum of P and p times the sum of N
@@ -16,11 +16,6 @@ sum_at-combination q P p N point h =
 -- the sum with one more number of the point
 pub sum_at-push : (row : Row) (point : List ℤ) (v : ℤ) → sum_at row (point ++ v ∷ []) ≡ sum_at row point +ℤ coefficient row (length point) *ℤ v
 sum_at-push row point v = rw (dot-push row.coef.items point v) (omega (arith, ints))
-
-pub mul-non_negative : (a b : ℤ) → pos 0 ≤ℤ a → pos 0 ≤ℤ b → pos 0 ≤ℤ (a *ℤ b)
-mul-non_negative (pos m) (pos n) h k = rw (pos-*ℤ-pos m n) (omega (arith, ints))
-mul-non_negative (pos m) (negsuc n) h k = absurd (omega (arith, ints))
-mul-non_negative (negsuc m) b h k = absurd (omega (arith, ints))
 
 -- a point that meets P and N meets q·P + p·N for q and p of at least 0
 pub Meets-combination : (q : ℤ) (P : Row) (p : ℤ) (N : Row) (point : List ℤ) → variables P ≡ variables N → pos 0 ≤ℤ q → pos 0 ≤ℤ p → Meets point P → Meets point N → Meets point (combination q P p N)
