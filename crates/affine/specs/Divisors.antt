@@ -1,5 +1,7 @@
 -- The greatest common divisor.
 use Rattle.std.specs.Prelude.{◌≡◌, ℕ, ℤ, pos, zero, suc, ◌%◌, List, [], ◌∷◌, unsigned_abs, refl}
+use Rattle.std.specs.Int.{◌∣◌}
+use Rattle.std.specs.List.{All}
 
 -- Euclid's rule, for at most so many steps
 abbrev pub gcd_within : ℕ → ℕ → ℕ → ℕ
@@ -15,6 +17,10 @@ gcd a b = gcd_within b a b
 abbrev pub common_divisor : List ℤ → ℕ
 common_divisor [] = 0
 common_divisor (x ∷ xs) = gcd (unsigned_abs x) (common_divisor xs)
+
+-- g divides each of these numbers, and each d that divides them all divides g
+abbrev pub IsGreatestDivisor : List ℤ → ℕ → Type 0
+IsGreatestDivisor xs g = All (λ x. g ∣ unsigned_abs x) xs × ((d : ℕ) → All (λ x. d ∣ unsigned_abs x) xs → d ∣ g)
 
 gcd-12-18 : gcd 12 18 ≡ 6
 unfolding gcd

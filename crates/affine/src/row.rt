@@ -1,6 +1,6 @@
 //! A whole-number inequality, and its normal form.
 
-ghost use Rattle.std.specs.Prelude.{◌≡◌, ◌≤◌, ◌<ℤ◌, ◌^◌, pos, unsigned_abs};
+ghost use Rattle.std.specs.Prelude.{◌≡◌, ◌≤◌, ◌<ℤ◌, ◌^◌, pos, length, map, max, unsigned_abs};
 ghost use Rattle.std.specs.Int.{int_div_euclid};
 ghost use Rattle.std.specs.List.{All};
 ghost use Rattle.affine.specs.Divisors.{gcd, common_divisor};
@@ -26,16 +26,33 @@ impl Row {
         requires cst { unsigned_abs self.now.cst ≤ 2 ^ 126 }
         ensures { result ≡ normal self.now }
     {
-        let divisor = greatest_divisor(self.coef.as_slice()).max(1) as i128;
-        let mut coef = ArrayVec::new();
-        for number in self.coef.as_slice() {
-            coef.push(floor(*number, divisor));
-        }
+        let divisor = self.divisor();
         Row {
-            coef,
+            coef: quotients(self.coef.as_slice(), divisor),
             cst: floor(self.cst, divisor),
         }
     }
+
+    /// The greatest common divisor of the coefficients, or 1 where there are no variables.
+    fn divisor(&self) -> i128
+        requires { All (λ number. unsigned_abs number ≤ 2 ^ 126) self.now.coef.items }
+        ensures { result ≡ pos (max (common_divisor self.now.coef.items) 1) }
+    {
+        greatest_divisor(self.coef.as_slice()).max(1) as i128
+    }
+}
+
+/// The quotients, each rounded down.
+fn quotients(numbers: &[i128], divisor: i128) -> ArrayVec<i128, 16>
+    requires few { length numbers.now ≤ 16 }
+    requires positive { pos 0 <ℤ divisor }
+    ensures { result.items ≡ map (λ number. int_div_euclid number divisor) numbers.now }
+{
+    let mut quotients = ArrayVec::new();
+    for number in numbers {
+        quotients.push(floor(*number, divisor));
+    }
+    quotients
 }
 
 /// The quotient rounded down.
@@ -46,6 +63,7 @@ pub fn floor(number: i128, divisor: i128) -> i128
     number.div_euclid(divisor)
 }
 
+#[tactic(auto, using(crate::proofs::DivisorLemmas::divisors))]
 /// The greatest common divisor of the sizes; 0 where all are 0.
 fn greatest_divisor(numbers: &[i128]) -> u128
     ensures { result ≡ common_divisor numbers.now }

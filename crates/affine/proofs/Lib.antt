@@ -1,0 +1,6 @@
+pub mod DivisorLemmas
+pub mod FloorLemmas
+pub mod IntegerLemmas
+pub mod NormalLemmas
+pub mod RowLemmas
+pub mod SumLemmas
