@@ -1,5 +1,5 @@
 -- The elements of a list.
-use Rattle.std.proofs.Common.{◌≡◌, ℕ, zero, suc, ◌<◌, Bool, true, false, ◌&&◌, ◌||◌, List, [], ◌∷◌, ◌++◌, map, filter, length, get_or, refl, sym, ap, subst, inl, inr, ⊎_elim, ◌⊎◌, arith}
+use Rattle.std.proofs.Common.{◌≡◌, ℕ, zero, suc, ◌<◌, Bool, true, false, ◌&&◌, ◌||◌, List, [], ◌∷◌, ◌++◌, map, filter, length, get_or, refl, sym, ap, ◌∙◌, subst, inl, inr, ⊎_elim, ◌⊎◌, arith}
 use Rattle.std.specs.List.{All, Any, AllByRecursion, Contains, flat_map, list_all, list_any}
 use Rattle.std.proofs.lemmas.List.Elements.{Contains-get_or}
 
@@ -63,21 +63,21 @@ module _ {X : Type 0} where
   -- a filter
   pub has_filter : (p : X → Bool) (xs : List X) (x : X) → Has xs x → p x ≡ true → Has (filter p xs) x
   has_filter p [] x h is = absurd h
-  has_filter p (y ∷ ys) x h is = at (p y) refl h
+  has_filter p (y ∷ ys) x h is = at (p y) refl h (λ k. has_filter p ys x k is)
     where
-      at : (b : Bool) → p y ≡ b → Has (y ∷ ys) x → Has (filter p (y ∷ ys)) x
-      at true e (inl is') = rw e (inl is')
-      at true e (inr k) = rw e (inr (has_filter p ys x k is))
-      at false e (inl is') = absurd (let same = ap p is' in cc)
-      at false e (inr k) = rw e (has_filter p ys x k is)
+      at : (b : Bool) → p y ≡ b → Has (y ∷ ys) x → (Has ys x → Has (filter p ys) x) → Has (filter p (y ∷ ys)) x
+      at true e (inl same) more = rw e (inl same)
+      at true e (inr k) more = rw e (inr (more k))
+      at false e (inl same) more = absurd (let f = ap p same in cc)
+      at false e (inr k) more = rw e (more k)
 
   pub filter_has : (p : X → Bool) (xs : List X) (x : X) → Has (filter p xs) x → Has xs x × (p x ≡ true)
   filter_has p [] x h = absurd h
-  filter_has p (y ∷ ys) x h = at (p y) refl h
+  filter_has p (y ∷ ys) x h = at (p y) refl h (λ k. filter_has p ys x k)
     where
-      at : (b : Bool) → p y ≡ b → Has (filter p (y ∷ ys)) x → Has (y ∷ ys) x × (p x ≡ true)
-      at true e k = elim (rw e at k) as (λ _. Has (y ∷ ys) x × (p x ≡ true)) [ inl is ↦ (inl is, ap p is ∙ e) | inr m ↦ (let r = filter_has p ys x m in (inr r.0, r.1)) ]
-      at false e k = let r = filter_has p ys x (rw e at k) in (inr r.0, r.1)
+      at : (b : Bool) → p y ≡ b → Has (filter p (y ∷ ys)) x → (Has (filter p ys) x → Has ys x × (p x ≡ true)) → Has (y ∷ ys) x × (p x ≡ true)
+      at true e k more = ⊎_elim (λ same. (inl same, ap p same ∙ e)) (λ m. let r = more m in (inr r.0, r.1)) (rw e at k)
+      at false e k more = let r = more (rw e at k) in (inr r.0, r.1)
 
   -- a test of all, and of some
   pub list_all_has : (p : X → Bool) (xs : List X) → list_all p xs ≡ true → (x : X) → Has xs x → p x ≡ true
@@ -112,11 +112,11 @@ module _ {X : Type 0} where
 
   pub list_any_has : (p : X → Bool) (xs : List X) → list_any p xs ≡ true → (x : X) × Has xs x × (p x ≡ true)
   list_any_has p [] some = cc
-  list_any_has p (y ∷ ys) some = at (p y) refl some
+  list_any_has p (y ∷ ys) some = at (p y) refl some (λ h. list_any_has p ys h)
     where
-      at : (b : Bool) → p y ≡ b → (b || list_any p ys) ≡ true → (x : X) × Has (y ∷ ys) x × (p x ≡ true)
-      at true e h = (y, inl refl, e)
-      at false e h = let (x, k, is) = list_any_has p ys h in (x, inr k, is)
+      at : (b : Bool) → p y ≡ b → (b || list_any p ys) ≡ true → (list_any p ys ≡ true → (x : X) × Has ys x × (p x ≡ true)) → (x : X) × Has (y ∷ ys) x × (p x ≡ true)
+      at true e h more = (y, inl refl, e)
+      at false e h more = let (x, k, is) = more h in (x, inr k, is)
 
 module _ {X Y : Type 0} where
   pub has_map : (f : X → Y) (xs : List X) (x : X) → Has xs x → Has (map f xs) (f x)

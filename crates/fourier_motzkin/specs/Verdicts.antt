@@ -5,8 +5,8 @@ use Rattle.fourier_motzkin.specs.RowSets.{tidied}
 use Rattle.fourier_motzkin.specs.Elimination.{judged, eliminated}
 use Rattle.fourier_motzkin.specs.declared.elimination.Eliminated.{Eliminated}
 use Rattle.fourier_motzkin.specs.declared.elimination.Eliminated.TheVariants as set
-use Rattle.fourier_motzkin.specs.declared.verdict.Ruling.{Ruling}
-use Rattle.fourier_motzkin.specs.declared.verdict.Ruling.TheVariants.{Empty, Maybe, Wide}
+use Rattle.fourier_motzkin.specs.declared.verdicts.Ruling.{Ruling}
+use Rattle.fourier_motzkin.specs.declared.verdicts.Ruling.TheVariants.{Empty, Maybe, Wide}
 
 -- the ruling where the variables from number n - 1 down to 0 are eliminated in turn: the first False gives Empty,
 -- the first Wide gives Wide, and otherwise it is Maybe

@@ -14,11 +14,11 @@ pub mod row_set;
 #[cfg(test)]
 mod tests;
 mod tidying;
-pub mod verdict;
+pub mod verdicts;
 
 pub use elimination::{Eliminated, eliminate};
 pub use row_set::RowSet;
-pub use verdict::{Ruling, Scan, bounds, verdict};
+pub use verdicts::{Ruling, Scan, bounds, verdict};
 
 /// Memory ran out. What was lent to the call is as before.
 pub type NoMemory = std::alloc::AllocError;
