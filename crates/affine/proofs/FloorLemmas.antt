@@ -1,7 +1,7 @@
 -- Division rounded down.
 use Rattle.std.proofs.Common.{◌≡◌, refl, sym, ◌∙◌, ap, ℕ, zero, suc, ◌+◌, ◌-◌, ◌*◌, ◌/◌, ◌%◌, ◌<◌, ◌≤◌, ℤ, pos, negsuc, ◌+ℤ◌, ◌*ℤ◌, ◌≤ℤ◌, ◌<ℤ◌, ◌↔◌, unsigned_abs, arith, div-one}
 use Rattle.std.proofs.Math.IntN.{pos-*ℤ-pos, pos-*ℤ-negsuc, *ℤ-one, neg_ℤ}
-use Rattle.std.proofs.Math.Nat.{div-add-mod, mod-lt, mul-div_cancel'}
+use Rattle.std.proofs.Math.Nat.{div-add-mod, mod-lt, div-le_self, mul-div_cancel'}
 use Rattle.std.proofs.lemmas.Int.{ints, by_lt_z}
 use Rattle.std.specs.Int.{int_div_euclid, int_rem_euclid, ◌∣◌}
 use Rattle.affine.proofs.IntegerLemmas.{mul-add, mul-≤ℤ, mul-neg}
@@ -79,3 +79,8 @@ mul-floor z n h = let m = multiple-of z h in rw (m.1, floor-mul m.0 n) refl
         let e = mul-div_cancel' (suc n) k in
         let turned : pos (suc n) *ℤ neg_ℤ (pos q) ≡ neg_ℤ (pos (suc n * q)) = mul-neg (pos (suc n)) (pos q) in
         (neg_ℤ (pos q), omega (arith, ints))
+
+-- a quotient is no greater in size than the number
+pub abs-floor : (z : ℤ) (n : ℕ) → unsigned_abs (int_div_euclid z (pos (suc n))) ≤ unsigned_abs z
+abs-floor (pos a) n = div-le_self a (suc n)
+abs-floor (negsuc a) n = let h = div-le_self a (suc n) in omega (arith, h)

@@ -1,18 +1,18 @@
 -- The normal form of a row.
-use Rattle.std.proofs.Common.{◌≡◌, refl, sym, ◌∙◌, ap, ℕ, zero, suc, max, ◌≤◌, ℤ, pos, negsuc, ◌+ℤ◌, ◌*ℤ◌, ◌≤ℤ◌, ◌↔◌, unsigned_abs, List, [], ◌∷◌, length, map, subst, ◌+◌, ◌*◌, arith}
+use Rattle.std.proofs.Common.{◌≡◌, refl, sym, ◌∙◌, ap, ℕ, zero, suc, max, ◌≤◌, ℤ, pos, negsuc, ◌+ℤ◌, ◌*ℤ◌, ◌≤ℤ◌, ◌↔◌, unsigned_abs, List, [], ◌∷◌, length, map, subst, get_or, le_refl, ◌+◌, ◌*◌, arith}
 use Rattle.std.specs.Int.{int_div_euclid, ◌∣◌}
 use Rattle.std.proofs.lemmas.List.{length-map}
 use Rattle.std.proofs.lemmas.List.Elements.{All-head, All-tail, All-weaker, All-map}
-use Rattle.std.proofs.Math.Nat.{eq-one_of_dvd-one, dvd_of_mul-dvd-mul_left, mul-dvd-mul_left}
+use Rattle.std.proofs.Math.Nat.{zero-div, eq-one_of_dvd-one, dvd_of_mul-dvd-mul_left, mul-dvd-mul_left}
 use Rattle.std.proofs.lemmas.Int.{unsigned_abs-mul}
 use Rattle.std.specs.List.{All}
 use Rattle.affine.specs.declared.row.Row.{Row}
 use Rattle.affine.specs.Divisors.{common_divisor}
-use Rattle.affine.specs.Rows.{row_of, row_over, normal, variables, Meets}
+use Rattle.affine.specs.Rows.{row_of, row_over, normal, variables, coefficient, IsConstant, Meets}
 use Rattle.affine.specs.Sums.{dot}
-use Rattle.affine.proofs.FloorLemmas.{floor-one, mul-floor, non_negative-floor}
+use Rattle.affine.proofs.FloorLemmas.{floor-one, abs-floor, mul-floor, non_negative-floor}
 use Rattle.affine.proofs.SumLemmas.{dot-map_mul}
-use Rattle.affine.proofs.DivisorLemmas.{IsGreatestDivisor-common_divisor}
+use Rattle.affine.proofs.DivisorLemmas.{common_divisor-≤, IsGreatestDivisor-common_divisor}
 
 map-floor_one : (xs : List ℤ) → map (λ x. int_div_euclid x (pos 1)) xs ≡ xs
 map-floor_one [] = refl
@@ -85,3 +85,45 @@ variables-normal row = variables-row_over (common_divisor row.coef.items) row
     variables-row_over : (g : ℕ) (r : Row) → variables (row_over g r) ≡ variables r
     variables-row_over zero r = refl
     variables-row_over (suc n) r = length-map r.coef.items _
+
+-- ---- sizes, and variables
+
+All-row_over : (g : ℕ) (row : Row) (most : ℕ) → All (λ x. unsigned_abs x ≤ most) row.coef.items → All (λ x. unsigned_abs x ≤ most) (row_over g row).coef.items
+All-row_over zero row most h = h
+All-row_over (suc n) row most h =
+    All-map (λ x. unsigned_abs x ≤ most) (λ x. int_div_euclid x (pos (suc n))) row.coef.items
+      (All-weaker (λ x. unsigned_abs x ≤ most) (λ x. unsigned_abs (int_div_euclid x (pos (suc n))) ≤ most) (λ x k. let small = abs-floor x n in omega (arith, small)) row.coef.items h)
+
+-- the coefficients of the normal form are no greater in size
+pub All-normal : (row : Row) (most : ℕ) → All (λ x. unsigned_abs x ≤ most) row.coef.items → All (λ x. unsigned_abs x ≤ most) (normal row).coef.items
+unfolding normal
+All-normal row most h = All-row_over (common_divisor row.coef.items) row most h
+
+pub abs-cst-normal : (row : Row) → unsigned_abs (normal row).cst ≤ unsigned_abs row.cst
+unfolding normal
+abs-cst-normal row = abs-row_over (common_divisor row.coef.items) row
+  where
+    abs-row_over : (g : ℕ) (r : Row) → unsigned_abs (row_over g r).cst ≤ unsigned_abs r.cst
+    abs-row_over zero r = le_refl _
+    abs-row_over (suc n) r = abs-floor r.cst n
+
+-- a variable that the row doesn't have stays away
+pub coefficient-normal_zero : (row : Row) (v : ℕ) → coefficient row v ≡ pos 0 → coefficient (normal row) v ≡ pos 0
+unfolding normal
+coefficient-normal_zero row v h = by (common_divisor row.coef.items)
+  where
+    get-map : (n : ℕ) (xs : List ℤ) (i : ℕ) → get_or xs i (pos 0) ≡ pos 0 → get_or (map (λ x. int_div_euclid x (pos (suc n))) xs) i (pos 0) ≡ pos 0
+    get-map n [] i e = refl
+    get-map n (x ∷ xs) zero e = rw e (ap pos (zero-div (suc n)))
+    get-map n (x ∷ xs) (suc i) e = get-map n xs i e
+    by : (g : ℕ) → coefficient (row_over g row) v ≡ pos 0
+    by zero = h
+    by (suc n) = get-map n row.coef.items v h
+
+-- a row without variables stays
+pub normal-constant : (row : Row) → IsConstant row → normal row ≡ row
+unfolding normal
+normal-constant row h = rw (common_divisor-zero row.coef.items h) refl
+  where
+    common_divisor-zero : (xs : List ℤ) → All (λ x. x ≡ pos 0) xs → common_divisor xs ≡ 0
+    common_divisor-zero xs k = let small = common_divisor-≤ xs 0 (All-weaker (λ x. x ≡ pos 0) (λ x. unsigned_abs x ≤ 0) (λ x e. rw e (le_refl 0)) xs k) in omega (arith, small)
