@@ -1,9 +1,9 @@
 -- Division rounded down.
 use Rattle.std.proofs.Common.{◌≡◌, refl, sym, ◌∙◌, ap, ℕ, zero, suc, ◌+◌, ◌-◌, ◌*◌, ◌/◌, ◌%◌, ◌<◌, ◌≤◌, ℤ, pos, negsuc, ◌+ℤ◌, ◌*ℤ◌, ◌≤ℤ◌, ◌<ℤ◌, ◌↔◌, unsigned_abs, arith, div-one}
 use Rattle.std.proofs.Math.IntN.{pos-*ℤ-pos, pos-*ℤ-negsuc, *ℤ-one, neg_ℤ}
-use Rattle.std.proofs.Math.Nat.{div-add-mod, mod-lt}
+use Rattle.std.proofs.Math.Nat.{div-add-mod, mod-lt, div-le_self, mul-div_cancel'}
 use Rattle.std.proofs.lemmas.Int.{ints, by_lt_z}
-use Rattle.std.specs.Int.{int_div_euclid, int_rem_euclid}
+use Rattle.std.specs.Int.{int_div_euclid, int_rem_euclid, ◌∣◌}
 use Rattle.affine.proofs.IntegerLemmas.{mul-add, mul-≤ℤ, mul-neg}
 
 below-divisor : (a n : ℕ) → a % suc n < suc n
@@ -67,3 +67,20 @@ floor-mul v n =
 pub floor-one : (z : ℤ) → int_div_euclid z (pos 1) ≡ z
 floor-one (pos a) = ap pos (div-one a)
 floor-one (negsuc a) = ap negsuc (div-one a)
+
+-- the quotient of a multiple times the divisor
+pub mul-floor : (z : ℤ) (n : ℕ) → suc n ∣ unsigned_abs z → pos (suc n) *ℤ int_div_euclid z (pos (suc n)) ≡ z
+mul-floor z n h = let m = multiple-of z h in rw (m.1, floor-mul m.0 n) refl
+  where
+    multiple-of : (y : ℤ) → suc n ∣ unsigned_abs y → (v : ℤ) × (y ≡ pos (suc n) *ℤ v)
+    multiple-of (pos a) k = (pos (a / suc n), let e = mul-div_cancel' (suc n) k in omega (arith, ints))
+    multiple-of (negsuc a) k =
+        let q = suc a / suc n in
+        let e = mul-div_cancel' (suc n) k in
+        let turned : pos (suc n) *ℤ neg_ℤ (pos q) ≡ neg_ℤ (pos (suc n * q)) = mul-neg (pos (suc n)) (pos q) in
+        (neg_ℤ (pos q), omega (arith, ints))
+
+-- a quotient is no greater in size than the number
+pub abs-floor : (z : ℤ) (n : ℕ) → unsigned_abs (int_div_euclid z (pos (suc n))) ≤ unsigned_abs z
+abs-floor (pos a) n = div-le_self a (suc n)
+abs-floor (negsuc a) n = let h = div-le_self a (suc n) in omega (arith, h)

@@ -1,3 +1,4 @@
 pub mod Divisors
+pub mod Laws
 pub mod Rows
 pub mod Sums
