@@ -1,2 +1,6 @@
+pub mod Combinations
+pub mod Entries
 pub mod Members
 pub mod Sets
+pub mod Sizes
+pub mod Steps

@@ -17,7 +17,7 @@ use Rattle.fourier_motzkin.proofs.Members.{Has, all_has, all_from, has_left, has
 pub compare_total : IsTotalOrder compare
 compare_total = on_total (λ (row : Row). row.coef.items) (lists_total int_cmp_total)
 
-tied_lists : (xs ys : List ℤ) → slice_cmp int_cmp xs ys ≡ Equal → xs ≡ ys
+pub tied_lists : (xs ys : List ℤ) → slice_cmp int_cmp xs ys ≡ Equal → xs ≡ ys
 tied_lists [] [] e = refl
 tied_lists [] (y ∷ ys) e = cc
 tied_lists (x ∷ xs) [] e = cc
@@ -301,3 +301,11 @@ with_rows-is rows = least_unique (told rows) (with_rows [] rows) (least_gathered
 
 pub least_tidied : (rows : List Row) → IsLeast (told rows) (tidied rows)
 least_tidied rows = subst (λ set. IsLeast (told rows) set) (with_rows-is rows) (least_gathered rows)
+
+pub with_row-nothing : (row n : Row) (set : List Row) (b : Bool) → n ≡ normal row → b ≡ says_nothing n → b ≡ true → with_row row set ≡ set
+unfolding with_row
+with_row-nothing row n set b e f t = rw (← e, ← f, t) refl
+
+pub with_row-tells : (row n : Row) (set : List Row) (b : Bool) → n ≡ normal row → b ≡ says_nothing n → b ≡ false → with_row row set ≡ kept n set
+unfolding with_row
+with_row-tells row n set b e f t = rw (← e, ← f, t) refl

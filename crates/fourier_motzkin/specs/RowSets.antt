@@ -86,7 +86,7 @@ is_wide_number number = nat_lt (2 ^ 62) (unsigned_abs number)
 abbrev pub is_wide : Row → Bool
 is_wide row = list_any is_wide_number row.coef.items || is_wide_number row.cst
 
--- each number of the row is at most 2^62 in size
-pub record IsNarrow (row : Row) : Type 0 where
-  pub coef : All (λ number. unsigned_abs number ≤ 2 ^ 62) row.coef.items
-  pub cst : unsigned_abs row.cst ≤ 2 ^ 62
+-- each number of the row is at most so large
+pub record IsWithin (most : ℕ) (row : Row) : Type 0 where
+  pub coef : All (λ number. unsigned_abs number ≤ most) row.coef.items
+  pub cst : unsigned_abs row.cst ≤ most
