@@ -4,3 +4,4 @@ pub mod Members
 pub mod Sets
 pub mod Sizes
 pub mod Steps
+pub mod Points

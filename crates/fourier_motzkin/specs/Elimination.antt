@@ -3,7 +3,7 @@ use Rattle.std.specs.Prelude.{◌≡◌, ℕ, ℤ, pos, neg_ℤ, Bool, ◌||◌,
 use Rattle.std.specs.Ordering.{int_eq}
 use Rattle.std.specs.List.{All, flat_map, list_any}
 use Rattle.affine.specs.declared.row.Row.{Row}
-use Rattle.affine.specs.Rows.{coefficient, combination, variables}
+use Rattle.affine.specs.Rows.{Meets, coefficient, combination, variables}
 use Rattle.fourier_motzkin.specs.RowSets.{tidied, is_false, is_wide}
 use Rattle.fourier_motzkin.specs.declared.elimination.Eliminated.{Eliminated}
 use Rattle.fourier_motzkin.specs.declared.elimination.Eliminated.TheVariants.{False, Wide, Rows}
@@ -40,3 +40,9 @@ eliminated variable rows = judged (tidied (projected variable rows))
 -- every row has so many variables
 abbrev pub AllOver : ℕ → List Row → Type 0
 AllOver n rows = All (λ row. variables row ≡ n) rows
+
+-- a point meets what is said of a set: none meets False, each meets Wide, and rows are met where each row is
+abbrev pub MeetsSaid : List ℤ → Eliminated → Type 0
+MeetsSaid point False = ⊥
+MeetsSaid point Wide = Unit {0}
+MeetsSaid point (Rows rows) = All (Meets point) rows
