@@ -5,3 +5,4 @@ pub mod Sets
 pub mod Sizes
 pub mod Steps
 pub mod Points
+pub mod Orders

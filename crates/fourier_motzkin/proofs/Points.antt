@@ -19,11 +19,11 @@ use Rattle.fourier_motzkin.specs.declared.verdicts.Ruling.TheVariants.{Empty, Ma
 use Rattle.fourier_motzkin.proofs.Members.{Has, All_from, All_has, has_filter, filter_has, has_map, map_has, has_cases, flat_map_has, list_any_has, list_all_has}
 use Rattle.fourier_motzkin.proofs.Sets.{IsLeast, least_tidied, tied_coefficients}
 
-both_first : (a b : Bool) → (a && b) ≡ true → a ≡ true
+pub both_first : (a b : Bool) → (a && b) ≡ true → a ≡ true
 both_first true b h = refl
 both_first false b h = h
 
-both_second : (a b : Bool) → (a && b) ≡ true → b ≡ true
+pub both_second : (a b : Bool) → (a && b) ≡ true → b ≡ true
 both_second true b h = h
 both_second false b h = cc
 
@@ -61,10 +61,10 @@ false_unmet row point h met =
 
 -- tidying
 
-told_from : (rows : List Row) (row : Row) → Has (told rows) row → (given : Row) × Has rows given × (row ≡ normal given)
+pub told_from : (rows : List Row) (row : Row) → Has (told rows) row → (given : Row) × Has rows given × (row ≡ normal given)
 told_from rows row h = map_has normal rows row (filter_has (λ row. not (says_nothing row)) (map normal rows) row h).0
 
-has_told : (rows : List Row) (row : Row) → Has rows row → says_nothing (normal row) ≡ false → Has (told rows) (normal row)
+pub has_told : (rows : List Row) (row : Row) → Has rows row → says_nothing (normal row) ≡ false → Has (told rows) (normal row)
 has_told rows row h e = has_filter (λ row. not (says_nothing row)) (map normal rows) (normal row) (has_map normal rows row h) (ap not e)
 
 pub tidied_met : (rows : List Row) (point : List ℤ) → All (Meets point) rows → All (Meets point) (tidied rows)
