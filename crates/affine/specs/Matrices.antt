@@ -1,6 +1,7 @@
 -- Square matrices of whole numbers, as the list of their rows.
-use Rattle.std.specs.Prelude.{◌≡◌, ℕ, ℤ, pos, negsuc, List, [], ◌∷◌, map, replicate, slice_set, slice_index_or, refl}
-use Rattle.std.specs.List.{range_with_len}
+use Rattle.std.specs.Prelude.{◌≡◌, ℕ, ℤ, pos, negsuc, List, [], ◌∷◌, map, replicate, slice_set, slice_index_or, ◌^◌, refl}
+use Rattle.std.specs.List.{All, range_with_len}
+use Rattle.affine.specs.Forms.{AllWithinSize}
 use Rattle.affine.specs.Sums.{dot, weighted}
 
 -- the product with a point: the sum of each row's products with it
@@ -25,3 +26,7 @@ identity-two = refl
 -- the second row with once the first maps (4, 7) to (4, 11)
 product-skew : product (skew (identity 2) 1 0 (pos 1)) (pos 4 ∷ pos 7 ∷ []) ≡ pos 4 ∷ pos 11 ∷ []
 product-skew = refl
+
+-- every entry is at most 2^20 in size
+abbrev pub HasSmallEntries : List (List ℤ) → Type 0
+HasSmallEntries rows = All (AllWithinSize (2 ^ 20)) rows

@@ -21,7 +21,7 @@ pub fn dot<const D: usize>(coef: &[i64; D], point: &[i64; D]) -> i128
 }
 
 /// A sum and a product.
-fn with_product(sum: i128, x: i64, y: i64) -> i128
+pub fn with_product(sum: i128, x: i64, y: i64) -> i128
     requires { FitsSigned w128 (sum +ℤ x *ℤ y) }
     ensures { result ≡ sum +ℤ x *ℤ y }
 {
