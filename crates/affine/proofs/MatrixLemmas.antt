@@ -2,7 +2,6 @@
 use Rattle.std.proofs.Common.{◌≡◌, refl, sym, ◌∙◌, ap, subst, ℕ, zero, suc, ◌<◌, ◌≤◌, ◌+◌, ◌^◌, ℤ, pos, ◌+ℤ◌, ◌*ℤ◌, unsigned_abs, List, [], ◌∷◌, ◌++◌, length, get_or, set, take, map, replicate, FitsSigned, lit≤, arith}
 use Rattle.std.specs.Int.{w64}
 use Rattle.std.specs.List.{All, range_with_len}
-use Rattle.std.proofs.Math.IntN.{one, *ℤ-one, *ℤ_comm}
 use Rattle.std.proofs.lemmas.Int.{fits_signed_from_abs, ints}
 use Rattle.std.proofs.lemmas.List.{take_more, take_more_set, take_all, map-append}
 use Rattle.std.proofs.lemmas.List.FromFn.{map-range_with_len_more}
@@ -10,6 +9,7 @@ use Rattle.std.proofs.lemmas.List.Elements.{All-map, All-set, All-replicate, All
 use Rattle.affine.specs.Forms.{AllWithinSize}
 use Rattle.affine.specs.Matrices.{identity, unit_row, product, skew, HasSmallEntries}
 use Rattle.affine.specs.Sums.{dot, weighted}
+use Rattle.affine.proofs.IntegerLemmas.{one-*ℤ}
 use Rattle.affine.proofs.SumLemmas.{get_or-weighted, length-weighted}
 
 -- ---- loops that write row by row, or entry by entry
@@ -22,14 +22,10 @@ map_step f xs ys i d y h k e done = rw (take_more_set ys i y k, take_more xs i d
 pub map-range_step : {Y : Type 0} (f : ℕ → Y) (ys : List Y) (i : ℕ) (y : Y) → i < length ys → y ≡ f i → take i ys ≡ map f (range_with_len 0 i) → take (i + 1) (set ys i y) ≡ map f (range_with_len 0 (i + 1))
 map-range_step f ys i y k e done = rw (take_more_set ys i y k, map-range_with_len_more f 0 i i (omega arith), e, done) refl
 
-one-mul : (x : ℤ) → pos 1 *ℤ x ≡ x
-unfolding one
-one-mul x = *ℤ_comm (pos 1) x ∙ *ℤ-one x
-
 pub weighted_more : (m : ℤ) (xs ys : List ℤ) (i : ℕ) → i < length xs → i < length ys → weighted (pos 1) (take (i + 1) xs) m (take (i + 1) ys) ≡ weighted (pos 1) (take i xs) m (take i ys) ++ (get_or xs i (pos 0) +ℤ m *ℤ get_or ys i (pos 0)) ∷ []
 weighted_more m [] ys i h k = absurd (omega arith)
 weighted_more m (x ∷ xs) [] i h k = absurd (omega arith)
-weighted_more m (x ∷ xs) (y ∷ ys) zero h k = rw (one-mul x) refl
+weighted_more m (x ∷ xs) (y ∷ ys) zero h k = rw (one-*ℤ x) refl
 weighted_more m (x ∷ xs) (y ∷ ys) (suc i) h k =
     let e : suc i + 1 ≡ suc (i + 1) = omega arith in
     rw (e, weighted_more m xs ys i (omega arith) (omega arith)) refl
@@ -41,7 +37,7 @@ weighted_step m xs ys zs i z h k l e done = rw (take_more_set zs i z l, weighted
 pub fits_from_small : (m : ℤ) (xs ys : List ℤ) (i : ℕ) → AllWithinSize (2 ^ 20) (weighted (pos 1) xs m ys) → length xs ≡ length ys → i < length xs → FitsSigned w64 (get_or xs i (pos 0) +ℤ m *ℤ get_or ys i (pos 0))
 fits_from_small m xs ys i small same h =
     let short : i < length (weighted (pos 1) xs m ys) = omega (arith, length-weighted (pos 1) xs m ys same) in
-    let entry : get_or (weighted (pos 1) xs m ys) i (pos 0) ≡ get_or xs i (pos 0) +ℤ m *ℤ get_or ys i (pos 0) = rw one-mul at (get_or-weighted (pos 1) xs m ys i h (omega arith)) in
+    let entry : get_or (weighted (pos 1) xs m ys) i (pos 0) ≡ get_or xs i (pos 0) +ℤ m *ℤ get_or ys i (pos 0) = rw one-*ℤ at (get_or-weighted (pos 1) xs m ys i h (omega arith)) in
     let size = rw entry at (small i (pos 0) short) in
     fits_signed_from_abs w64 _ (omega (arith, size))
 

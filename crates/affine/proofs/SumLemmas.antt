@@ -1,6 +1,6 @@
 -- Sums of products, place by place.
 use Rattle.std.proofs.Common.{◌≡◌, refl, sym, ◌∙◌, ap, ℕ, zero, suc, ◌<◌, ◌≤◌, ◌+◌, ◌*◌, ◌^◌, ℤ, pos, ◌+ℤ◌, ◌*ℤ◌, unsigned_abs, List, [], ◌∷◌, ◌++◌, length, get_or, map, take, add-one, arith}
-use Rattle.std.proofs.Math.IntN.{+ℤ_idr, +ℤ_idl, zero-*ℤ, *ℤ-zero}
+use Rattle.std.proofs.Math.IntN.{+ℤ_idr, +ℤ_idl, zero-*ℤ, *ℤ-zero, *ℤ_comm}
 use Rattle.std.proofs.lemmas.Int.{ints, unsigned_abs-mul}
 use Rattle.std.proofs.lemmas.List.Elements.{All-head, All-tail}
 use Rattle.std.specs.List.{All}
@@ -77,3 +77,14 @@ abs-dot (x ∷ xs) (y ∷ ys) most range h k =
     let one = dot-step-size (dot xs ys) x y (length xs) most range rest (All-head (λ z. unsigned_abs z ≤ most) x xs h) (All-head (λ z. unsigned_abs z ≤ range) y ys k) in
     let turned : x *ℤ y +ℤ dot xs ys ≡ dot xs ys +ℤ x *ℤ y = omega (arith, ints) in
     rw (turned, ← add-one) one
+
+-- ---- linear in the point too
+
+pub dot_comm : (xs ys : List ℤ) → dot xs ys ≡ dot ys xs
+dot_comm [] [] = refl
+dot_comm [] (y ∷ ys) = refl
+dot_comm (x ∷ xs) [] = refl
+dot_comm (x ∷ xs) (y ∷ ys) = rw (dot_comm xs ys, *ℤ_comm x y) refl
+
+pub dot-weighted_point : (row : List ℤ) (q : ℤ) (x : List ℤ) (p : ℤ) (y : List ℤ) → length x ≡ length y → dot row (weighted q x p y) ≡ q *ℤ dot row x +ℤ p *ℤ dot row y
+dot-weighted_point row q x p y h = rw (dot_comm row (weighted q x p y), dot_comm row x, dot_comm row y) (dot-weighted q x p y row h)

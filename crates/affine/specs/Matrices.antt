@@ -1,5 +1,5 @@
 -- Square matrices of whole numbers, as the list of their rows.
-use Rattle.std.specs.Prelude.{◌≡◌, ℕ, ℤ, pos, negsuc, List, [], ◌∷◌, map, replicate, slice_set, slice_index_or, ◌^◌, refl}
+use Rattle.std.specs.Prelude.{◌≡◌, ℕ, ℤ, pos, negsuc, List, [], ◌∷◌, map, replicate, slice_set, slice_index_or, ◌^◌, length, refl}
 use Rattle.std.specs.List.{All, range_with_len}
 use Rattle.affine.specs.Forms.{AllWithinSize}
 use Rattle.affine.specs.Sums.{dot, weighted}
@@ -30,3 +30,7 @@ product-skew = refl
 -- every entry is at most 2^20 in size
 abbrev pub HasSmallEntries : List (List ℤ) → Type 0
 HasSmallEntries rows = All (AllWithinSize (2 ^ 20)) rows
+
+-- equal products come from equal points of n numbers only
+abbrev pub IsOneToOne : ℕ → List (List ℤ) → Type 0
+IsOneToOne n rows = (first second : List ℤ) → length first ≡ n → length second ≡ n → product rows first ≡ product rows second → first ≡ second

@@ -1,6 +1,6 @@
 //! Laws: functions that do nothing, each with a law of the definitions as its contract.
 
-ghost use Rattle.affine.specs.Laws.{DivisorIsGreatest, NormalKeepsPoints, NormalIsIdempotent, CombinationIsLinear};
+ghost use Rattle.affine.specs.Laws.{DivisorIsGreatest, NormalKeepsPoints, NormalIsIdempotent, CombinationIsLinear, IdentityKeepsPoints, ProductIsLinear, IdentityIsOneToOne, SwapKeepsOneToOne, SkewKeepsOneToOne};
 
 /// What Euclid's rule gives is the greatest common divisor.
 pub fn divisor_is_greatest()
@@ -23,5 +23,35 @@ pub fn normal_is_idempotent()
 /// The sum of a combination of two rows is the combination of their sums.
 pub fn combination_is_linear()
     ensures { CombinationIsLinear }
+{
+}
+
+/// The unit matrix maps each point to itself.
+pub fn identity_keeps_points()
+    ensures { IdentityKeepsPoints }
+{
+}
+
+/// The product with a combination of two points is the combination of their products.
+pub fn product_is_linear()
+    ensures { ProductIsLinear }
+{
+}
+
+/// The unit matrix maps whole-number points one to one.
+pub fn identity_is_one_to_one()
+    ensures { IdentityIsOneToOne }
+{
+}
+
+/// An exchange of two rows keeps a matrix one to one on whole-number points.
+pub fn swap_keeps_one_to_one()
+    ensures { SwapKeepsOneToOne }
+{
+}
+
+/// A row that gains a multiple of another keeps a matrix one to one on whole-number points.
+pub fn skew_keeps_one_to_one()
+    ensures { SkewKeepsOneToOne }
 {
 }
