@@ -84,3 +84,9 @@ mul-floor z n h = let m = multiple-of z h in rw (m.1, floor-mul m.0 n) refl
 pub abs-floor : (z : ℤ) (n : ℕ) → unsigned_abs (int_div_euclid z (pos (suc n))) ≤ unsigned_abs z
 abs-floor (pos a) n = div-le_self a (suc n)
 abs-floor (negsuc a) n = let h = div-le_self a (suc n) in omega (arith, h)
+
+-- the same for a divisor that is above 0
+pub ≤ℤ-floor_by : (z d v : ℤ) → pos 0 <ℤ d → ((d *ℤ v) ≤ℤ z) ↔ (v ≤ℤ int_div_euclid z d)
+≤ℤ-floor_by z (pos zero) v h = absurd (omega (arith, ints))
+≤ℤ-floor_by z (pos (suc n)) v h = ≤ℤ-floor z v n
+≤ℤ-floor_by z (negsuc n) v h = absurd (omega (arith, ints))

@@ -1,5 +1,6 @@
 -- Laws of rows and matrices, each for all of them and for all whole-number points.
-use Rattle.std.specs.Prelude.{◌≡◌, ◌↔◌, ℤ, pos, ◌+ℤ◌, ◌*ℤ◌, ◌≤ℤ◌, ◌<◌, ◌≢◌, ℕ, length, slice_index_or, swap, List, []}
+use Rattle.std.specs.Prelude.{◌≡◌, ◌↔◌, ℤ, pos, ◌+ℤ◌, ◌*ℤ◌, ◌≤ℤ◌, ◌<ℤ◌, ◌<◌, ◌≢◌, ℕ, length, slice_index_or, swap, List, []}
+use Rattle.std.specs.Int.{int_div_euclid}
 use Rattle.affine.specs.declared.row.Row.{Row}
 use Rattle.affine.specs.Matrices.{product, identity, skew, IsOneToOne}
 use Rattle.affine.specs.Sums.{weighted}
@@ -9,6 +10,10 @@ use Rattle.affine.specs.Rows.{variables, sum_at, Meets, combination, normal}
 -- what Euclid's rule gives divides each number, and each number that divides them all divides it
 abbrev pub DivisorIsGreatest : Type 0
 DivisorIsGreatest = (numbers : List ℤ) → IsGreatestDivisor numbers (common_divisor numbers)
+
+-- division rounds down: the quotient is the greatest number whose product with the divisor is at most the number
+abbrev pub FloorIsGreatest : Type 0
+FloorIsGreatest = (number divisor v : ℤ) → pos 0 <ℤ divisor → ((divisor *ℤ v) ≤ℤ number) ↔ (v ≤ℤ int_div_euclid number divisor)
 
 -- a whole-number point meets a row exactly where it meets the row's normal form
 abbrev pub NormalKeepsPoints : Type 0

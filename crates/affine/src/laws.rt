@@ -1,10 +1,16 @@
 //! Laws: functions that do nothing, each with a law of the definitions as its contract.
 
-ghost use Rattle.affine.specs.Laws.{DivisorIsGreatest, NormalKeepsPoints, NormalIsIdempotent, CombinationIsLinear, IdentityKeepsPoints, ProductIsLinear, IdentityIsOneToOne, SwapKeepsOneToOne, SkewKeepsOneToOne};
+ghost use Rattle.affine.specs.Laws.{DivisorIsGreatest, FloorIsGreatest, NormalKeepsPoints, NormalIsIdempotent, CombinationIsLinear, IdentityKeepsPoints, ProductIsLinear, IdentityIsOneToOne, SwapKeepsOneToOne, SkewKeepsOneToOne};
 
 /// What Euclid's rule gives is the greatest common divisor.
 pub fn divisor_is_greatest()
     ensures { DivisorIsGreatest }
+{
+}
+
+/// Division rounds down.
+pub fn floor_is_greatest()
+    ensures { FloorIsGreatest }
 {
 }
 
