@@ -1,14 +1,14 @@
 -- Matrices, row by row.
-use Rattle.std.proofs.Common.{◌≡◌, refl, sym, ◌∙◌, ap, subst, ℕ, zero, suc, ◌<◌, ◌≤◌, ◌+◌, ◌^◌, ℤ, pos, ◌+ℤ◌, ◌*ℤ◌, unsigned_abs, List, [], ◌∷◌, ◌++◌, length, get_or, set, take, map, replicate, FitsSigned, lit≤, arith}
+use Rattle.std.proofs.Common.{◌≡◌, refl, sym, ◌∙◌, subst, ℕ, zero, suc, ◌<◌, ◌≤◌, ◌+◌, ◌^◌, ℤ, pos, ◌+ℤ◌, ◌*ℤ◌, unsigned_abs, List, [], ◌∷◌, ◌++◌, length, get_or, set, take, map, replicate, FitsSigned, lit≤, arith}
 use Rattle.std.specs.Int.{w64}
-use Rattle.std.specs.List.{All, range_with_len}
-use Rattle.std.proofs.lemmas.Int.{fits_signed_from_abs, ints}
+use Rattle.std.specs.List.{range_with_len}
+use Rattle.std.proofs.lemmas.Int.{fits_signed_from_abs}
 use Rattle.std.proofs.lemmas.List.{take_more, take_more_set, take_all, map-append}
 use Rattle.std.proofs.lemmas.List.FromFn.{map-range_with_len_more}
-use Rattle.std.proofs.lemmas.List.Elements.{All-map, All-set, All-replicate, All-weaker}
+use Rattle.std.proofs.lemmas.List.Elements.{All-map, All-set, All-replicate}
 use Rattle.affine.specs.Forms.{AllWithinSize}
-use Rattle.affine.specs.Matrices.{identity, unit_row, product, skew, HasSmallEntries}
-use Rattle.affine.specs.Sums.{dot, weighted}
+use Rattle.affine.specs.Matrices.{identity, unit_row, HasSmallEntries}
+use Rattle.affine.specs.Sums.{weighted}
 use Rattle.affine.proofs.IntegerLemmas.{one-*ℤ}
 use Rattle.affine.proofs.SumLemmas.{get_or-weighted, length-weighted}
 

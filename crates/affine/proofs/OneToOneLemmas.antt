@@ -1,6 +1,6 @@
 -- Matrices that map whole-number points one to one.
-use Rattle.std.proofs.Common.{◌≡◌, ◌≢◌, refl, sym, ◌∙◌, ap, ℕ, zero, suc, ◌<◌, ◌≤◌, ◌+◌, ℤ, pos, ◌+ℤ◌, ◌*ℤ◌, List, [], ◌∷◌, length, get_or, set, map, replicate, subst, ◌⊎◌, inl, inr, arith}
-use Rattle.std.specs.List.{range_with_len, swap}
+use Rattle.std.proofs.Common.{◌≡◌, ◌≢◌, refl, sym, ◌∙◌, ap, ℕ, zero, suc, ◌<◌, ℤ, pos, ◌+ℤ◌, ◌*ℤ◌, List, [], ◌∷◌, length, get_or, replicate, subst, ◌⊎◌, inl, inr, arith}
+use Rattle.std.specs.List.{swap}
 use Rattle.std.proofs.Math.IntN.{zero-*ℤ, +ℤ_idl, +ℤ_idr}
 use Rattle.std.proofs.Math.ListN.{get_or-map}
 use Rattle.std.proofs.lemmas.Bool.{cases_eq}
@@ -38,10 +38,13 @@ product-identity point = ext_get_or (pos 0) (product (identity (length point)) p
   where
     sums : List ℤ
     sums = product (identity (length point)) point
+
     long : length sums ≡ length point
     long = length-map (identity (length point)) (λ row. dot row point) ∙ length-map-range_with_len (unit_row (length point)) 0 (length point)
+
     row-at : (i : ℕ) → i < length point → get_or (identity (length point)) i [] ≡ unit_row (length point) i
     row-at i h = get_or-map-range_with_len (unit_row (length point)) 0 (length point) i i [] h (omega arith)
+
     same : (i : ℕ) → i < length sums → get_or sums i (pos 0) ≡ get_or point i (pos 0)
     same i h =
         let inside : i < length point = omega (arith, long) in
@@ -67,10 +70,13 @@ IsOneToOne-swap n rows a b in-a in-b one first second h k e =
   where
     Same : List ℤ → Type 0
     Same row = dot row first ≡ dot row second
+
     moved : Swapped (λ i. get_or rows i []) (λ i. get_or (swap rows a b) i []) a b
     moved = swapped_from_swap rows (swap rows a b) a b [] in-a in-b refl
+
     each : (i : ℕ) → Same (get_or (swap rows a b) i [])
     each = dots_from_product (swap rows a b) first second e
+
     by : (i : ℕ) → (i ≡ a) ⊎ (i ≡ a → ⊥) → (i ≡ b) ⊎ (i ≡ b → ⊥) → Same (get_or rows i [])
     by i (inl at) either = subst (λ j. Same (get_or rows j [])) (sym at) (subst Same moved.1 (each b))
     by i (inr off) (inl at) = subst (λ j. Same (get_or rows j [])) (sym at) (subst Same moved.0 (each a))
@@ -90,18 +96,25 @@ IsOneToOne-skew n rows a b m in-a apart long one first second h k e =
   where
     Same : List ℤ → Type 0
     Same row = dot row first ≡ dot row second
+
     gained : List ℤ
     gained = weighted (pos 1) (get_or rows a []) m (get_or rows b [])
+
     each : (i : ℕ) → Same (get_or (skew rows a b m) i [])
     each = dots_from_product (skew rows a b m) first second e
+
     other : (i : ℕ) → (i ≡ a → ⊥) → Same (get_or rows i [])
     other i off = subst Same (get_or-set_other rows a i gained [] off) (each i)
+
     whole : Same gained
     whole = subst Same (get_or-set_same rows a gained [] in-a) (each a)
+
     parts : (point : List ℤ) → dot gained point ≡ pos 1 *ℤ dot (get_or rows a []) point +ℤ m *ℤ dot (get_or rows b []) point
     parts point = dot-weighted (pos 1) (get_or rows a []) m (get_or rows b []) point long
+
     at-a : Same (get_or rows a [])
     at-a = same-first m _ _ _ _ (other b (λ at. apart (sym at))) (sym (parts first) ∙ (whole ∙ parts second))
+
     by : (i : ℕ) → (i ≡ a) ⊎ (i ≡ a → ⊥) → Same (get_or rows i [])
     by i (inl at) = subst (λ j. Same (get_or rows j [])) (sym at) at-a
     by i (inr off) = other i off

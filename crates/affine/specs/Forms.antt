@@ -1,5 +1,5 @@
 -- Affine forms: a sum of coefficients times counters, and a constant.
-use Rattle.std.specs.Prelude.{◌≡◌, ℕ, ℤ, pos, negsuc, ◌+ℤ◌, ◌≤◌, ◌^◌, List, [], ◌∷◌, unsigned_abs, refl}
+use Rattle.std.specs.Prelude.{◌≡◌, ℕ, ℤ, pos, ◌+ℤ◌, ◌≤◌, List, [], ◌∷◌, unsigned_abs, refl}
 use Rattle.std.specs.List.{All}
 use Rattle.affine.specs.Sums.{dot}
 

@@ -1,5 +1,5 @@
 -- Square matrices of whole numbers, as the list of their rows.
-use Rattle.std.specs.Prelude.{◌≡◌, ℕ, ℤ, pos, negsuc, List, [], ◌∷◌, map, replicate, slice_set, slice_index_or, ◌^◌, length, refl}
+use Rattle.std.specs.Prelude.{◌≡◌, ℕ, ℤ, pos, List, [], ◌∷◌, map, replicate, slice_set, slice_index_or, ◌^◌, length, refl}
 use Rattle.std.specs.List.{All, range_with_len}
 use Rattle.affine.specs.Forms.{AllWithinSize}
 use Rattle.affine.specs.Sums.{dot, weighted}

@@ -40,7 +40,10 @@ impl<const D: usize> Form<D> {
         ensures some { IsSome result ↔ AllWithinSize (2 ^ 40) coef.entry }
         ensures value { IfSome result (λ form. form ≡ record { coef = coef.entry; cst = cst }) }
     {
-        if coef.iter().all(|number| number.unsigned_abs() <= LARGEST_COEFFICIENT) {
+        if coef
+            .iter()
+            .all(|number| number.unsigned_abs() <= LARGEST_COEFFICIENT)
+        {
             Some(Form { coef, cst })
         } else {
             None

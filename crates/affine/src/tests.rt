@@ -33,7 +33,10 @@ fn constant_is_rounded_down(rt: HostRuntime) {
 
 #[test]
 fn coprime_row_stays(rt: HostRuntime) {
-    assert_eq!(rt; row(&[4_611_686_018_427_387_905, 1], 5).normal(), row(&[4_611_686_018_427_387_905, 1], 5));
+    assert_eq!(rt;
+        row(&[4_611_686_018_427_387_905, 1], 5).normal(),
+        row(&[4_611_686_018_427_387_905, 1], 5)
+    );
     assert_eq!(rt; row(&[0, 9, 10], -7).normal(), row(&[0, 9, 10], -7));
 }
 
@@ -66,7 +69,10 @@ fn form_has_exact_values(rt: HostRuntime) {
     let Some(largest) = Form::new([1_099_511_627_776; 6], i64::MIN) else {
         panic!(rt; "small coefficients");
     };
-    assert_eq!(rt; largest.at(&[i64::MIN; 6]), -60_847_228_810_964_234_643_878_608_633_856);
+    assert_eq!(rt;
+        largest.at(&[i64::MIN; 6]),
+        -60_847_228_810_964_234_643_878_608_633_856
+    );
 }
 
 #[test]

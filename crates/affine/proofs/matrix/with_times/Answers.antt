@@ -1,4 +1,4 @@
-use Rattle.std.proofs.Common.{◌≡◌, ◌<◌, List, [], length, pos, get_or, FitsSigned, arith, rules}
+use Rattle.std.proofs.Common.{◌≡◌, ◌<◌, length, pos, get_or, FitsSigned, arith, rules}
 use Rattle.std.specs.Int.{w64}
 use Rattle.std.proofs.lemmas.Int.{to_z-of_z}
 use Rattle.affine.proofs.MatrixLemmas.{weighted_step, fits_from_small}
@@ -25,5 +25,5 @@ loop-place-preserved g c =
     let is = simp to_z-of_z at c.plus_times.ensures in
     record {
       long = search rules;
-      done = simp to_z-of_z (weighted_step c.args.m c.args.row.now c.args.other.now c.loop-place.sums c.loop-place.place c.plus_times.result inside also room is (simp to_z-of_z at c.loop-place.invariant.done))
+      done = simp to_z-of_z (weighted_step c.args.m c.args.row.now c.args.other.now c.loop-place.sums c.loop-place.place c.plus_times.result inside also room is (simp to_z-of_z at c.loop-place.invariant.done));
     }

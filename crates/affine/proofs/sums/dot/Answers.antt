@@ -1,4 +1,4 @@
-use Rattle.std.proofs.Common.{◌≡◌, ◌<◌, ◌≤◌, ◌+◌, ◌*◌, ◌^◌, ℤ, pos, ◌+ℤ◌, ◌*ℤ◌, unsigned_abs, length, get_or, FitsSigned, arith, rules, to_z, of_z, w64}
+use Rattle.std.proofs.Common.{◌<◌, ◌^◌, pos, length, get_or, FitsSigned, arith, rules, to_z, w64}
 use Rattle.std.specs.Int.{w128}
 use Rattle.std.specs.Int.Signed.{nat_abs-le}
 use Rattle.std.proofs.lemmas.Int.{fits_signed_from_abs, to_z-of_z}
@@ -24,5 +24,5 @@ loop-place-preserved g c =
     let size = dot_more-size c.args.coef.now c.args.point.now c.loop-place.place (2 ^ 40) (2 ^ 63) (to_z w128 c.loop-place.sum-bits) inside c.requires.small (nat_abs-le (get_or c.args.point.now c.loop-place.place (pos 0)) y.sfits) c.loop-place.invariant.small in
     record {
       value = simp to_z-of_z (dot_more_is c.args.coef.now c.args.point.now c.loop-place.place (to_z w128 c.loop-place.sum-bits) c.with_product-sum.result inside within c.loop-place.invariant.value is);
-      small = simp to_z-of_z (rw is size)
+      small = simp to_z-of_z (rw is size);
     }

@@ -1,4 +1,4 @@
-use Rattle.std.proofs.Common.{◌≡◌, ◌≤◌, ◌^◌, ℤ, ◌+ℤ◌, ◌*ℤ◌, FitsSigned, lit<, to_z, of_z, w64}
+use Rattle.std.proofs.Common.{◌≡◌, ◌^◌, ℤ, ◌+ℤ◌, ◌*ℤ◌, FitsSigned, lit<, to_z, of_z, w64}
 use Rattle.std.proofs.Math.Facts.{sfits_widen}
 use Rattle.std.specs.Int.{w128}
 use Rattle.std.specs.Int.Signed.{nat_abs-le}

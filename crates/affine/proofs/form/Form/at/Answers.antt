@@ -1,4 +1,4 @@
-use Rattle.std.proofs.Common.{FitsSigned, ◌<◌, ◌+◌, ◌≤◌, ◌^◌, ℤ, ◌+ℤ◌, unsigned_abs, w64, rules, arith}
+use Rattle.std.proofs.Common.{FitsSigned, ◌+ℤ◌, w64, rules, arith}
 use Rattle.std.specs.Int.{w128}
 use Rattle.std.specs.Int.Signed.{nat_abs-le}
 use Rattle.std.proofs.lemmas.Int.{fits_signed_from_abs, to_z-of_z}

@@ -6,5 +6,5 @@ use Rattle.affine.proofs.matrix.Matrix.identity.Given as goal
 abbrev pub invariant-loop-place : goal.invariant-loop-place
 invariant-loop-place g l = record {
   long : length l.rows ≡ g.row.D;
-  done : take l.place l.rows ≡ map (unit_row g.row.D) (range_with_len 0 l.place)
+  done : take l.place l.rows ≡ map (unit_row g.row.D) (range_with_len 0 l.place);
 }
