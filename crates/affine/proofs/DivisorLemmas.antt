@@ -1,7 +1,7 @@
 -- Euclid's rule gives the greatest common divisor, and the same for a list of numbers.
 use Rattle.std.proofs.Common.{◌≡◌, refl, sym, ◌∙◌, ap, ℕ, zero, suc, ◌≤◌, ◌<◌, ◌%◌, List, [], ◌∷◌, ◌++◌, ℤ, pos, unsigned_abs, arith, ◌+◌, length, take, get_or}
 use Rattle.std.proofs.lemmas.List.{take_more, take_all}
-use Rattle.std.proofs.lemmas.Nat.Gcd.{IsGcd-from_zero, IsGcd-from_mod, IsGcd-swap, same_from_IsGcd, dvd-zero, dvd_refl, le_of_dvd, dvd_trans, dvd_antisymm}
+use Rattle.std.proofs.lemmas.Nat.Gcd.{IsGcd-from_zero, IsGcd-from_mod, same_from_IsGcd, dvd-zero, dvd_refl, le_of_dvd, dvd_trans, dvd_antisymm}
 use Rattle.std.proofs.lemmas.List.Elements.{All-nil, All-cons, All-head, All-tail, All-weaker, All-push}
 use Rattle.std.specs.List.{All}
 use Rattle.std.specs.Int.{IsGcd, ◌∣◌}
@@ -26,20 +26,21 @@ pub IsGreatestDivisor-nil : IsGreatestDivisor [] 0
 IsGreatestDivisor-nil = (All-nil (λ x. 0 ∣ unsigned_abs x), λ d h. dvd-zero d)
 
 pub IsGreatestDivisor-cons : (x : ℤ) (xs : List ℤ) (g k : ℕ) → IsGreatestDivisor xs g → IsGcd (unsigned_abs x) g k → IsGreatestDivisor (x ∷ xs) k
-IsGreatestDivisor-cons x xs g k rest first =
-    ( All-cons (λ y. k ∣ unsigned_abs y) x xs first.0 (All-weaker (λ y. g ∣ unsigned_abs y) (λ y. k ∣ unsigned_abs y) (λ y h. dvd_trans k first.1 h) xs rest.0)
-    , λ d h. first.2 d (All-head (λ y. d ∣ unsigned_abs y) x xs h) (rest.1 d (All-tail (λ y. d ∣ unsigned_abs y) x xs h))
-    )
+IsGreatestDivisor-cons x xs g k rest first = (
+  All-cons (λ y. k ∣ unsigned_abs y) x xs first.0 (All-weaker (λ y. g ∣ unsigned_abs y) (λ y. k ∣ unsigned_abs y) (λ y h. dvd_trans k first.1 h) xs rest.0),
+  λ d h. first.2 d (All-head (λ y. d ∣ unsigned_abs y) x xs h) (rest.1 d (All-tail (λ y. d ∣ unsigned_abs y) x xs h)),
+)
 
 pub IsGreatestDivisor-push : (x : ℤ) (xs : List ℤ) (g k : ℕ) → IsGreatestDivisor xs g → IsGcd (unsigned_abs x) g k → IsGreatestDivisor (xs ++ x ∷ []) k
-IsGreatestDivisor-push x xs g k rest last =
-    ( All-push (λ y. k ∣ unsigned_abs y) xs x (All-weaker (λ y. g ∣ unsigned_abs y) (λ y. k ∣ unsigned_abs y) (λ y h. dvd_trans k last.1 h) xs rest.0) last.0
-    , λ d h. last.2 d (All-last (λ y. d ∣ unsigned_abs y) xs x h) (rest.1 d (All-front (λ y. d ∣ unsigned_abs y) xs x h))
-    )
+IsGreatestDivisor-push x xs g k rest last = (
+  All-push (λ y. k ∣ unsigned_abs y) xs x (All-weaker (λ y. g ∣ unsigned_abs y) (λ y. k ∣ unsigned_abs y) (λ y h. dvd_trans k last.1 h) xs rest.0) last.0,
+  λ d h. last.2 d (All-last (λ y. d ∣ unsigned_abs y) xs x h) (rest.1 d (All-front (λ y. d ∣ unsigned_abs y) xs x h)),
+)
   where
     All-last : (P : ℤ → Type 0) (ys : List ℤ) (y : ℤ) → All P (ys ++ y ∷ []) → P y
     All-last P [] y h = All-head P y [] h
     All-last P (z ∷ zs) y h = All-last P zs y (All-tail P z (zs ++ y ∷ []) h)
+
     All-front : (P : ℤ → Type 0) (ys : List ℤ) (y : ℤ) → All P (ys ++ y ∷ []) → All P ys
     All-front P [] y h = All-nil P
     All-front P (z ∷ zs) y h = All-cons P z zs (All-head P z (zs ++ y ∷ []) h) (All-front P zs y (All-tail P z (zs ++ y ∷ []) h))

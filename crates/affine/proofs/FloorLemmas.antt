@@ -1,6 +1,6 @@
 -- Division rounded down.
-use Rattle.std.proofs.Common.{◌≡◌, refl, sym, ◌∙◌, ap, ℕ, zero, suc, ◌+◌, ◌-◌, ◌*◌, ◌/◌, ◌%◌, ◌<◌, ◌≤◌, ℤ, pos, negsuc, ◌+ℤ◌, ◌*ℤ◌, ◌≤ℤ◌, ◌<ℤ◌, ◌↔◌, unsigned_abs, arith, div-one}
-use Rattle.std.proofs.Math.IntN.{pos-*ℤ-pos, pos-*ℤ-negsuc, *ℤ-one, neg_ℤ}
+use Rattle.std.proofs.Common.{◌≡◌, refl, ap, ℕ, zero, suc, ◌+◌, ◌*◌, ◌/◌, ◌%◌, ◌<◌, ◌≤◌, ℤ, pos, negsuc, ◌+ℤ◌, ◌*ℤ◌, ◌≤ℤ◌, ◌<ℤ◌, ◌↔◌, unsigned_abs, arith, div-one}
+use Rattle.std.proofs.Math.IntN.{pos-*ℤ-negsuc, *ℤ-one, neg_ℤ}
 use Rattle.std.proofs.Math.Nat.{div-add-mod, mod-lt, div-le_self, mul-div_cancel'}
 use Rattle.std.proofs.lemmas.Int.{ints, by_lt_z}
 use Rattle.std.specs.Int.{int_div_euclid, int_rem_euclid, ◌∣◌}
@@ -19,10 +19,10 @@ pub floor-split : (z : ℤ) (n : ℕ) → z ≡ pos (suc n) *ℤ int_div_euclid 
 floor-split (pos a) n = let h = div-add-mod a (suc n) in omega (arith, ints)
 floor-split (negsuc a) n =
     rw (pos-*ℤ-negsuc (suc n) (a / suc n))
-      (let h = div-add-mod a (suc n) in
-       let k = below-divisor a n in
-       let more : suc n * suc (a / suc n) ≡ suc n * (a / suc n) + suc n = omega arith in
-       omega (arith, ints))
+    (let h = div-add-mod a (suc n) in
+    let k = below-divisor a n in
+    let more : suc n * suc (a / suc n) ≡ suc n * (a / suc n) + suc n = omega arith in
+    omega (arith, ints))
 
 -- what d times a quotient can reach, over plain numbers
 le-quotient : (d v q r z : ℤ) → pos 0 ≤ℤ d → r <ℤ d → z ≡ d *ℤ q +ℤ r → (d *ℤ v) ≤ℤ z → v ≤ℤ q
@@ -41,18 +41,18 @@ pub ≤ℤ-floor : (z v : ℤ) (n : ℕ) → ((pos (suc n) *ℤ v) ≤ℤ z) ↔
     let d = pos (suc n) in
     let q = int_div_euclid z d in
     let rest = floor-rest z n in
-    let split = floor-split z n in
-    ( λ h. le-quotient d v q (int_rem_euclid z d) z (omega (arith, ints)) rest.1 split h
-    , λ h. let k = mul-≤ℤ d v q (omega (arith, ints)) h in omega (arith, ints)
+    let split = floor-split z n in (
+      λ h. le-quotient d v q (int_rem_euclid z d) z (omega (arith, ints)) rest.1 split h,
+      λ h. let k = mul-≤ℤ d v q (omega (arith, ints)) h in omega (arith, ints),
     )
 
 -- a sum of a multiple of the divisor and z is at least 0 exactly where the sum of the quotients is
 pub non_negative-floor : (s z : ℤ) (n : ℕ) → (pos 0 ≤ℤ (pos (suc n) *ℤ s +ℤ z)) ↔ (pos 0 ≤ℤ (s +ℤ int_div_euclid z (pos (suc n))))
 non_negative-floor s z n =
     let both = ≤ℤ-floor z (neg_ℤ s) n in
-    let turned = mul-neg (pos (suc n)) s in
-    ( λ h. let k = both.0 (omega (arith, ints)) in omega (arith, ints)
-    , λ h. let k = both.1 (omega (arith, ints)) in omega (arith, ints)
+    let turned = mul-neg (pos (suc n)) s in (
+      λ h. let k = both.0 (omega (arith, ints)) in omega (arith, ints),
+      λ h. let k = both.1 (omega (arith, ints)) in omega (arith, ints),
     )
 
 -- the quotient of a multiple is exact
@@ -84,3 +84,9 @@ mul-floor z n h = let m = multiple-of z h in rw (m.1, floor-mul m.0 n) refl
 pub abs-floor : (z : ℤ) (n : ℕ) → unsigned_abs (int_div_euclid z (pos (suc n))) ≤ unsigned_abs z
 abs-floor (pos a) n = div-le_self a (suc n)
 abs-floor (negsuc a) n = let h = div-le_self a (suc n) in omega (arith, h)
+
+-- the same for a divisor that is above 0
+pub ≤ℤ-floor_by : (z d v : ℤ) → pos 0 <ℤ d → ((d *ℤ v) ≤ℤ z) ↔ (v ≤ℤ int_div_euclid z d)
+≤ℤ-floor_by z (pos zero) v h = absurd (omega (arith, ints))
+≤ℤ-floor_by z (pos (suc n)) v h = ≤ℤ-floor z v n
+≤ℤ-floor_by z (negsuc n) v h = absurd (omega (arith, ints))

@@ -1,6 +1,6 @@
 -- Products and sums of whole numbers.
-use Rattle.std.proofs.Common.{◌≡◌, refl, sym, ◌∙◌, ℕ, zero, suc, ℤ, pos, negsuc, ◌+ℤ◌, ◌*ℤ◌, neg_ℤ, ◌-ℤ◌, ◌≤ℤ◌, arith}
-use Rattle.std.proofs.Math.IntN.{suc_ℤ, pred_ℤ, suc_ℤ-+ℤ, pred_ℤ-+ℤ, suc_ℤ-*ℤ, pred_ℤ-*ℤ, +ℤ_idl, zero-*ℤ, *ℤ_comm, -ℤ-+ℤ_cancel, +ℤ_invr, *ℤ-zero}
+use Rattle.std.proofs.Common.{◌≡◌, refl, ◌∙◌, zero, suc, ℤ, pos, negsuc, ◌+ℤ◌, ◌*ℤ◌, neg_ℤ, ◌-ℤ◌, ◌≤ℤ◌, arith}
+use Rattle.std.proofs.Math.IntN.{suc_ℤ, pred_ℤ, suc_ℤ-+ℤ, pred_ℤ-+ℤ, suc_ℤ-*ℤ, pred_ℤ-*ℤ, +ℤ_idl, zero-*ℤ, one, *ℤ-one, *ℤ_comm, -ℤ-+ℤ_cancel, +ℤ_invr, *ℤ-zero}
 use Rattle.std.proofs.lemmas.Int.{ints}
 
 -- ---- a product of a sum
@@ -22,6 +22,10 @@ add-mul (negsuc (suc n)) b c = add-mul-pred (negsuc n) b c (add-mul (negsuc n) b
 
 pub mul-add : (a b c : ℤ) → a *ℤ (b +ℤ c) ≡ a *ℤ b +ℤ a *ℤ c
 mul-add a b c = rw (*ℤ_comm a (b +ℤ c), *ℤ_comm a b, *ℤ_comm a c) (add-mul b c a)
+
+pub one-*ℤ : (x : ℤ) → pos 1 *ℤ x ≡ x
+unfolding one
+one-*ℤ x = *ℤ_comm (pos 1) x ∙ *ℤ-one x
 
 -- ---- a product of three
 

@@ -1,5 +1,5 @@
 -- The normal form of a row.
-use Rattle.std.proofs.Common.{◌≡◌, refl, sym, ◌∙◌, ap, ℕ, zero, suc, max, ◌≤◌, ℤ, pos, negsuc, ◌+ℤ◌, ◌*ℤ◌, ◌≤ℤ◌, ◌↔◌, unsigned_abs, List, [], ◌∷◌, length, map, subst, get_or, le_refl, ◌+◌, ◌*◌, arith}
+use Rattle.std.proofs.Common.{◌≡◌, refl, ap, ℕ, zero, suc, max, ◌≤◌, ℤ, pos, ◌*ℤ◌, ◌↔◌, unsigned_abs, List, [], ◌∷◌, map, subst, get_or, le_refl, ◌*◌, arith}
 use Rattle.std.specs.Int.{int_div_euclid, ◌∣◌}
 use Rattle.std.proofs.lemmas.List.{length-map}
 use Rattle.std.proofs.lemmas.List.Elements.{All-head, All-tail, All-weaker, All-map}
@@ -92,7 +92,7 @@ All-row_over : (g : ℕ) (row : Row) (most : ℕ) → All (λ x. unsigned_abs x 
 All-row_over zero row most h = h
 All-row_over (suc n) row most h =
     All-map (λ x. unsigned_abs x ≤ most) (λ x. int_div_euclid x (pos (suc n))) row.coef.items
-      (All-weaker (λ x. unsigned_abs x ≤ most) (λ x. unsigned_abs (int_div_euclid x (pos (suc n))) ≤ most) (λ x k. let small = abs-floor x n in omega (arith, small)) row.coef.items h)
+    (All-weaker (λ x. unsigned_abs x ≤ most) (λ x. unsigned_abs (int_div_euclid x (pos (suc n))) ≤ most) (λ x k. let small = abs-floor x n in omega (arith, small)) row.coef.items h)
 
 -- the coefficients of the normal form are no greater in size
 pub All-normal : (row : Row) (most : ℕ) → All (λ x. unsigned_abs x ≤ most) row.coef.items → All (λ x. unsigned_abs x ≤ most) (normal row).coef.items
@@ -116,6 +116,7 @@ coefficient-normal_zero row v h = by (common_divisor row.coef.items)
     get-map n [] i e = refl
     get-map n (x ∷ xs) zero e = rw e (ap pos (zero-div (suc n)))
     get-map n (x ∷ xs) (suc i) e = get-map n xs i e
+
     by : (g : ℕ) → coefficient (row_over g row) v ≡ pos 0
     by zero = h
     by (suc n) = get-map n row.coef.items v h

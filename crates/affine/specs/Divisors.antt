@@ -1,5 +1,5 @@
 -- The greatest common divisor.
-use Rattle.std.specs.Prelude.{◌≡◌, ℕ, ℤ, pos, zero, suc, ◌%◌, List, [], ◌∷◌, unsigned_abs, refl}
+use Rattle.std.specs.Prelude.{◌≡◌, ℕ, ℤ, zero, suc, ◌%◌, List, [], ◌∷◌, unsigned_abs, refl}
 use Rattle.std.specs.Int.{◌∣◌}
 use Rattle.std.specs.List.{All}
 

@@ -1,7 +1,6 @@
-use Rattle.std.proofs.Common.{ℕ, ◌≡◌, ◌≤◌, ◌<◌, ◌^◌, max, pos, refl, arith}
+use Rattle.std.proofs.Common.{◌<◌, ◌^◌, refl, arith}
 use Rattle.std.specs.Int.{w128}
 use Rattle.std.proofs.lemmas.Int.{fits_signed_from_abs, to_z_pos}
-use Rattle.affine.specs.Divisors.{common_divisor}
 use Rattle.affine.proofs.DivisorLemmas.{common_divisor-≤}
 use Rattle.affine.proofs.row.Row.divisor.Goals as goal
 
