@@ -14,7 +14,7 @@ use Rattle.fourier_motzkin.specs.RowSets.{compare, is_constant, is_false, is_wid
 use Rattle.fourier_motzkin.specs.Elimination.{AllOver, MeetsSaid, bounds_above, bounds_below, crossed, eliminated, is_without, judged, projected}
 use Rattle.fourier_motzkin.specs.declared.elimination.Eliminated.{Eliminated}
 use Rattle.fourier_motzkin.specs.declared.elimination.Eliminated.TheVariants as set
-use Rattle.fourier_motzkin.specs.Verdicts.{ruling, verdict_of}
+use Rattle.fourier_motzkin.specs.Verdicts.{next, ruled, ruling, verdict_of}
 use Rattle.fourier_motzkin.specs.declared.verdicts.Ruling.TheVariants.{Empty, Maybe, Wide}
 use Rattle.fourier_motzkin.proofs.Members.{Has, All_from, All_has, has_filter, filter_has, has_map, map_has, has_cases, flat_map_has, list_any_has, list_all_has}
 use Rattle.fourier_motzkin.proofs.Sets.{IsLeast, least_tidied, tied_coefficients}
@@ -169,11 +169,24 @@ eliminated_over n variable rows over = judged_over n (tidied (projected variable
 
 -- the verdict
 
+pub next_over : (n variable : ℕ) (said : Eliminated) → OverSaid n said → OverSaid n (next variable said)
+next_over n variable set.False over = over
+next_over n variable set.Wide over = over
+next_over n variable (set.Rows rows) over = eliminated_over n variable rows over
+
+pub next_met : (n variable : ℕ) (said : Eliminated) (point : List ℤ) → OverSaid n said → MeetsSaid point said → MeetsSaid point (next variable said)
+next_met n variable set.False point over met = met
+next_met n variable set.Wide point over met = met
+next_met n variable (set.Rows rows) point over met = eliminated_met n variable rows point over met
+
+ruled_unmet : (said : Eliminated) (point : List ℤ) → ruled said ≡ Empty → MeetsSaid point said → ⊥
+ruled_unmet set.False point e met = met
+ruled_unmet set.Wide point e met = cc
+ruled_unmet (set.Rows rows) point e met = cc
+
 pub ruling_unmet : (n k : ℕ) (said : Eliminated) (point : List ℤ) → OverSaid n said → ruling k said ≡ Empty → MeetsSaid point said → ⊥
-ruling_unmet n k set.False point over e met = met
-ruling_unmet n k set.Wide point over e met = cc
-ruling_unmet n zero (set.Rows rows) point over e met = cc
-ruling_unmet n (suc k) (set.Rows rows) point over e met = ruling_unmet n k (eliminated k rows) point (eliminated_over n k rows over) e (eliminated_met n k rows point over met)
+ruling_unmet n zero said point over e met = ruled_unmet said point e met
+ruling_unmet n (suc k) said point over e met = ruling_unmet n k (next k said) point (next_over n k said over) e (next_met n k said point over met)
 
 pub verdict_unmet : (n : ℕ) (rows : List Row) (point : List ℤ) → AllOver n rows → verdict_of n rows ≡ Empty → All (Meets point) rows → ⊥
 unfolding verdict_of

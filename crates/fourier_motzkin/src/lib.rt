@@ -10,6 +10,7 @@
 #![tactic(auto)]
 
 pub mod elimination;
+pub mod laws;
 pub mod row_set;
 #[cfg(test)]
 mod tests;
