@@ -1,10 +1,10 @@
 -- Eliminating a variable from a tidied set of rows.
-use Rattle.std.specs.Prelude.{◌≡◌, ℕ, ℤ, pos, neg_ℤ, Bool, ◌||◌, nat_lt, int_lt, List, [], ◌∷◌, ◌++◌, map, filter, length, if◌then◌else◌}
+use Rattle.std.specs.Prelude.{◌≡◌, ◌^◌, ℕ, ℤ, pos, neg_ℤ, Bool, ◌||◌, nat_lt, int_lt, List, [], ◌∷◌, ◌++◌, map, filter, length, if◌then◌else◌}
 use Rattle.std.specs.Ordering.{int_eq}
 use Rattle.std.specs.List.{All, flat_map, list_any}
 use Rattle.affine.specs.declared.row.Row.{Row}
 use Rattle.affine.specs.Rows.{Meets, coefficient, combination, variables}
-use Rattle.fourier_motzkin.specs.RowSets.{tidied, is_false, is_wide}
+use Rattle.fourier_motzkin.specs.RowSets.{IsWithin, tidied, is_false, is_wide}
 use Rattle.fourier_motzkin.specs.declared.elimination.Eliminated.{Eliminated}
 use Rattle.fourier_motzkin.specs.declared.elimination.Eliminated.TheVariants.{False, Wide, Rows}
 
@@ -46,3 +46,9 @@ abbrev pub MeetsSaid : List ℤ → Eliminated → Type 0
 MeetsSaid point False = ⊥
 MeetsSaid point Wide = Unit {0}
 MeetsSaid point (Rows rows) = All (Meets point) rows
+
+-- what is said of rows over so many variables: rows that stand have that many, and numbers of at most 2^62 in size
+abbrev pub IsSound : ℕ → Eliminated → Type 0
+IsSound n False = Unit {0}
+IsSound n Wide = Unit {0}
+IsSound n (Rows rows) = AllOver n rows × All (IsWithin (2 ^ 62)) rows

@@ -1,5 +1,5 @@
 -- The range of a variable, where the values of the outer variables are known.
-use Rattle.std.specs.Prelude.{◌≡◌, ◌≢◌, ℕ, ℤ, pos, ◌≤ℤ◌, ◌<ℤ◌, ◌↔◌, ◌⊎◌, List, [], ◌∷◌, ◌++◌, IsSome}
+use Rattle.std.specs.Prelude.{◌≡◌, ◌≢◌, ℕ, ℤ, pos, ◌≤ℤ◌, ◌<ℤ◌, ◌↔◌, ◌⊎◌, List, [], ◌∷◌, ◌++◌, IfSome, Option}
 use Rattle.std.specs.List.{All, Any}
 use Rattle.affine.specs.declared.row.Row.{Row}
 use Rattle.affine.specs.Rows.{Meets, coefficient}
@@ -17,3 +17,7 @@ pub record IsRange (P : ℤ → Type 0) (least greatest : ℤ) : Type 0 where
   pub least_allowed : P least
   pub greatest_allowed : P greatest
   pub within : (value : ℤ) → P value ↔ ((least ≤ℤ value) × (value ≤ℤ greatest))
+
+-- the value lies between the ends that are there
+abbrev pub Lies : Option ℤ → Option ℤ → ℤ → Type 0
+Lies least greatest value = IfSome least (λ end. end ≤ℤ value) × IfSome greatest (λ end. value ≤ℤ end)

@@ -182,7 +182,7 @@ pub fn negated(number: i128) -> i128
 }
 
 /// The coefficient of a variable.
-fn coefficient(row: &Row, variable: usize) -> i128
+pub fn coefficient(row: &Row, variable: usize) -> i128
     requires { variable < variables row.now }
     ensures { result ≡ coefficient row.now variable }
 {

@@ -11,7 +11,9 @@
 
 pub mod elimination;
 pub mod laws;
+mod range;
 pub mod row_set;
+pub mod scans;
 #[cfg(test)]
 mod tests;
 mod tidying;
@@ -19,7 +21,8 @@ pub mod verdicts;
 
 pub use elimination::{Eliminated, eliminate};
 pub use row_set::RowSet;
-pub use verdicts::{Ruling, Scan, bounds, verdict};
+pub use scans::Scan;
+pub use verdicts::{Ruling, bounds, verdict};
 
 /// Memory ran out. What was lent to the call is as before.
 pub type NoMemory = std::alloc::AllocError;

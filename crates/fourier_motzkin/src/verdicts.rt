@@ -1,54 +1,67 @@
-//! The verdict on a system of rows, and the ranges that scan it.
+//! The verdict on a system of rows, and the rows before each elimination.
+
+ghost use Rattle.std.specs.Prelude.{◌≡◌, ℕ, ℤ, List, ◌<◌, ◌≤◌, ◌^◌, [], length, IfOk, slice_index_or};
+ghost use Rattle.std.specs.List.{All};
+ghost use Rattle.affine.specs.Rows.{Meets};
+ghost use Rattle.fourier_motzkin.specs.RowSets.{IsWithin};
+ghost use Rattle.fourier_motzkin.specs.Elimination.{AllOver, IsSound};
+
+ghost use Rattle.fourier_motzkin.specs.Verdicts.{bounds_of, next, ruled, standing, verdict_of};
 
 use crate::NoMemory;
-use std::alloc::Global;
 use crate::elimination::{Eliminated, eliminate, tidy};
 use crate::row_set::RowSet;
+use crate::scans::Scan;
 use affine::Row;
-use affine::row::floor;
+use std::alloc::Global;
 
 /// What elimination says of a system.
 #[derive(Clone, Copy, Debug, PartialEq, Eq)]
 pub enum Ruling {
     /// No whole-number point meets all rows.
     Empty,
-    /// Nothing false was found.
+    /// Nothing false was found. It doesn't say that a whole-number point exists.
     Maybe,
-    /// The rows grew too wide or too many.
+    /// A set had a number above 2^62 in size or more than 512 rows, before anything false was found.
     Wide,
 }
 
-/// The rows before each elimination.
-#[derive(Debug, Drop)]
-pub struct Scan {
-    levels: Vec<RowSet>,
-    verdict: Ruling,
-}
-
-/// The verdict.
-pub fn verdict(alloc: Global, rows: &[Row], variables: usize) -> Result<Ruling, NoMemory> {
+/// The verdict on rows over so many variables, 16 at most, with numbers of at most 2^100 in size
+/// (docs/DEFINITIONS.md, Verdict). No rows at all give Maybe.
+pub fn verdict(alloc: Global, rows: &[Row], variables: usize) -> Result<Ruling, NoMemory>
+    requires few { variables ≤ 16 }
+    requires over { AllOver variables rows.now }
+    requires within { All (IsWithin (2 ^ 100)) rows.now }
+    ensures value { IfOk result (λ ruling. ruling ≡ verdict_of variables rows.now) }
+    ensures empty { IfOk result (λ ruling. ruling ≡ Ruling.Empty → (point : List ℤ) → All (Meets point) rows.now → ⊥) }
+{
     Ok(bounds(alloc, rows, variables)?.verdict())
 }
 
-/// The rows before each elimination, and the verdict.
-pub fn bounds(alloc: Global, rows: &[Row], variables: usize) -> Result<Scan, NoMemory> {
+/// The rows before each elimination, and the verdict, under the conditions of `verdict`.
+pub fn bounds(alloc: Global, rows: &[Row], variables: usize) -> Result<Scan, NoMemory>
+    requires few { variables ≤ 16 }
+    requires over { AllOver variables rows.now }
+    requires within { All (IsWithin (2 ^ 100)) rows.now }
+    ensures { IfOk result (λ scan. scan ≡ bounds_of variables rows.now) }
+{
     let mut levels = Vec::new(alloc);
-    let mut judgement = tidy(alloc, rows)?;
+    let mut said = tidy(alloc, rows)?;
     for variable in (0..variables).rev() {
-        let (level, next) = step(alloc, judgement, variable)?;
+        let (level, next) = step(alloc, said, variable)?;
         levels.push(level)?;
-        judgement = next;
+        said = next;
     }
     levels.reverse();
-    Ok(Scan {
-        levels,
-        verdict: judgement.ruling(),
-    })
+    Ok(Scan::new(levels, said.ruling()))
 }
 
-/// The rows before the elimination of the variable, and what is said after it.
-fn step(alloc: Global, judgement: Eliminated, variable: usize) -> Result<(RowSet, Eliminated), NoMemory> {
-    match judgement {
+/// The rows that stand, and what is said once the variable is eliminated too.
+fn step(alloc: Global, said: Eliminated, variable: usize) -> Result<(RowSet, Eliminated), NoMemory>
+    requires { (n : ℕ) × (variable < n) × IsSound n said }
+    ensures { IfOk result (λ pair. pair ≡ (standing said, next variable said)) }
+{
+    match said {
         Eliminated::Rows(rows) => {
             let next = eliminate(alloc, rows.as_slice(), variable)?;
             Ok((rows, next))
@@ -59,84 +72,14 @@ fn step(alloc: Global, judgement: Eliminated, variable: usize) -> Result<(RowSet
 }
 
 impl Eliminated {
-    /// What is ruled where this is said after the last elimination.
-    fn ruling(&self) -> Ruling {
+    /// What is ruled where this is said last.
+    fn ruling(&self) -> Ruling
+        ensures { result ≡ ruled self.now }
+    {
         match self {
             Eliminated::False => Ruling::Empty,
             Eliminated::Wide => Ruling::Wide,
             Eliminated::Rows(_) => Ruling::Maybe,
         }
     }
-}
-
-impl Scan {
-    /// The verdict.
-    pub fn verdict(&self) -> Ruling {
-        self.verdict
-    }
-
-    /// How many variables there are.
-    pub fn variables(&self) -> usize {
-        self.levels.len()
-    }
-
-    /// The rows of a level.
-    pub fn level(&self, level: usize) -> &[Row] {
-        self.levels[level].as_slice()
-    }
-
-    /// The range.
-    pub fn range(&self, level: usize, point: &[i64]) -> Option<(i128, i128)> {
-        let mut ends = Ends {
-            least: None,
-            greatest: None,
-        };
-        for row in self.level(level) {
-            let rest = rest_at(row, point);
-            let coefficient = row.coef.as_slice()[level];
-            if coefficient > 0 {
-                ends.raise(-floor(rest, coefficient));
-            } else if coefficient < 0 {
-                ends.lower(floor(rest, -coefficient));
-            } else if rest < 0 {
-                return None;
-            }
-        }
-        ends.range()
-    }
-}
-
-/// The ends so far.
-#[derive(Clone, Copy)]
-struct Ends {
-    least: Option<i128>,
-    greatest: Option<i128>,
-}
-
-impl Ends {
-    /// Values below this one are out.
-    fn raise(&mut self, value: i128) {
-        self.least = Some(self.least.map_or(value, |least| least.max(value)));
-    }
-
-    /// Values above this one are out.
-    fn lower(&mut self, value: i128) {
-        self.greatest = Some(self.greatest.map_or(value, |greatest| greatest.min(value)));
-    }
-
-    /// The range, where there is one.
-    fn range(&self) -> Option<(i128, i128)> {
-        let least = self.least?;
-        let greatest = self.greatest?;
-        if least <= greatest { Some((least, greatest)) } else { None }
-    }
-}
-
-/// The sum of the row over the outer values alone.
-fn rest_at(row: &Row, point: &[i64]) -> i128 {
-    let mut sum = row.cst;
-    for (number, value) in row.coef.as_slice().iter().zip(point) {
-        sum += *number * i128::from(*value);
-    }
-    sum
 }
