@@ -6,3 +6,5 @@ pub mod Sizes
 pub mod Steps
 pub mod Points
 pub mod Orders
+pub mod Runs
+pub mod Ends
