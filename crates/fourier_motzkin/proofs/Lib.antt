@@ -8,3 +8,4 @@ pub mod Points
 pub mod Orders
 pub mod Runs
 pub mod Ends
+pub mod Ranges
