@@ -47,7 +47,7 @@ pub fn eliminate(alloc: Global, rows: &[Row], variable: usize) -> Result<Elimina
 }
 
 /// The rows, tidied and judged (docs/DEFINITIONS.md, Tidying). Numbers are at most 2^126 in size.
-pub fn tidy(alloc: Global, rows: &[Row]) -> Result<Eliminated, NoMemory>
+pub(crate) fn tidy(alloc: Global, rows: &[Row]) -> Result<Eliminated, NoMemory>
     requires { All (IsWithin (2 ^ 126)) rows.now }
     ensures { IfOk result (λ said. said ≡ judged (tidied rows.now)) }
 {
@@ -181,7 +181,7 @@ fn weighted_sum(q: i128, x: i128, p: i128, y: i128) -> i128
 }
 
 /// A number of at most 2^126 in size with the other sign.
-pub fn negated(number: i128) -> i128
+pub(crate) fn negated(number: i128) -> i128
     requires { unsigned_abs number ≤ 2 ^ 126 }
     ensures value { result ≡ neg_ℤ number }
     ensures size { unsigned_abs result ≡ unsigned_abs number }
@@ -190,7 +190,7 @@ pub fn negated(number: i128) -> i128
 }
 
 /// The coefficient of a variable.
-pub fn coefficient(row: &Row, variable: usize) -> i128
+pub(crate) fn coefficient(row: &Row, variable: usize) -> i128
     requires { variable < variables row.now }
     ensures { result ≡ coefficient row.now variable }
 {

@@ -18,7 +18,7 @@ struct Ends {
 }
 
 /// The range of the variable after the outer values.
-pub fn range_of(rows: &[Row], variable: usize, outer: &[i64]) -> Option<(i128, i128)>
+pub(crate) fn range_of(rows: &[Row], variable: usize, outer: &[i64]) -> Option<(i128, i128)>
     requires within { All (IsWithin (2 ^ 62)) rows.now }
     requires over { All (λ row. variable < variables row) rows.now }
     requires outer { length outer.now ≡ variable }

@@ -84,7 +84,7 @@ fn says_nothing(row: &Row) -> bool
 }
 
 /// Whether every coefficient is 0.
-pub fn is_constant(row: &Row) -> bool
+pub(crate) fn is_constant(row: &Row) -> bool
     ensures { result ≡ is_constant row.now }
 {
     row.coef.as_slice().iter().all(|number| *number == 0)
