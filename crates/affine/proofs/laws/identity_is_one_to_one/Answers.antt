@@ -1,0 +1,5 @@
+use Rattle.affine.proofs.OneToOneLemmas.{IsOneToOne-identity}
+use Rattle.affine.proofs.laws.identity_is_one_to_one.Goals as goal
+
+pub returns : goal.returns
+returns c = IsOneToOne-identity

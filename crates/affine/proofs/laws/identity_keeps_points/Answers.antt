@@ -1,0 +1,5 @@
+use Rattle.affine.proofs.OneToOneLemmas.{product-identity}
+use Rattle.affine.proofs.laws.identity_keeps_points.Goals as goal
+
+pub returns : goal.returns
+returns c = product-identity

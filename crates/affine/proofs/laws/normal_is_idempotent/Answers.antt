@@ -1,0 +1,5 @@
+use Rattle.affine.proofs.NormalLemmas.{normal-normal}
+use Rattle.affine.proofs.laws.normal_is_idempotent.Goals as goal
+
+pub returns : goal.returns
+returns c = normal-normal

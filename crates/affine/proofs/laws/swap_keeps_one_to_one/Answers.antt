@@ -1,0 +1,5 @@
+use Rattle.affine.proofs.OneToOneLemmas.{IsOneToOne-swap}
+use Rattle.affine.proofs.laws.swap_keeps_one_to_one.Goals as goal
+
+pub returns : goal.returns
+returns c = IsOneToOne-swap

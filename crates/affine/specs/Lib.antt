@@ -1,0 +1,6 @@
+pub mod Divisors
+pub mod Forms
+pub mod Laws
+pub mod Matrices
+pub mod Rows
+pub mod Sums

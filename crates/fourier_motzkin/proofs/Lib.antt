@@ -1,0 +1,12 @@
+pub mod Combinations
+pub mod Entries
+pub mod Members
+pub mod Sets
+pub mod Sizes
+pub mod Steps
+pub mod Points
+pub mod Orders
+pub mod Runs
+pub mod Ends
+pub mod Ranges
+pub mod Levels
