@@ -1,0 +1,15 @@
+pub mod NumberLists
+pub mod StoreLists
+pub mod ViewLists
+pub mod WordLists
+pub mod Moves
+pub mod Quiet
+pub mod PostKeeps
+pub mod SplitKeeps
+pub mod LoadKeeps
+pub mod StoreKeeps
+pub mod SeeKeeps
+pub mod RaiseKeeps
+pub mod ClaimKeeps
+pub mod JoinKeeps
+pub mod SettleKeeps
