@@ -13,3 +13,5 @@ pub mod RaiseKeeps
 pub mod ClaimKeeps
 pub mod JoinKeeps
 pub mod SettleKeeps
+pub mod StateSteps
+pub mod Starts

@@ -29,6 +29,9 @@ is_false false n = refl
 pub not_both : (b : Bool) → b ≡ true → b ≡ false → ⊥
 not_both b t f = true≢false (sym t ∙ f)
 
+pub equal_of_test : (a b : ℕ) → eqb a b ≡ true → a ≡ b
+equal_of_test a b t = dite (ℕ_discrete a b) (λ e. e) (λ ne. absurd (not_both (eqb a b) t (ne_eqb a b ne)))
+
 pub has_here : (x : ℕ) (ys : List ℕ) → has x (x ∷ ys) ≡ true
 has_here x ys = or_left (eqb x x) (has x ys) (eq-eqb x x refl)
 

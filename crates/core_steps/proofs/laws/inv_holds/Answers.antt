@@ -1,13 +1,7 @@
-use Rattle.core_steps.proofs.PostKeeps.{post_keeps}
-use Rattle.core_steps.proofs.SplitKeeps.{split_keeps}
-use Rattle.core_steps.proofs.LoadKeeps.{load_value}
-use Rattle.core_steps.proofs.StoreKeeps.{store_keeps}
-use Rattle.core_steps.proofs.SeeKeeps.{see_keeps}
-use Rattle.core_steps.proofs.RaiseKeeps.{raise_keeps}
-use Rattle.core_steps.proofs.ClaimKeeps.{claim_keeps}
-use Rattle.core_steps.proofs.JoinKeeps.{join_keeps}
-use Rattle.core_steps.proofs.SettleKeeps.{settle_keeps}
+use Rattle.core_steps.specs.States.{bits_of, start_of}
+use Rattle.core_steps.proofs.StateSteps.{run_keeps}
+use Rattle.core_steps.proofs.Starts.{first_sound}
 use Rattle.core_steps.proofs.laws.inv_holds.Goals as goal
 
 pub returns : goal.returns
-returns c = ?
+returns c words steps s run = run_keeps steps (start_of words) s (first_sound (bits_of words)) run
