@@ -15,3 +15,7 @@ pub mod JoinKeeps
 pub mod SettleKeeps
 pub mod StateSteps
 pub mod Starts
+pub mod Applied
+pub mod Places
+pub mod PlanTests
+pub mod Phases

@@ -1,5 +1,5 @@
 -- The state at the start is sound.
-use Rattle.std.proofs.Common.{◌≡◌, ◌≢◌, ℕ, ◌+◌, ◌<◌, ◌≤◌, true, false, true≢false, List, [], ◌∷◌, ◌++◌, length, get_or, refl, sym, ap, ◌∙◌, arith, replicate, length-append}
+use Rattle.std.proofs.Common.{◌≡◌, ◌≢◌, ℕ, ◌+◌, ◌<◌, ◌≤◌, true, false, true≢false, List, [], ◌∷◌, ◌++◌, length, get_or, refl, sym, ap, ◌∙◌, arith, replicate, length-append, subst, ◌^◌, lit<}
 use Rattle.std.proofs.lemmas.List.{length-replicate, get_or-replicate, get_or-append_right}
 use Rattle.std.proofs.Math.ListN.{get_or-append}
 use mathlib.Core.Option.{some-ne-none}
@@ -38,3 +38,11 @@ start_keeps low memory is = let
 
 pub first_sound : (memory : List ℕ) → IsSound (first_state memory)
 first_sound memory = start_keeps 65537 memory refl
+
+-- the fields of a new core
+pub new_state : (memory words : List ℕ) (m : View) (seats : List View) → words ≡ replicate 65537 0 ++ memory → m ≡ first_view memory → seats ≡ [] → (let t : State = record { words = words; main = m; seats = seats } in t ≡ first_state memory)
+new_state memory words m seats laid first none z = record { words = laid z; main = first z; seats = none z }
+
+pub new_sound : (memory words : List ℕ) (m : View) (seats : List View) → words ≡ replicate 65537 0 ++ memory → m ≡ first_view memory → seats ≡ [] → Inv words m (m ∷ seats) × (m.epoch < 2 ^ 63)
+new_sound memory words m seats laid first none = let same = new_state memory words m seats laid first none in
+    (subst IsSound (sym same) (first_sound memory), subst (λ (v : View). v.epoch < 2 ^ 63) (sym first) (lit< tt))

@@ -17,7 +17,7 @@ use Rattle.core_steps.specs.Numbers.{has}
 use Rattle.core_steps.specs.Plans.{IsInside, writes, touches}
 use Rattle.core_steps.specs.Views.{Holds, first_view, spent_view, storing_view, based_view, seeing_view, failed_view, claiming_view, joined_view, may_load, may_store, value_at}
 use Rattle.core_steps.specs.States.{State, memory_word, claim_word, flag_of, claim_of, word_of, memory_of, views_of, view_of, with_view, IsOut, IsWord, first_state}
-use Rattle.core_steps.specs.Steps.{Lawful, Runs, state_after, seat_of, with_seat, with_word}
+use Rattle.core_steps.specs.Steps.{Lawful, MayTouch, MayStore, Runs, state_after, seat_of, with_seat, with_word}
 use Rattle.core_steps.specs.Invariant.{At, Inv, IsSound}
 use Rattle.core_steps.proofs.WordLists.{ShowsMemory, shows_memory}
 use Rattle.core_steps.proofs.PostKeeps.{post_keeps}
@@ -101,10 +101,10 @@ store_by_worker w a x s h out may = let
     worker_step w s (set s.words (memory_word a) x) (storing_view v a x) f some_w
         (store_keeps s.words s.main (views_of s) (suc f.place) tile.0 a x v h f.at (omega arith) tile.1 tile.2)
 
-store_step : (i a x : ℕ) (s : State) → IsSound s → ((i ≡ 0) × (s.main.posted ≡ false) × IsWord a s) ⊎ (IsOut i s × (may_store (view_of i s.seats) a ≡ true))
+store_step : (i a x : ℕ) (s : State) → IsSound s → MayStore i a s
     → IsSound (with_seat i (if eqb i 0 then based_view (seat_of i s) a x else storing_view (seat_of i s) a x) (with_word (memory_word a) x s))
 store_step i a x s h p = ⊎_elim
-    (λ (q : (i ≡ 0) × (s.main.posted ≡ false) × IsWord a s). subst (λ (j : ℕ). IsSound (with_seat j (cond (eqb j 0) (based_view (seat_of j s) a x) (storing_view (seat_of j s) a x)) (with_word (memory_word a) x s))) (sym q.0) (store_by_main a x s h q.1 q.2))
+    (λ (q : (i ≡ 0) × MayTouch a s). subst (λ (j : ℕ). IsSound (with_seat j (cond (eqb j 0) (based_view (seat_of j s) a x) (storing_view (seat_of j s) a x)) (with_word (memory_word a) x s))) (sym q.0) (store_by_main a x s h q.1.0 q.1.1))
     (λ (q : IsOut i s × (may_store (view_of i s.seats) a ≡ true)). let some_i : 0 < i = h.phase.numbers i q.0 in
     subst (λ (b : Bool). IsSound (with_seat i (cond b (based_view (seat_of i s) a x) (storing_view (seat_of i s) a x)) (with_word (memory_word a) x s))) (sym (ne_eqb i 0 (λ e. omega arith)))
     (subst (λ (v : View). IsSound (with_seat i (storing_view v a x) (with_word (memory_word a) x s))) (sym (seat_of_worker i s some_i)) (store_by_worker i a x s h q.0 q.1))) p
@@ -131,7 +131,7 @@ join_step w s h out = let f = out_found w s h out in let some_w : 0 < w = h.phas
     subst (λ (l : List View). Inv s.words (joined_view s.main v) (joined_view s.main v ∷ l)) (sym (f.with_set spent_view)) (join_keeps s.words s.main s.seats f.place v h f.at (omega arith))
 
 pub step_keeps : (x : Step) (s : State) → IsSound s → Lawful x s → IsSound (state_after x s)
-step_keeps (Post plan) s h p = let wide = h.phase.width in post_keeps s.words s.main s.seats (memory_of s.words) plan h p.1 (shows_memory s.words (omega arith)) p.2 p.3 p.4
+step_keeps (Post plan) s h p = let wide = h.phase.width in post_keeps s.words s.main s.seats (memory_of s.words) plan h p.1 (shows_memory s.words (omega arith)) p.2.0 p.2.1 p.2.2
 step_keeps (Split w) s h p = split_keeps s.words s.main s.seats w h p.0 p.1 p.2
 step_keeps (Load i a) s h p = h
 step_keeps (Store i a x) s h p = store_step i a (cast_unsigned w64 x) s h p

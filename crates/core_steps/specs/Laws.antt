@@ -1,10 +1,56 @@
 -- What holds over every list of lawful steps.
-use Rattle.std.specs.Prelude.{◌≡◌, ℕ, ℤ, List}
+use Rattle.std.specs.Prelude.{◌≡◌, ◌↔◌, ℕ, ℤ, Bool, true, false, List, ◌∷◌}
+use Rattle.std.specs.List.{list_any}
+use Rattle.core_steps.specs.declared.plan.Plan.{Plan}
 use Rattle.core_steps.specs.declared.step.Step.{Step}
-use Rattle.core_steps.specs.States.{State, start_of}
-use Rattle.core_steps.specs.Steps.{Runs}
-use Rattle.core_steps.specs.Invariant.{IsSound}
+use Rattle.core_steps.specs.declared.step.Step.TheVariants.{Post, Split, Load, Store, See, Raise, Claim, Join, Settle}
+use Rattle.core_steps.specs.Plans.{writes}
+use Rattle.core_steps.specs.Views.{Holds, Knows}
+use Rattle.core_steps.specs.States.{State, start_of, views_of, view_of, flag_of, word_of, IsOut, IsWord}
+use Rattle.core_steps.specs.Steps.{Lawful, Runs, state_after}
+use Rattle.core_steps.specs.Invariant.{Each, IsSound}
+
+-- lawful steps from the start lead to the state
+abbrev pub IsReached : List ℤ → List Step → State → Type 0
+IsReached words steps s = Runs steps (start_of words) s
+
+abbrev pub is_settle : Step → Bool
+is_settle Settle = true
+is_settle (Post _) = false
+is_settle (Split _) = false
+is_settle (Load _ _) = false
+is_settle (Store _ _ _) = false
+is_settle (See _) = false
+is_settle (Raise _) = false
+is_settle (Claim _ _) = false
+is_settle (Join _) = false
+
+-- the steps lead from s to t, and none of them is a settle
+pub record RunsWithin (steps : List Step) (s t : State) : Type 0 where
+  pub run : Runs steps s t
+  pub unsettled : list_any is_settle steps ≡ false
+
+-- a phase as far as it has come: main posted the plan in the state s, and steps without a settle led to t
+pub record IsInPhase (words : List ℤ) (before : List Step) (plan : Plan) (steps : List Step) (s t : State) : Type 0 where
+  pub reached : IsReached words before s
+  pub posted : Lawful (Post plan) s
+  pub within : RunsWithin steps (state_after (Post plan) s) t
 
 -- every list of lawful steps from the start keeps the invariant
 abbrev pub EveryRunKeepsTheInvariant : Type 0
-EveryRunKeepsTheInvariant = (words : List ℤ) (steps : List Step) (s : State) → Runs steps (start_of words) s → IsSound s
+EveryRunKeepsTheInvariant = (words : List ℤ) (steps : List Step) (s : State) → IsReached words steps s → IsSound s
+
+-- between a post and its settle, words that are writes of no tile of the plan keep their values
+abbrev pub OtherWordsKeep : Type 0
+OtherWordsKeep = (words : List ℤ) (before : List Step) (plan : Plan) (steps : List Step) (s t : State) → IsInPhase words before plan steps s t
+    → (a : ℕ) → IsWord a s → ((k : ℕ) → writes plan k a ≡ false) → word_of t.words a ≡ word_of s.words a
+
+-- just before each lawful settle, each known tile is held by main, and main's failure is set exactly where the flag is at the epoch
+abbrev pub BeforeEachSettle : Type 0
+BeforeEachSettle = (words : List ℤ) (steps : List Step) (s : State) → IsReached words steps s → Lawful Settle s
+    → ((k : ℕ) → Each (λ _ v. Knows v k → Holds s.main k) (views_of s)) × ((s.main.failed ≡ true) ↔ (flag_of s.words ≡ s.main.epoch))
+
+-- two workers never hold one tile
+abbrev pub TwoWorkersNeverHoldOneTile : Type 0
+TwoWorkersNeverHoldOneTile = (words : List ℤ) (steps : List Step) (s : State) → IsReached words steps s
+    → (i j k : ℕ) → IsOut i s → IsOut j s → Holds (view_of i s.seats) k → Holds (view_of j s.seats) k → i ≡ j

@@ -1,5 +1,6 @@
 -- What the tiles of a plan touch.
-use Rattle.std.specs.Prelude.{◌≡◌, ◌≢◌, ℕ, ◌<◌, Bool, true, false, ◌||◌, List, [], slice_index_or}
+use Rattle.std.specs.Prelude.{◌≡◌, ◌≢◌, ℕ, ◌<◌, Bool, true, false, ◌||◌, ◌&&◌, not, nat_lt, List, [], slice_index_or}
+use Rattle.std.specs.List.{list_all}
 use Rattle.core_steps.specs.declared.plan.Tile.{Tile}
 use Rattle.core_steps.specs.declared.plan.Plan.{Plan}
 use Rattle.core_steps.specs.Numbers.{has}
@@ -33,17 +34,24 @@ abbrev pub AreApart : Tile → Tile → Type 0
 AreApart one other = (a : ℕ) → writes_of one a ≡ true → touches_of other a ≡ false
 
 -- no write of this tile is a read or a write of another tile
-abbrev pub WritesAlone : Plan → ℕ → Type 0
-WritesAlone plan j = (k : ℕ) → j ≢ k → AreApart (tile_of plan j) (tile_of plan k)
+abbrev pub WritesAlone : List Tile → ℕ → Type 0
+WritesAlone tiles j = (k : ℕ) → j ≢ k → AreApart (slice_index_or tiles j no_tile) (slice_index_or tiles k no_tile)
 
 -- no write of one tile is a read or a write of another tile
 abbrev pub IsSeparate : Plan → Type 0
-IsSeparate plan = (j : ℕ) → WritesAlone plan j
-
--- all reads and writes of the tile are below n
-abbrev pub KeepsInside : ℕ → Tile → Type 0
-KeepsInside n tile = (a : ℕ) → touches_of tile a ≡ true → a < n
+IsSeparate plan = (j : ℕ) → WritesAlone plan.tiles j
 
 -- all addresses of the plan are below n
 abbrev pub IsInside : ℕ → Plan → Type 0
-IsInside n plan = (k : ℕ) → KeepsInside n (tile_of plan k)
+IsInside n plan = (k a : ℕ) → touches plan k a ≡ true → a < n
+
+-- the tests of these facts
+
+abbrev pub are_apart : Tile → Tile → Bool
+are_apart one other = list_all (λ a. not (touches_of other a)) one.writes
+
+abbrev pub are_below : ℕ → List ℕ → Bool
+are_below n addresses = list_all (λ a. nat_lt a n) addresses
+
+abbrev pub keeps_inside : ℕ → Tile → Bool
+keeps_inside n tile = are_below n tile.reads && are_below n tile.writes

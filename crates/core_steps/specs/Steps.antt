@@ -1,6 +1,7 @@
 -- The nine kinds of step: the condition of each, its effect, and its answer.
 use Rattle.std.specs.Prelude.{◌≡◌, ℕ, ℤ, ◌<◌, ◌≤◌, ◌==◌, true, false, ◌⊎◌, if◌then◌else◌, List, [], ◌∷◌, ◌++◌, length, pos, slice_set, Result, Ok, Err}
 use Rattle.std.specs.Int.{w64, cast_unsigned, cast_signed}
+use Rattle.core_steps.specs.declared.plan.Plan.{Plan}
 use Rattle.core_steps.specs.declared.step.Step.{Step}
 use Rattle.core_steps.specs.declared.step.Step.TheVariants.{Post, Split, Load, Store, See, Raise, Claim, Join, Settle}
 use Rattle.core_steps.specs.declared.ends.CoreEnd.{CoreEnd}
@@ -11,12 +12,27 @@ use Rattle.core_steps.specs.Plans.{IsSeparate, IsInside}
 use Rattle.core_steps.specs.Views.{may_load, may_store, posted_view, lending_view, lent_view, based_view, storing_view, seeing_view, failed_view, claiming_view, joined_view, settled_view, spent_view}
 use Rattle.core_steps.specs.States.{State, claim_word, memory_word, flag_of, claim_of, word_of, memory_of, view_of, with_view, IsOut, IsWord}
 
+-- the plan is separate, has at most 65,536 tiles, and its addresses are words
+abbrev pub IsPlan : Plan → State → Type 0
+IsPlan plan s = IsSeparate plan × (length plan.tiles ≤ 65536) × IsInside (length (memory_of s.words)) plan
+
+-- main loads and stores words where no plan is posted; a worker whose seat is out loads reads and writes of tiles
+-- that it holds, and stores to their writes
+abbrev pub MayTouch : ℕ → State → Type 0
+MayTouch a s = (s.main.posted ≡ false) × IsWord a s
+
+abbrev pub MayLoad : ℕ → ℕ → State → Type 0
+MayLoad i a s = ((i ≡ 0) × MayTouch a s) ⊎ (IsOut i s × (may_load (view_of i s.seats) a ≡ true))
+
+abbrev pub MayStore : ℕ → ℕ → State → Type 0
+MayStore i a s = ((i ≡ 0) × MayTouch a s) ⊎ (IsOut i s × (may_store (view_of i s.seats) a ≡ true))
+
 -- the condition of a step
 abbrev pub Lawful : Step → State → Type 0
-Lawful (Post plan) s = (s.main.posted ≡ false) × (s.main.out ≡ []) × IsSeparate plan × (length plan.tiles ≤ 65536) × IsInside (length (memory_of s.words)) plan
+Lawful (Post plan) s = (s.main.posted ≡ false) × (s.main.out ≡ []) × IsPlan plan s
 Lawful (Split w) s = (s.main.posted ≡ true) × (0 < w) × (has w s.main.out ≡ false)
-Lawful (Load i a) s = ((i ≡ 0) × (s.main.posted ≡ false) × IsWord a s) ⊎ (IsOut i s × (may_load (view_of i s.seats) a ≡ true))
-Lawful (Store i a x) s = ((i ≡ 0) × (s.main.posted ≡ false) × IsWord a s) ⊎ (IsOut i s × (may_store (view_of i s.seats) a ≡ true))
+Lawful (Load i a) s = MayLoad i a s
+Lawful (Store i a x) s = MayStore i a s
 Lawful (See i) s = (i ≡ 0) ⊎ IsOut i s
 Lawful (Raise w) s = IsOut w s
 Lawful (Claim w k) s = IsOut w s × (k < length s.main.plan.tiles)

@@ -1,7 +1,7 @@
 // Tiles and plans.
-ghost use Rattle.std.specs.Prelude.{◌≡◌, ◌↔◌, ◌<◌, ℕ, true, IsTrue, IfOk, length};
-ghost use Rattle.core_steps.specs.Plans.{touches, writes, IsSeparate, IsInside, writes_of, touches_of, AreApart, WritesAlone, KeepsInside, no_plan};
-ghost use Rattle.core_steps.specs.Numbers.{has};
+ghost use Rattle.std.specs.Prelude.{◌≡◌, ◌↔◌, ◌<◌, ℕ, IsTrue, IfOk, length};
+ghost use Rattle.core_steps.specs.Plans.{touches, writes, IsSeparate, IsInside, writes_of, touches_of, are_apart, are_below, keeps_inside, WritesAlone, no_plan};
+ghost use Rattle.std.specs.List.{list_all};
 
 use crate::sequence::Sequence;
 use std::alloc::{AllocError, Global};
@@ -46,21 +46,16 @@ impl Tile {
 
     /// Whether no write of this tile is a read or a write of the other.
     fn is_apart_from(&self, other: &Tile) -> bool
-        ensures { IsTrue result ↔ AreApart self.now other.now }
+        ensures { result ≡ are_apart self.now other.now }
     {
-        for address in self.writes.as_slice() {
-            if other.touches(*address) {
-                return false;
-            }
-        }
-        true
+        self.writes.as_slice().iter().all(|address| !other.touches(*address))
     }
 
     /// Whether all reads and writes are below `count`.
     fn is_inside(&self, count: usize) -> bool
-        ensures { IsTrue result ↔ KeepsInside count self.now }
+        ensures { result ≡ keeps_inside count self.now }
     {
-        all_below(self.reads.as_slice(), count) && all_below(self.writes.as_slice(), count)
+        are_below(self.reads.as_slice(), count) && are_below(self.writes.as_slice(), count)
     }
 
     fn copy(&self, alloc: Global) -> Result<Tile, AllocError>
@@ -72,10 +67,42 @@ impl Tile {
     }
 }
 
-fn all_below(addresses: &[u64], count: usize) -> bool
-    ensures { IsTrue result ↔ ((a : ℕ) → has a addresses.now ≡ true → a < count) }
+fn are_below(addresses: &[u64], count: usize) -> bool
+    ensures { result ≡ are_below count addresses.now }
 {
-    addresses.iter().all(|a| (*a as usize) < count)
+    addresses.iter().all(|address| (*address as usize) < count)
+}
+
+/// Whether each tile keeps its addresses below `count`.
+fn are_inside(tiles: &[Tile], count: usize) -> bool
+    ensures { result ≡ list_all (keeps_inside count) tiles.now }
+{
+    tiles.iter().all(|tile| tile.is_inside(count))
+}
+
+/// Whether no write of this tile is a read or a write of another.
+fn writes_alone(tiles: &[Tile], tile: usize) -> bool
+    requires { tile < length tiles.now }
+    ensures { IsTrue result ↔ WritesAlone tiles.now tile }
+{
+    for other in 0..tiles.len() {
+        if other != tile && !tiles[tile].is_apart_from(&tiles[other]) {
+            return false;
+        }
+    }
+    true
+}
+
+/// Whether no write of one tile is a read or a write of another.
+fn all_write_alone(tiles: &[Tile]) -> bool
+    ensures { IsTrue result ↔ ((j : ℕ) → WritesAlone tiles.now j) }
+{
+    for tile in 0..tiles.len() {
+        if !writes_alone(tiles, tile) {
+            return false;
+        }
+    }
+    true
 }
 
 impl Plan {
@@ -100,38 +127,14 @@ impl Plan {
     pub fn separate(&self) -> bool
         ensures { IsTrue result ↔ IsSeparate self.now }
     {
-        for tile in 0..self.tiles.len() {
-            if !self.writes_alone(tile) {
-                return false;
-            }
-        }
-        true
-    }
-
-    /// Whether no write of this tile is a read or a write of another tile.
-    fn writes_alone(&self, tile: usize) -> bool
-        requires { tile < length self.now.tiles }
-        ensures { IsTrue result ↔ WritesAlone self.now tile }
-    {
-        let tiles = self.tiles.as_slice();
-        for other in 0..tiles.len() {
-            if other != tile && !tiles[tile].is_apart_from(&tiles[other]) {
-                return false;
-            }
-        }
-        true
+        all_write_alone(self.tiles.as_slice())
     }
 
     /// Whether all addresses are below `count`.
     pub fn is_inside(&self, count: usize) -> bool
         ensures { IsTrue result ↔ IsInside count self.now }
     {
-        for tile in self.tiles.as_slice() {
-            if !tile.is_inside(count) {
-                return false;
-            }
-        }
-        true
+        are_inside(self.tiles.as_slice(), count)
     }
 
     /// Whether the address is a write of the tile of this number.
