@@ -29,8 +29,8 @@ pub claim_keeps_phase : (words : List ℕ) (m : View) (views : List View) (i k :
 claim_keeps_phase words m views i k v w h at out planned same failed seen = let
     after = claims_after words m views i k v h at out planned in
     phase_stays words (set words (claim_word k) v.epoch) m views i v w h at out same (length-set words (claim_word k) v.epoch) (flag-set_claim words k v.epoch)
-        (λ n lt. dite (ℕ_discrete n k) (λ e. subst (λ (y : ℕ). claim_of (set words (claim_word k) v.epoch) y ≤ m.epoch) (sym e) (omega (arith, after.0)))
-        (λ ne. subst (λ (y : ℕ). y ≤ m.epoch) (sym (claim-set_other words k n v.epoch ne)) (h.claims n lt))) failed seen
+    (λ n lt. dite (ℕ_discrete n k) (λ e. subst (λ (y : ℕ). claim_of (set words (claim_word k) v.epoch) y ≤ m.epoch) (sym e) (omega (arith, after.0)))
+    (λ ne. subst (λ (y : ℕ). y ≤ m.epoch) (sym (claim-set_other words k n v.epoch ne)) (h.claims n lt))) failed seen
 
 -- the tile was free
 pub hold_keeps : (words : List ℕ) (m : View) (views : List View) (i k : ℕ) (v : View) → Inv words m views → At views i v → 0 < v.number → k < length m.plan.tiles → claim_of words k ≢ v.epoch
@@ -75,7 +75,7 @@ know_keeps words m views i k v h at out planned taken = let
     few = h.phase.few in let
     after = claims_after words m views i k v h.phase at out planned in let
     before : (n : ℕ) → claim_of ws n ≡ m.epoch → claim_of words n ≡ m.epoch = λ n is. dite (ℕ_discrete n k)
-        (λ e. subst (λ (y : ℕ). claim_of words y ≡ m.epoch) (sym e) (taken ∙ of.epoch)) (λ ne. sym (claim-set_other words k n v.epoch ne) ∙ is) in
+    (λ e. subst (λ (y : ℕ). claim_of words y ≡ m.epoch) (sym e) (taken ∙ of.epoch)) (λ ne. sym (claim-set_other words k n v.epoch ne) ∙ is) in
     record {
       phase = claim_keeps_phase words m views i k v w h.phase at out planned (record { number = refl; posted = refl; epoch = refl; base = refl; plan = refl }) refl refl;
       tiles = record {

@@ -77,11 +77,11 @@ join_keeps_values words m ms j v h at = let
           (λ is. absurd (no_option x None refl is)) (λ p u _ _ e. h.own a x p u e);
       base = λ a lt none. h.base a lt (before a none);
     } where
-  before : (a : ℕ) → IsUntouched (joined_view m v ∷ set ms j spent_view) a → IsUntouched (m ∷ ms) a
-  before a none zero u e = subst (λ (z : View). stored_at a z.own ≡ None) (some-injective m u e) (unstored_append a m.own v.own (none 0 (joined_view m v) refl)).0
-  before a none (suc i) u e = dite (ℕ_discrete i j)
-      (λ same. subst (λ (z : View). stored_at a z.own ≡ None) (at_same ms j v u at (subst (λ (y : ℕ). At ms y u) same e)) (unstored_append a m.own v.own (none 0 (joined_view m v) refl)).1)
-      (λ ne. none (suc i) u (set_else ms j i spent_view u ne e))
+      before : (a : ℕ) → IsUntouched (joined_view m v ∷ set ms j spent_view) a → IsUntouched (m ∷ ms) a
+      before a none zero u e = subst (λ (z : View). stored_at a z.own ≡ None) (some-injective m u e) (unstored_append a m.own v.own (none 0 (joined_view m v) refl)).0
+      before a none (suc i) u e = dite (ℕ_discrete i j)
+          (λ same. subst (λ (z : View). stored_at a z.own ≡ None) (at_same ms j v u at (subst (λ (y : ℕ). At ms y u) same e)) (unstored_append a m.own v.own (none 0 (joined_view m v) refl)).1)
+          (λ ne. none (suc i) u (set_else ms j i spent_view u ne e))
 
 pub join_keeps : (words : List ℕ) (m : View) (ms : List View) (j : ℕ) (v : View) → Inv words m (m ∷ ms) → At ms j v → 0 < v.number → Inv words (joined_view m v) (joined_view m v ∷ set ms j spent_view)
 join_keeps words m ms j v h at out = record {

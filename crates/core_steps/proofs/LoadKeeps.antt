@@ -22,13 +22,14 @@ load_value words m views i k a v h at out holds may = by_case (stored_at a v.own
       of = h.phase.lent i v at out in let
       mine : touches m.plan k a ≡ true = ap (λ (p : Plan). touches p k a) (sym of.plan) ∙ may in
       by_option (stored_at a u.own) refl where
-    by_option : (o : Option ℕ) → stored_at a u.own ≡ o → o ≡ None
-    by_option None _ = refl
-    by_option (Some y) q = let o = h.values.owned a y j u e q in dite (ℕ_discrete j i)
-        (λ same. absurd (no_option y (stored_at a v.own) none (subst (λ (z : View). stored_at a z.own ≡ Some y) (at_same views i u v (subst (λ (n : ℕ). At views n u) same e) at) q)))
-        (λ ne. dite (ℕ_discrete o.0 k)
-        (λ kk. absurd (ne (h.tiles.one_holder k j i u v e at (subst (λ (n : ℕ). Holds u n) kk o.1) holds)))
-        (λ nk. absurd (not_both (touches m.plan k a) (let of = h.phase.lent i v at out in ap (λ (p : Plan). touches p k a) (sym of.plan) ∙ may) (h.phase.separate o.0 k nk a o.2))))
+        by_option : (o : Option ℕ) → stored_at a u.own ≡ o → o ≡ None
+        by_option None _ = refl
+        by_option (Some y) q = let o = h.values.owned a y j u e q in dite (ℕ_discrete j i)
+            (λ same. absurd (no_option y (stored_at a v.own) none (subst (λ (z : View). stored_at a z.own ≡ Some y) (at_same views i u v (subst (λ (n : ℕ). At views n u) same e) at) q)))
+            (λ ne. dite (ℕ_discrete o.0 k)
+            (λ kk. absurd (ne (h.tiles.one_holder k j i u v e at (subst (λ (n : ℕ). Holds u n) kk o.1) holds)))
+            (λ nk. absurd (not_both (touches m.plan k a) (let of = h.phase.lent i v at out in ap (λ (p : Plan). touches p k a) (sym of.plan) ∙ may) (h.phase.separate o.0 k nk a o.2))))
+
   by_case : (o : Option ℕ) → stored_at a v.own ≡ o → word_of words a ≡ unwrap_or o (get_or v.base a 0)
   by_case None is = let
       of = h.phase.lent i v at out in let

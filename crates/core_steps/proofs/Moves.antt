@@ -58,9 +58,9 @@ pub phase_stays : (words ws : List ℕ) (m : View) (views : List View) (i : ℕ)
     → PhaseIsSound ws m (set views i w)
 phase_stays words ws m views i v w h at out same len flag claims failed seen =
     phase_moves words ws m views i v w h at out same len (subst (λ (n : ℕ). n ≤ m.epoch) (sym flag) h.flag) claims
-        (each_set (λ _ u. u.failed ≡ true → flag_of ws ≡ m.epoch) views i w (λ t. flag ∙ h.failed i v at (sym failed ∙ t)) (λ j u _ e t. flag ∙ h.failed j u e t))
-        (λ posted is. somewhere_set (λ u. u.failed ≡ true) views i v w at (λ t. failed ∙ t) (h.failure posted (sym flag ∙ is)))
-        (each_set (λ _ u. u.seen ≡ true → flag_of ws ≡ m.epoch) views i w (λ t. flag ∙ h.seen i v at (sym seen ∙ t)) (λ j u _ e t. flag ∙ h.seen j u e t))
+    (each_set (λ _ u. u.failed ≡ true → flag_of ws ≡ m.epoch) views i w (λ t. flag ∙ h.failed i v at (sym failed ∙ t)) (λ j u _ e t. flag ∙ h.failed j u e t))
+    (λ posted is. somewhere_set (λ u. u.failed ≡ true) views i v w at (λ t. failed ∙ t) (h.failure posted (sym flag ∙ is)))
+    (each_set (λ _ u. u.seen ≡ true → flag_of ws ≡ m.epoch) views i w (λ t. flag ∙ h.seen i v at (sym seen ∙ t)) (λ j u _ e t. flag ∙ h.seen j u e t))
 
 -- where the claims, and what the view holds and knows stay
 pub tiles_stay : (words ws : List ℕ) (m : View) (views : List View) (i : ℕ) (v w : View) → TilesAreSound words m views → length m.plan.tiles ≤ 65536 → At views i v

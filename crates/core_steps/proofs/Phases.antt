@@ -106,9 +106,9 @@ known_held s h p k j u at known = let
     c = h.tiles.known k j u at known in let
     some = h.tiles.held p.0 k c.0 c.1 in
     by_place some.0 some.1 some.2 some.3 where
-  by_place : (i : ℕ) (v : View) → At (views_of s) i v → Holds v k → Holds s.main k
-  by_place zero v e holds = subst (λ (z : View). Holds z k) (sym (some-injective s.main v e)) holds
-  by_place (suc i) v e holds = absurd (has_none k v.held (ap (λ (z : View). z.held) (all_spent s.words s.main s.seats h.phase p.1 i v e)) holds)
+      by_place : (i : ℕ) (v : View) → At (views_of s) i v → Holds v k → Holds s.main k
+      by_place zero v e holds = subst (λ (z : View). Holds z k) (sym (some-injective s.main v e)) holds
+      by_place (suc i) v e holds = absurd (has_none k v.held (ap (λ (z : View). z.held) (all_spent s.words s.main s.seats h.phase p.1 i v e)) holds)
 
 pub main_failed : (s : State) → IsSound s → Lawful Settle s → flag_of s.words ≡ s.main.epoch → s.main.failed ≡ true
 main_failed s h p raised = let some = h.phase.failure p.0 raised in by_place some.0 some.1 some.2 some.3 where

@@ -17,7 +17,7 @@ post_keeps_phase words m ms base plan h empty shows separate few inside = let
     flag = h.flag in let
     stored = h.stored in
     quiet_phase words (posted_view m base plan) ms (all_spent words m ms h empty) (hands m base plan) h.main_number empty shows.width
-        (omega arith) (λ k lt. let c = h.claims k lt in omega arith) (omega arith) separate few inside (λ _ is. absurd (omega arith)) (λ t. absurd (true≢false (sym t)))
+    (omega arith) (λ k lt. let c = h.claims k lt in omega arith) (omega arith) separate few inside (λ _ is. absurd (omega arith)) (λ t. absurd (true≢false (sym t)))
 
 pub post_keeps_tiles : (words : List ℕ) (m : View) (ms : List View) (base : List ℕ) (plan : Plan) → PhaseIsSound words m (m ∷ ms) → m.out ≡ [] → length plan.tiles ≤ 65536
     → TilesAreSound words (posted_view m base plan) (posted_view m base plan ∷ ms)

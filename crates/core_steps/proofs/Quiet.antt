@@ -96,14 +96,16 @@ shows_values words m ms h empty = let
     len : length (overlaid m.own m.base) ≡ length m.base = length-overlaid m.own m.base in let
     wide = h.phase.width in
     record { width = omega arith; values = λ a lt. value a (omega arith) ∙ sym (overlaid_at a m.own m.base (omega arith)) } where
-  untouched : (a : ℕ) → stored_at a m.own ≡ None → Each (λ _ u. stored_at a u.own ≡ None) (m ∷ ms)
-  untouched a is zero u e = subst (λ (z : View). stored_at a z.own ≡ None) (some-injective m u e) is
-  untouched a is (suc j) u e = ap (λ (z : View). stored_at a z.own) (all_spent words m ms h.phase empty j u e)
-  by_case : (a : ℕ) → a < length m.base → (o : Option ℕ) → stored_at a m.own ≡ o → word_of words a ≡ unwrap_or o (get_or m.base a 0)
-  by_case a lt None is = h.values.base a lt (untouched a is)
-  by_case a lt (Some x) is = h.values.own a x 0 m refl is
-  value : (a : ℕ) → a < length m.base → word_of words a ≡ unwrap_or (stored_at a m.own) (get_or m.base a 0)
-  value a lt = by_case a lt (stored_at a m.own) refl
+      untouched : (a : ℕ) → stored_at a m.own ≡ None → Each (λ _ u. stored_at a u.own ≡ None) (m ∷ ms)
+      untouched a is zero u e = subst (λ (z : View). stored_at a z.own ≡ None) (some-injective m u e) is
+      untouched a is (suc j) u e = ap (λ (z : View). stored_at a z.own) (all_spent words m ms h.phase empty j u e)
+
+      by_case : (a : ℕ) → a < length m.base → (o : Option ℕ) → stored_at a m.own ≡ o → word_of words a ≡ unwrap_or o (get_or m.base a 0)
+      by_case a lt None is = h.values.base a lt (untouched a is)
+      by_case a lt (Some x) is = h.values.own a x 0 m refl is
+
+      value : (a : ℕ) → a < length m.base → word_of words a ≡ unwrap_or (stored_at a m.own) (get_or m.base a 0)
+      value a lt = by_case a lt (stored_at a m.own) refl
 
 -- without a plan the words are main's base
 pub shows_base : (words : List ℕ) (m : View) (ms : List View) → Inv words m (m ∷ ms) → m.posted ≡ false → ShowsMemory words m.base

@@ -99,7 +99,7 @@ store_by_worker w a x s h out may = let
     number : v.number ≡ w = f.number in let
     tile = any_held (λ k. writes v.plan k a) v.held may in
     worker_step w s (set s.words (memory_word a) x) (storing_view v a x) f some_w
-        (store_keeps s.words s.main (views_of s) (suc f.place) tile.0 a x v h f.at (omega arith) tile.1 tile.2)
+    (store_keeps s.words s.main (views_of s) (suc f.place) tile.0 a x v h f.at (omega arith) tile.1 tile.2)
 
 store_step : (i a x : ℕ) (s : State) → IsSound s → MayStore i a s
     → IsSound (with_seat i (if eqb i 0 then based_view (seat_of i s) a x else storing_view (seat_of i s) a x) (with_word (memory_word a) x s))

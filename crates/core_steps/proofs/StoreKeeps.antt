@@ -24,7 +24,7 @@ pub store_keeps_phase : (words : List ℕ) (m : View) (views : List View) (i a x
     → PhaseIsSound (set words (memory_word a) x) m (set views i (storing_view v a x))
 store_keeps_phase words m views i a x v h at out =
     phase_stays words (set words (memory_word a) x) m views i v (storing_view v a x) h at out (record { number = refl; posted = refl; epoch = refl; base = refl; plan = refl })
-        (length-set words (memory_word a) x) (flag-set_memory words a x) (λ k lt. subst (λ (n : ℕ). n ≤ m.epoch) (sym (claim-set_memory words k a x lt)) (h.claims k lt)) refl refl
+    (length-set words (memory_word a) x) (flag-set_memory words a x) (λ k lt. subst (λ (n : ℕ). n ≤ m.epoch) (sym (claim-set_memory words k a x lt)) (h.claims k lt)) refl refl
 
 pub store_keeps_tiles : (words : List ℕ) (m : View) (views : List View) (i a x : ℕ) (v : View) → TilesAreSound words m views → length m.plan.tiles ≤ 65536 → At views i v
     → TilesAreSound (set words (memory_word a) x) m (set views i (storing_view v a x))
@@ -57,14 +57,14 @@ store_keeps_values words m views i k a x v h at out holds may = let
           (λ e. absurd (no_option x (stored_at b w.own) (none i w (set_here views i v w at)) (stored_same b (a, x) v.own e)))
           (λ ne. word-set_other words a b x (λ e. ne (sym e)) ∙ h.values.base b lt (untouched_before views i v w b at (λ z. sym (stored_other b (a, x) v.own ne) ∙ z) none));
     } where
-  -- no other view has stored at the address
-  foreign : (j : ℕ) (u : View) → j ≢ i → At views j u → (b y : ℕ) → stored_at b u.own ≡ Some y → a ≡ b → ⊥
-  foreign j u apart e b y is same = let
-      of = h.phase.lent i v at out in let
-      mine : writes m.plan k a ≡ true = ap (λ (p : Plan). writes p k a) (sym of.plan) ∙ may in let
-      o = h.values.owned b y j u e is in let
-      theirs : writes m.plan o.0 a ≡ true = subst (λ (c : ℕ). writes m.plan o.0 c ≡ true) (sym same) o.2 in
-      dite (ℕ_discrete o.0 k)
+      -- no other view has stored at the address
+      foreign : (j : ℕ) (u : View) → j ≢ i → At views j u → (b y : ℕ) → stored_at b u.own ≡ Some y → a ≡ b → ⊥
+      foreign j u apart e b y is same = let
+          of = h.phase.lent i v at out in let
+          mine : writes m.plan k a ≡ true = ap (λ (p : Plan). writes p k a) (sym of.plan) ∙ may in let
+          o = h.values.owned b y j u e is in let
+          theirs : writes m.plan o.0 a ≡ true = subst (λ (c : ℕ). writes m.plan o.0 c ≡ true) (sym same) o.2 in
+          dite (ℕ_discrete o.0 k)
           (λ kk. apart (h.tiles.one_holder k j i u v e at (subst (λ (n : ℕ). Holds u n) kk o.1) holds))
           (λ nk. not_both (touches m.plan k a) (write_touches m.plan k a mine) (h.phase.separate o.0 k nk a theirs))
 

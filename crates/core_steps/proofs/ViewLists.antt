@@ -133,6 +133,7 @@ one_joined P m b s v ms j at none split one p q u z at-p at-q hu hz = final (sou
       (λ rest. ⊎_elim (λ (t : (i ≡ 0) × (b ≡ y)). ⊎_elim (λ a. (0, m, refl, a, inl (t.0, inl refl))) (λ c. (suc j, v, at, c, inl (t.0, inr refl))) (split (subst P (sym t.1) h)))
       (λ (t : (i ≢ suc j) × (i ≢ 0) × At (m ∷ ms) i y). (i, y, t.2, h, inr (t.1, t.1, t.0, refl))) rest)
       (joined_cases m b s ms j i y e)
+
   final : (k : ℕ) × (x : View) × At (m ∷ ms) k x × P x × ((p ≡ 0) × ((k ≡ 0) ⊎ (k ≡ suc j)) ⊎ (p ≢ 0) × (k ≢ 0) × (k ≢ suc j) × (p ≡ k))
       → (k : ℕ) × (x : View) × At (m ∷ ms) k x × P x × ((q ≡ 0) × ((k ≡ 0) ⊎ (k ≡ suc j)) ⊎ (q ≢ 0) × (k ≢ 0) × (k ≢ suc j) × (q ≡ k)) → p ≡ q
   final x y = let same : x.0 ≡ y.0 = one x.0 y.0 x.1 y.1 x.2 y.2 x.3 y.3 in

@@ -5,24 +5,20 @@ ghost use Rattle.core_steps.specs.Laws.{EveryRunKeepsTheInvariant, OtherWordsKee
 /// Every list of lawful steps from the start keeps the invariant.
 pub fn inv_holds()
     ensures { EveryRunKeepsTheInvariant }
-{
-}
+{}
 
 /// Between a post and its settle, words that are writes of no tile of the plan keep their values.
 pub fn others_keep()
     ensures { OtherWordsKeep }
-{
-}
+{}
 
 /// Just before each lawful settle, each known tile is held by main, and main's failure is set exactly where the flag
 /// is at the epoch.
 pub fn before_settle()
     ensures { BeforeEachSettle }
-{
-}
+{}
 
 /// Two workers never hold one tile.
 pub fn one_holder()
     ensures { TwoWorkersNeverHoldOneTile }
-{
-}
+{}

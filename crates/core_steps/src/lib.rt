@@ -15,6 +15,8 @@ mod machine;
 mod plan;
 mod sequence;
 mod step;
+#[cfg(test)]
+mod tests;
 mod view;
 
 pub use ends::{CoreEnd, NoMemory};

@@ -56,6 +56,13 @@ impl Core {
         })
     }
 
+    /// The epoch: how many phases were posted.
+    pub fn epoch(&self) -> u64
+        ensures { result ≡ self.now.main.epoch }
+    {
+        self.main.epoch
+    }
+
     /// Does one step and gives its answer, 0 where a step has none. Refuses a step exactly where its condition fails,
     /// and leaves the core as it was after either refusal.
     pub fn apply(&mut self, alloc: Global, step: &Step) -> Result<i64, CoreEnd>
@@ -132,7 +139,13 @@ impl Core {
         Ok(0)
     }
 
-    fn store_by_worker(&mut self, alloc: Global, worker: u32, address: u64, value: i64) -> Result<i64, CoreEnd>
+    fn store_by_worker(
+        &mut self,
+        alloc: Global,
+        worker: u32,
+        address: u64,
+        value: i64,
+    ) -> Result<i64, CoreEnd>
         requires { 0 < worker }
         ensures { IsApplied (Step.Store worker address value) self.old result self.new }
     {

@@ -48,7 +48,10 @@ impl Tile {
     fn is_apart_from(&self, other: &Tile) -> bool
         ensures { result ≡ are_apart self.now other.now }
     {
-        self.writes.as_slice().iter().all(|address| !other.touches(*address))
+        self.writes
+            .as_slice()
+            .iter()
+            .all(|address| !other.touches(*address))
     }
 
     /// Whether all reads and writes are below `count`.

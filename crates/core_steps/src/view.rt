@@ -91,14 +91,20 @@ impl View {
     pub fn may_load(&self, address: u64) -> bool
         ensures { result ≡ may_load self.now address }
     {
-        self.held.as_slice().iter().any(|tile| self.plan.touches(*tile, address))
+        self.held
+            .as_slice()
+            .iter()
+            .any(|tile| self.plan.touches(*tile, address))
     }
 
     /// Whether the address is a write of a held tile.
     pub fn may_store(&self, address: u64) -> bool
         ensures { result ≡ may_store self.now address }
     {
-        self.held.as_slice().iter().any(|tile| self.plan.writes(*tile, address))
+        self.held
+            .as_slice()
+            .iter()
+            .any(|tile| self.plan.writes(*tile, address))
     }
 
     /// Begins a phase over these words.
