@@ -1,29 +1,137 @@
-// One phase, refused steps, and a long list of steps with their answers.
+// Tables of steps with their answers: one phase, refusals, and a long list over two phases.
 use crate::{Core, CoreEnd, Plan, Step, Tile};
 use std::alloc::Global;
 use std::process::Abort;
 use std::test::Fail;
 
-fn tile(alloc: Global, reads: &[u64], writes: &[u64]) -> Result<Tile, Fail> {
-    Ok(Tile::new(
-        Vec::from_slice(alloc, reads)?,
-        Vec::from_slice(alloc, writes)?,
-    ))
+/// A step, with a plan as the reads and writes of its tiles.
+#[derive(Clone, Copy)]
+enum Turn {
+    Post(&'static [(&'static [u64], &'static [u64])]),
+    Split(u32),
+    Load(u32, u64),
+    Store(u32, u64, i64),
+    See(u32),
+    Raise(u32),
+    Claim(u32, u32),
+    Join(u32),
+    Settle,
 }
 
-/// The plan of one tile.
-fn one_tile(alloc: Global, reads: &[u64], writes: &[u64]) -> Result<Step, Fail> {
-    let mut tiles = Vec::new(alloc);
-    tiles.push(tile(alloc, reads, writes)?)?;
-    Ok(Step::Post(Plan::new(tiles)))
+/// A step and its answer, or nothing where it is unlawful.
+type Line = (Turn, Option<i64>);
+
+const PHASE: [Line; 10] = [
+    (Turn::Post(&[(&[0], &[1])]), Some(0)),
+    (Turn::Split(1), Some(0)),
+    (Turn::Claim(1, 0), Some(0)),
+    (Turn::Load(1, 0), Some(5)),
+    (Turn::Store(1, 0, 9), None),
+    (Turn::Store(1, 1, 9), Some(0)),
+    (Turn::Join(1), Some(0)),
+    (Turn::Settle, Some(0)),
+    (Turn::Load(0, 0), Some(5)),
+    (Turn::Load(0, 1), Some(9)),
+];
+
+const EARLY_SETTLE: [Line; 6] = [
+    (Turn::Post(&[(&[0], &[1])]), Some(0)),
+    (Turn::Split(1), Some(0)),
+    (Turn::Settle, None),
+    (Turn::Join(1), Some(0)),
+    (Turn::Settle, Some(0)),
+    (Turn::Settle, None),
+];
+
+const SECOND_CLAIM: [Line; 8] = [
+    (Turn::Post(&[(&[], &[1])]), Some(0)),
+    (Turn::Split(1), Some(0)),
+    (Turn::Split(2), Some(0)),
+    (Turn::Claim(1, 0), Some(0)),
+    (Turn::Claim(2, 0), Some(1)),
+    (Turn::Store(2, 1, 9), None),
+    (Turn::Load(2, 1), None),
+    (Turn::Store(1, 1, 9), Some(0)),
+];
+
+/// Before the first post main alone touches the words. Then two workers run a phase in which one raises the flag, and
+/// one worker runs a phase over the words that the first left.
+const TWO_PHASES: [Line; 51] = [
+    (Turn::Load(0, 2), Some(-7)),
+    (Turn::Store(0, 2, -8), Some(0)),
+    (Turn::Load(0, 2), Some(-8)),
+    (Turn::Load(0, 3), None),
+    (Turn::Store(0, 3, 1), None),
+    (Turn::See(0), Some(0)),
+    (Turn::See(1), None),
+    (Turn::Split(1), None),
+    (Turn::Raise(1), None),
+    (Turn::Claim(1, 0), None),
+    (Turn::Join(1), None),
+    (Turn::Settle, None),
+    (Turn::Post(&[(&[0], &[1]), (&[1], &[2])]), None),
+    (Turn::Post(&[(&[3], &[1])]), None),
+    (Turn::Post(&[(&[0], &[1]), (&[0], &[2])]), Some(0)),
+    (Turn::Post(&[(&[0], &[1])]), None),
+    (Turn::Load(0, 0), None),
+    (Turn::Store(0, 0, 1), None),
+    (Turn::Split(0), None),
+    (Turn::Split(7), Some(0)),
+    (Turn::Split(7), None),
+    (Turn::Split(2), Some(0)),
+    (Turn::Claim(7, 2), None),
+    (Turn::Claim(0, 0), None),
+    (Turn::Claim(7, 0), Some(0)),
+    (Turn::Claim(7, 0), Some(1)),
+    (Turn::Claim(2, 1), Some(0)),
+    (Turn::Store(7, 1, 4), Some(0)),
+    (Turn::Load(7, 1), Some(4)),
+    (Turn::Load(7, 2), None),
+    (Turn::Store(2, 2, 5), Some(0)),
+    (Turn::See(7), Some(0)),
+    (Turn::Raise(7), Some(0)),
+    (Turn::See(2), Some(1)),
+    (Turn::Join(7), Some(0)),
+    (Turn::Join(7), None),
+    (Turn::Join(2), Some(0)),
+    (Turn::Settle, Some(1)),
+    (Turn::Load(0, 1), Some(4)),
+    (Turn::Load(0, 2), Some(5)),
+    (Turn::Post(&[(&[1, 2], &[0])]), Some(0)),
+    (Turn::See(0), Some(1)),
+    (Turn::Split(7), Some(0)),
+    (Turn::See(7), Some(1)),
+    (Turn::Claim(7, 0), Some(1)),
+    (Turn::Claim(7, 0), Some(2)),
+    (Turn::Load(7, 2), Some(5)),
+    (Turn::Store(7, 0, 9), Some(0)),
+    (Turn::Join(7), Some(0)),
+    (Turn::Settle, Some(1)),
+    (Turn::Load(0, 0), Some(9)),
+];
+
+fn plan(alloc: Global, tiles: &[(&'static [u64], &'static [u64])]) -> Result<Plan, Fail> {
+    let mut all = Vec::new(alloc);
+    for (reads, writes) in tiles {
+        let reads = Vec::from_slice(alloc, reads)?;
+        let writes = Vec::from_slice(alloc, writes)?;
+        all.push(Tile::new(reads, writes))?;
+    }
+    Ok(Plan::new(all))
 }
 
-/// The plan of two tiles.
-fn two_tiles(alloc: Global, first: Tile, second: Tile) -> Result<Step, Fail> {
-    let mut tiles = Vec::new(alloc);
-    tiles.push(first)?;
-    tiles.push(second)?;
-    Ok(Step::Post(Plan::new(tiles)))
+fn step(alloc: Global, turn: Turn) -> Result<Step, Fail> {
+    Ok(match turn {
+        Turn::Post(tiles) => Step::Post(plan(alloc, tiles)?),
+        Turn::Split(worker) => Step::Split(worker),
+        Turn::Load(seat, address) => Step::Load(seat, address),
+        Turn::Store(seat, address, value) => Step::Store(seat, address, value),
+        Turn::See(seat) => Step::See(seat),
+        Turn::Raise(worker) => Step::Raise(worker),
+        Turn::Claim(worker, tile) => Step::Claim(worker, tile),
+        Turn::Join(worker) => Step::Join(worker),
+        Turn::Settle => Step::Settle,
+    })
 }
 
 /// The answer of a step, at an epoch that leaves room.
@@ -35,190 +143,43 @@ fn answer(core: &mut Core, alloc: Global, step: &Step) -> Result<i64, CoreEnd> {
     }
 }
 
-/// A step, and the answer that it must have.
-#[derive(Drop)]
-struct Row {
-    step: Step,
-    answer: Result<i64, CoreEnd>,
-}
-
-fn answered(step: Step, answer: i64) -> Row {
-    Row {
-        step,
-        answer: Ok(answer),
+/// Runs the lines over a core of these words.
+fn run<R: Abort>(rt: &R, alloc: Global, words: &[i64], lines: &[Line]) -> Result<(), Fail> {
+    let mut core = Core::new(alloc, words).ok().ok_or("no memory")?;
+    for (place, (turn, wanted)) in lines.iter().enumerate() {
+        let step = step(alloc, *turn)?;
+        let seen = answer(&mut core, alloc, &step);
+        assert_eq!(rt; seen, wanted.ok_or(CoreEnd::Unlawful), "at line {place}");
     }
-}
-
-fn refused(step: Step) -> Row {
-    Row {
-        step,
-        answer: Err(CoreEnd::Unlawful),
-    }
-}
-
-fn check<R: Abort>(rt: &R, core: &mut Core, alloc: Global, rows: &[Row]) {
-    for (place, row) in rows.iter().enumerate() {
-        assert_eq!(rt;
-            answer(core, alloc, &row.step),
-            row.answer,
-            "at step {place}"
-        );
-    }
+    Ok(())
 }
 
 #[test]
 fn a_phase_stores_into_the_memory(rt: HostRuntime) -> Result<(), Fail> {
-    let alloc = rt.alloc();
-    let mut core = Core::new(alloc, &[5, 6]).ok().ok_or("no memory")?;
-    let rows = [
-        answered(one_tile(alloc, &[0], &[1])?, 0),
-        answered(Step::Split(1), 0),
-        answered(Step::Claim(1, 0), 0),
-        answered(Step::Load(1, 0), 5),
-        refused(Step::Store(1, 0, 9)),
-        answered(Step::Store(1, 1, 9), 0),
-        answered(Step::Join(1), 0),
-        answered(Step::Settle, 0),
-        answered(Step::Load(0, 0), 5),
-        answered(Step::Load(0, 1), 9),
-    ];
-    check(&rt, &mut core, alloc, &rows);
-    Ok(())
+    run(&rt, rt.alloc(), &[5, 6], &PHASE)
 }
 
 #[test]
 fn a_settle_waits_for_every_seat(rt: HostRuntime) -> Result<(), Fail> {
-    let alloc = rt.alloc();
-    let mut core = Core::new(alloc, &[5, 6]).ok().ok_or("no memory")?;
-    let rows = [
-        answered(one_tile(alloc, &[0], &[1])?, 0),
-        answered(Step::Split(1), 0),
-        refused(Step::Settle),
-        answered(Step::Join(1), 0),
-        answered(Step::Settle, 0),
-        refused(Step::Settle),
-    ];
-    check(&rt, &mut core, alloc, &rows);
-    Ok(())
+    run(&rt, rt.alloc(), &[5, 6], &EARLY_SETTLE)
 }
 
 #[test]
 fn the_second_claim_of_a_tile_loses(rt: HostRuntime) -> Result<(), Fail> {
-    let alloc = rt.alloc();
-    let mut core = Core::new(alloc, &[5, 6]).ok().ok_or("no memory")?;
-    let rows = [
-        answered(one_tile(alloc, &[], &[1])?, 0),
-        answered(Step::Split(1), 0),
-        answered(Step::Split(2), 0),
-        answered(Step::Claim(1, 0), 0),
-        answered(Step::Claim(2, 0), 1),
-        refused(Step::Store(2, 1, 9)),
-        refused(Step::Load(2, 1)),
-        answered(Step::Store(1, 1, 9), 0),
-    ];
-    check(&rt, &mut core, alloc, &rows);
-    Ok(())
-}
-
-/// Before the first post: main alone touches the words.
-fn quiet_rows(alloc: Global) -> Result<[Row; 14], Fail> {
-    let shared = two_tiles(alloc, tile(alloc, &[0], &[1])?, tile(alloc, &[1], &[2])?)?;
-    let outside = one_tile(alloc, &[3], &[1])?;
-    Ok([
-        answered(Step::Load(0, 2), -7),
-        answered(Step::Store(0, 2, -8), 0),
-        answered(Step::Load(0, 2), -8),
-        refused(Step::Load(0, 3)),
-        refused(Step::Store(0, 3, 1)),
-        answered(Step::See(0), 0),
-        refused(Step::See(1)),
-        refused(Step::Split(1)),
-        refused(Step::Raise(1)),
-        refused(Step::Claim(1, 0)),
-        refused(Step::Join(1)),
-        refused(Step::Settle),
-        refused(shared),
-        refused(outside),
-    ])
-}
-
-/// A phase of two tiles and two workers, one of which raises the flag.
-fn failing_rows(alloc: Global) -> Result<[Row; 24], Fail> {
-    let plan = two_tiles(alloc, tile(alloc, &[0], &[1])?, tile(alloc, &[0], &[2])?)?;
-    let again = one_tile(alloc, &[0], &[1])?;
-    Ok([
-        answered(plan, 0),
-        refused(again),
-        refused(Step::Load(0, 0)),
-        refused(Step::Store(0, 0, 1)),
-        refused(Step::Split(0)),
-        answered(Step::Split(7), 0),
-        refused(Step::Split(7)),
-        answered(Step::Split(2), 0),
-        refused(Step::Claim(7, 2)),
-        refused(Step::Claim(0, 0)),
-        answered(Step::Claim(7, 0), 0),
-        answered(Step::Claim(7, 0), 1),
-        answered(Step::Claim(2, 1), 0),
-        answered(Step::Store(7, 1, 4), 0),
-        answered(Step::Load(7, 1), 4),
-        refused(Step::Load(7, 2)),
-        answered(Step::Store(2, 2, 5), 0),
-        answered(Step::See(7), 0),
-        answered(Step::Raise(7), 0),
-        answered(Step::See(2), 1),
-        answered(Step::Join(7), 0),
-        refused(Step::Join(7)),
-        answered(Step::Join(2), 0),
-        answered(Step::Settle, 1),
-    ])
-}
-
-/// A second phase over the words that the first left.
-fn second_rows(alloc: Global) -> Result<[Row; 13], Fail> {
-    let plan = one_tile(alloc, &[1, 2], &[0])?;
-    Ok([
-        answered(Step::Load(0, 1), 4),
-        answered(Step::Load(0, 2), 5),
-        answered(plan, 0),
-        answered(Step::See(0), 1),
-        answered(Step::Split(7), 0),
-        answered(Step::See(7), 1),
-        answered(Step::Claim(7, 0), 1),
-        answered(Step::Claim(7, 0), 2),
-        answered(Step::Load(7, 2), 5),
-        answered(Step::Store(7, 0, 9), 0),
-        answered(Step::Join(7), 0),
-        answered(Step::Settle, 1),
-        answered(Step::Load(0, 0), 9),
-    ])
+    run(&rt, rt.alloc(), &[5, 6], &SECOND_CLAIM)
 }
 
 #[test]
 fn each_step_answers_or_is_refused(rt: HostRuntime) -> Result<(), Fail> {
-    let alloc = rt.alloc();
-    let mut core = Core::new(alloc, &[5, 6, -7]).ok().ok_or("no memory")?;
-    let rows = quiet_rows(alloc)?;
-    check(&rt, &mut core, alloc, &rows);
-    let rows = failing_rows(alloc)?;
-    check(&rt, &mut core, alloc, &rows);
-    let rows = second_rows(alloc)?;
-    check(&rt, &mut core, alloc, &rows);
-    Ok(())
+    run(&rt, rt.alloc(), &[5, 6, -7], &TWO_PHASES)
 }
 
 #[test]
 fn plans_are_separate_or_not(rt: HostRuntime) -> Result<(), Fail> {
     let alloc = rt.alloc();
-    let mut tiles = Vec::new(alloc);
-    tiles.push(tile(alloc, &[0, 3], &[1])?)?;
-    tiles.push(tile(alloc, &[0], &[2])?)?;
-    let apart = Plan::new(tiles);
+    let apart = plan(alloc, &[(&[0, 3], &[1]), (&[0], &[2])])?;
     assert!(rt; apart.separate());
-    let mut tiles = Vec::new(alloc);
-    tiles.push(tile(alloc, &[0], &[1])?)?;
-    tiles.push(tile(alloc, &[1], &[2])?)?;
-    let meeting = Plan::new(tiles);
+    let meeting = plan(alloc, &[(&[0], &[1]), (&[1], &[2])])?;
     assert!(rt; !meeting.separate());
     Ok(())
 }
