@@ -19,3 +19,6 @@ pub mod Applied
 pub mod Places
 pub mod PlanTests
 pub mod Phases
+pub mod OwnValues
+pub mod OwnLoads
+pub mod OneWriter
