@@ -129,11 +129,11 @@ writer_is u i j a later h out may kept = let
     tile = any_held (λ k. writes v.plan k a) v.held may in
     ⊎_elim
     (λ (q : (list_any (is_join i) later ≡ false) × IsOut i u × Stored a (view_of i u.seats).own). let
-      f = out_found i u h q.1 in let
-      same : suc f.place ≡ suc g.place = same_place u (suc f.place) (suc g.place) tile.0 a (view_of i u.seats) v h f.at q.2 g.at of.plan tile.1 tile.2 in let
-      place : f.place ≡ g.place = omega (arith, same) in let
-      view : view_of i u.seats ≡ v = some-injective (view_of i u.seats) v (sym f.at ∙ ap (λ (n : ℕ). get_elem? u.seats n) place ∙ g.at) in
-      (sym f.number ∙ ap (λ (z : View). z.number) view ∙ g.number, q.0))
+    f = out_found i u h q.1 in let
+    same : suc f.place ≡ suc g.place = same_place u (suc f.place) (suc g.place) tile.0 a (view_of i u.seats) v h f.at q.2 g.at of.plan tile.1 tile.2 in let
+    place : f.place ≡ g.place = omega (arith, same) in let
+    view : view_of i u.seats ≡ v = some-injective (view_of i u.seats) v (sym f.at ∙ ap (λ (n : ℕ). get_elem? u.seats n) place ∙ g.at) in
+    (sym f.number ∙ ap (λ (z : View). z.number) view ∙ g.number, q.0))
     (λ (q : Stored a u.main.own). let same : 0 ≡ suc g.place = same_place u 0 (suc g.place) tile.0 a u.main v h refl q g.at of.plan tile.1 tile.2 in absurd (omega (arith, same)))
     kept
 
@@ -147,8 +147,8 @@ one_writer_of t later u i j a x y h on first within second = let
     end : IsSound u = run_keeps later after u sound within.run in let
     still : u.main.posted ≡ true = later_same.posted ∙ posted in
     ⊎_elim (λ q. absurd (not_both t.main.posted on q.1.0)) (λ q. let
-      out = step_stays (Store i a x) i t h on first refl refl q.0 in let
-      bits : ℕ = cast_unsigned w64 x in let
-      own : Stored a (own_after (Store i a x) i (view_of i t.seats).own) = subst (λ (b : Bool). Stored a (cond b ((a, bits) ∷ (view_of i t.seats).own) (view_of i t.seats).own)) (sym (eq-eqb i i refl)) (bits, stored_same a (a, bits) (view_of i t.seats).own refl) in let
-      kept = writer_run later i a after u sound posted within.run within.unsettled out.out (subst (λ (l : List (ℕ × ℕ)). Stored a l) (sym out.own_is) own) in
-      ⊎_elim (λ r. absurd (not_both u.main.posted still r.1.0)) (λ r. writer_is u i j a later end r.0 r.1 kept) second) first
+    out = step_stays (Store i a x) i t h on first refl refl q.0 in let
+    bits : ℕ = cast_unsigned w64 x in let
+    own : Stored a (own_after (Store i a x) i (view_of i t.seats).own) = subst (λ (b : Bool). Stored a (cond b ((a, bits) ∷ (view_of i t.seats).own) (view_of i t.seats).own)) (sym (eq-eqb i i refl)) (bits, stored_same a (a, bits) (view_of i t.seats).own refl) in let
+    kept = writer_run later i a after u sound posted within.run within.unsettled out.out (subst (λ (l : List (ℕ × ℕ)). Stored a l) (sym out.own_is) own) in
+    ⊎_elim (λ r. absurd (not_both u.main.posted still r.1.0)) (λ r. writer_is u i j a later end r.0 r.1 kept) second) first

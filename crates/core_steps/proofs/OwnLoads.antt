@@ -77,8 +77,8 @@ lent_stores : (x : Step) (w a : ℕ) (s : State) (stored : Option ℕ) → IsSou
 lent_stores (Split v) w a s stored h p t = dite (ℕ_discrete v w)
     (λ e. ap (λ (z : View). stored_at a z.own) (view-snoc_new w (lent_view s.main v) s.seats (λ i u at is. none i u at (is ∙ sym e)) e) ∙ sym (ap (λ (b : Bool). cond b None stored) t))
     (λ ne. absurd (not_both (eqb v w) t (ne_eqb v w ne))) where
-  none : (i : ℕ) (u : View) → At s.seats i u → u.number ≢ v
-  none i u at is = let of = h.phase.lent (suc i) u at (let some_v = p.1 in omega arith) in not_both (has v s.main.out) (subst (λ (n : ℕ). has n s.main.out ≡ true) is of.out) p.2
+      none : (i : ℕ) (u : View) → At s.seats i u → u.number ≢ v
+      none i u at is = let of = h.phase.lent (suc i) u at (let some_v = p.1 in omega arith) in not_both (has v s.main.out) (subst (λ (n : ℕ). has n s.main.out ≡ true) is of.out) p.2
 lent_stores (Post plan) w a s stored h p t = absurd (true≢false (sym t))
 lent_stores (Load i b) w a s stored h p t = absurd (true≢false (sym t))
 lent_stores (Store v b x) w a s stored h p t = absurd (true≢false (sym t))

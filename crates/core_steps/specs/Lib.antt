@@ -6,3 +6,4 @@ pub mod Places
 pub mod Steps
 pub mod Invariant
 pub mod Laws
+pub mod Examples

@@ -26,11 +26,9 @@ pub fn one_holder()
 /// Between a post and its settle a word is written by at most one view.
 pub fn one_writer()
     ensures { OneWriterInAPhase }
-{
-}
+{}
 
 /// A worker's load answers its own latest store to that word, else the value at the post, whatever the others did.
 pub fn own_loads()
     ensures { LoadAnswersOwnStoreOrPost }
-{
-}
+{}

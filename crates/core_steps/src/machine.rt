@@ -175,9 +175,9 @@ impl Core {
     fn see_by_main(&mut self) -> Result<i64, CoreEnd>
         ensures { IsApplied (Step.See 0) self.old result self.new }
     {
-        let flag = self.words[0];
-        self.main.see(flag);
-        Ok(flag as i64)
+        let seen = self.words[0];
+        self.main.see(seen);
+        Ok(seen as i64)
     }
 
     fn see_by_worker(&mut self, worker: u32) -> Result<i64, CoreEnd>

@@ -120,11 +120,11 @@ impl View {
     }
 
     /// Ends the phase over these words.
-    pub fn settle(&mut self, alloc: Global, base: Sequence<u64>)
-        ensures { self.new ≡ settled_view self.old base }
+    pub fn settle(&mut self, alloc: Global, words: Sequence<u64>)
+        ensures { self.new ≡ settled_view self.old words }
     {
         self.posted = false;
-        self.base = base;
+        self.base = words;
         self.plan = Plan::empty(alloc);
         self.forget(alloc);
     }
