@@ -1,20 +1,18 @@
 -- The fields of a core after the code of a step, and the state that the step leads to.
-use Rattle.std.proofs.Common.{◌≡◌, ◌≢◌, ℕ, suc, ◌+◌, ◌-◌, ◌<◌, ◌≤◌, ◌^◌, Bool, true, false, true≢false, eqb, cond, List, [], ◌∷◌, ◌++◌, length, get_or, set, inl, inr, ⊎_elim, refl, sym, ap, ◌∙◌, subst, eq-eqb, ne_eqb, arith}
-use Rattle.std.specs.Prelude.{ℤ, pos, Result, Ok, Err, Option, Some, None, slice_index}
+use Rattle.std.proofs.Common.{◌≡◌, ℕ, suc, ◌-◌, ◌<◌, ◌^◌, Bool, true, false, eqb, cond, List, [], ◌∷◌, ◌++◌, length, get_or, set, inl, inr, ⊎_elim, refl, sym, ap, ◌∙◌, subst, ne_eqb, arith}
+use Rattle.std.specs.Prelude.{ℤ, pos, Ok}
 use Rattle.std.specs.Int.{w64, cast_unsigned, cast_signed}
 use Rattle.std.proofs.lemmas.List.{get_or_default, set-get_or}
 use Rattle.std.proofs.lemmas.Int.{to_z_pos}
-use mathlib.Core.Logic.{dite}
-use native.Mathlib.Decide.{ℕ_discrete}
 use Rattle.core_steps.specs.declared.plan.Plan.{Plan}
 use Rattle.core_steps.specs.declared.step.Step.{Step}
 use Rattle.core_steps.specs.declared.step.Step.TheVariants.{Post, Split, Load, Store, See, Raise, Claim, Join, Settle}
 use Rattle.core_steps.specs.declared.view.View.{View}
 use Rattle.core_steps.specs.Numbers.{has}
 use Rattle.core_steps.specs.Views.{may_load, may_store, posted_view, lent_view, based_view, storing_view, seeing_view, failed_view, claiming_view, knowing_view, holding_view, joined_view, settled_view, spent_view}
-use Rattle.core_steps.specs.States.{State, memory_word, claim_word, flag_of, claim_of, memory_of, view_of, with_view, IsOut, IsWord}
+use Rattle.core_steps.specs.States.{State, memory_word, claim_word, flag_of, claim_of, memory_of, view_of, IsOut, IsWord}
 use Rattle.core_steps.specs.Places.{IsPlaceOf}
-use Rattle.core_steps.specs.Steps.{Lawful, IsPlan, MayLoad, IsApplied, state_after, answer_of, seat_of, with_seat, with_word}
+use Rattle.core_steps.specs.Steps.{Lawful, IsPlan, MayLoad, IsApplied, state_after, answer_of, seat_of, with_seat}
 use Rattle.core_steps.specs.Invariant.{Inv, IsSound}
 use Rattle.core_steps.proofs.StateSteps.{step_keeps, seat_of_worker, with_seat_worker, out_found, any_held}
 use Rattle.core_steps.proofs.StoreKeeps.{write_touches}

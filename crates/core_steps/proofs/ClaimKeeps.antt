@@ -1,14 +1,13 @@
 -- A claim keeps the invariant: where the old claim was of an earlier epoch nobody held the tile, and now the seat
 -- does; where it was of this epoch nothing but what the seat knows changes.
-use Rattle.std.proofs.Common.{◌≡◌, ◌≢◌, ℕ, ◌<◌, ◌≤◌, Bool, true, false, eqb, cond, List, [], ◌∷◌, ◌++◌, length, get_or, set, ⊎_elim, refl, sym, ap, ◌∙◌, subst, arith, eq-eqb, ne_eqb, length-set, get_or-set_same}
+use Rattle.std.proofs.Common.{◌≡◌, ◌≢◌, ℕ, ◌<◌, ◌≤◌, Bool, cond, List, [], ◌∷◌, length, set, ⊎_elim, refl, sym, ◌∙◌, subst, arith, eq-eqb, ne_eqb, length-set, get_or-set_same}
 use mathlib.Core.Logic.{dite}
 use native.Mathlib.Decide.{ℕ_discrete}
-use Rattle.core_steps.specs.declared.plan.Plan.{Plan}
 use Rattle.core_steps.specs.declared.view.View.{View}
-use Rattle.core_steps.specs.Numbers.{has, IsSingle}
+use Rattle.core_steps.specs.Numbers.{IsSingle}
 use Rattle.core_steps.specs.Views.{Holds, Knows, holding_view, knowing_view, claiming_view}
-use Rattle.core_steps.specs.States.{claim_word, claim_of, word_of}
-use Rattle.core_steps.specs.Invariant.{At, Each, AtMostOne, PhaseIsSound, TilesAreSound, ValuesAreSound, Inv}
+use Rattle.core_steps.specs.States.{claim_word, claim_of}
+use Rattle.core_steps.specs.Invariant.{At, AtMostOne, PhaseIsSound, Inv}
 use Rattle.core_steps.proofs.NumberLists.{has_snoc, has_last, has_left, single_snoc}
 use Rattle.core_steps.proofs.ViewLists.{each_set, each_kept, somewhere_set, one_set, one_new, set_here}
 use Rattle.core_steps.proofs.WordLists.{flag-set_claim, claim-set_other, word-set_claim}

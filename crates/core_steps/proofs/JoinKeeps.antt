@@ -1,14 +1,14 @@
 -- A join keeps the invariant: main takes over what a worker's view has, and the seat is spent.
-use Rattle.std.proofs.Common.{◌≡◌, ◌≢◌, ℕ, zero, suc, ◌<◌, Bool, true, false, true≢false, ◌||◌, List, [], ◌∷◌, ◌++◌, length, Some, None, set, ◌⊎◌, inl, inr, ⊎_elim, refl, sym, ap, ◌∙◌, subst, arith}
+use Rattle.std.proofs.Common.{◌≡◌, ◌≢◌, ℕ, zero, suc, ◌<◌, true, false, true≢false, List, ◌∷◌, length, Some, None, set, inl, ⊎_elim, refl, sym, subst, arith}
 use mathlib.Core.Option.{some-injective}
 use mathlib.Core.Logic.{dite}
 use native.Mathlib.Decide.{ℕ_discrete}
 use Rattle.core_steps.specs.declared.view.View.{View}
-use Rattle.core_steps.specs.Numbers.{has, IsSingle}
+use Rattle.core_steps.specs.Numbers.{IsSingle}
 use Rattle.core_steps.specs.Plans.{writes}
 use Rattle.core_steps.specs.Views.{Holds, Knows, stored_at, spent_view, joined_view}
 use Rattle.core_steps.specs.States.{flag_of, claim_of, word_of}
-use Rattle.core_steps.specs.Invariant.{At, Each, IsUntouched, IsLentBy, PhaseIsSound, TilesAreSound, ValuesAreSound, Inv}
+use Rattle.core_steps.specs.Invariant.{At, IsUntouched, IsLentBy, PhaseIsSound, TilesAreSound, ValuesAreSound, Inv}
 use Rattle.core_steps.proofs.NumberLists.{or_left, or_right, or_cases, has_none, has_append, has_left, has_right, has_without, has_rest, single_without, single_append}
 use Rattle.core_steps.proofs.StoreLists.{no_option, stored_append, unstored_append}
 use Rattle.core_steps.proofs.ViewLists.{at_same, set_else, each_joined, somewhere_joined, one_joined}

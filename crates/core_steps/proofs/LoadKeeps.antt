@@ -1,11 +1,11 @@
 -- A load changes nothing, and answers the seat's own value, or else the base's.
-use Rattle.std.proofs.Common.{◌≡◌, ◌≢◌, ℕ, ◌<◌, true, false, List, [], ◌∷◌, length, Option, Some, None, get_or, refl, sym, ap, ◌∙◌, subst, arith}
+use Rattle.std.proofs.Common.{◌≡◌, ℕ, ◌<◌, true, false, List, ◌∷◌, length, Option, Some, None, get_or, refl, sym, ap, ◌∙◌, subst}
 use Rattle.std.specs.Prelude.{unwrap_or}
 use mathlib.Core.Logic.{dite}
 use native.Mathlib.Decide.{ℕ_discrete}
 use Rattle.core_steps.specs.declared.plan.Plan.{Plan}
 use Rattle.core_steps.specs.declared.view.View.{View}
-use Rattle.core_steps.specs.Plans.{writes, touches}
+use Rattle.core_steps.specs.Plans.{touches}
 use Rattle.core_steps.specs.Views.{Holds, stored_at, value_at}
 use Rattle.core_steps.specs.States.{word_of}
 use Rattle.core_steps.specs.Invariant.{At, IsUntouched, Inv}

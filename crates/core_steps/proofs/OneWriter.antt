@@ -1,5 +1,5 @@
 -- A word is written by at most one view between a post and its settle.
-use Rattle.std.proofs.Common.{◌≡◌, ◌≢◌, ℕ, zero, suc, ◌+◌, ◌<◌, ◌≤◌, Bool, true, false, true≢false, ◌||◌, eqb, cond, List, [], ◌∷◌, ◌++◌, length, Option, Some, None, get_or, ◌⊎◌, inl, inr, ⊎_elim, refl, sym, ap, ◌∙◌, subst, eq-eqb, ne_eqb, arith}
+use Rattle.std.proofs.Common.{◌≡◌, ℕ, suc, ◌<◌, Bool, true, false, true≢false, ◌||◌, cond, List, [], ◌∷◌, ◌++◌, Some, None, ◌⊎◌, inl, inr, ⊎_elim, refl, sym, ap, ◌∙◌, subst, eq-eqb, ne_eqb, arith}
 use Rattle.std.specs.Prelude.{ℤ}
 use Rattle.std.specs.List.{list_any}
 use Rattle.std.specs.Int.{w64, cast_unsigned}
@@ -16,13 +16,13 @@ use Rattle.core_steps.specs.Views.{Holds, stored_at, may_store}
 use Rattle.core_steps.specs.States.{State, views_of, view_of, IsOut}
 use Rattle.core_steps.specs.Steps.{Lawful, Runs, state_after, with_seat}
 use Rattle.core_steps.specs.Invariant.{At, IsSound}
-use Rattle.core_steps.specs.Laws.{is_settle, is_join, RunsWithin, IsInPhase}
+use Rattle.core_steps.specs.Laws.{is_settle, is_join, RunsWithin}
 use Rattle.core_steps.proofs.NumberLists.{not_both, or_neither, equal_of_test}
 use Rattle.core_steps.proofs.StoreLists.{no_option, stored_same, stored_other}
 use Rattle.core_steps.proofs.StoreKeeps.{write_touches}
 use Rattle.core_steps.proofs.StateSteps.{step_keeps, run_keeps, out_found, any_held, with_seat_worker}
 use Rattle.core_steps.proofs.Phases.{step_in_phase, run_in_phase}
-use Rattle.core_steps.proofs.OwnValues.{StaysOut, step_stays, own_after}
+use Rattle.core_steps.proofs.OwnValues.{step_stays, own_after}
 
 -- something is stored at the address
 abbrev pub Stored : ℕ → List (ℕ × ℕ) → Type 0

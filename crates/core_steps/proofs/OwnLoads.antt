@@ -1,5 +1,5 @@
 -- A worker's load, over the steps of a phase.
-use Rattle.std.proofs.Common.{◌≡◌, ◌≢◌, ℕ, zero, suc, ◌+◌, ◌<◌, ◌≤◌, Bool, true, false, true≢false, ◌||◌, ◌&&◌, eqb, cond, List, [], ◌∷◌, ◌++◌, length, Option, Some, None, get_or, ◌⊎◌, inl, inr, ⊎_elim, refl, sym, ap, ◌∙◌, subst, eq-eqb, ne_eqb, arith}
+use Rattle.std.proofs.Common.{◌≡◌, ◌≢◌, ℕ, suc, ◌<◌, Bool, true, false, true≢false, ◌&&◌, eqb, cond, List, [], ◌∷◌, length, Option, Some, None, get_or, ⊎_elim, refl, sym, ap, ◌∙◌, subst, eq-eqb, ne_eqb, arith}
 use Rattle.std.specs.Prelude.{ℤ, unwrap_or}
 use Rattle.std.specs.List.{list_any}
 use Rattle.std.specs.Int.{w64, cast_unsigned, cast_signed}
@@ -9,20 +9,20 @@ use Rattle.core_steps.specs.declared.plan.Plan.{Plan}
 use Rattle.core_steps.specs.declared.step.Step.{Step}
 use Rattle.core_steps.specs.declared.step.Step.TheVariants.{Post, Split, Load, Store, See, Raise, Claim, Join, Settle}
 use Rattle.core_steps.specs.declared.view.View.{View}
-use Rattle.core_steps.specs.Numbers.{has, without}
+use Rattle.core_steps.specs.Numbers.{has}
 use Rattle.core_steps.specs.Plans.{touches}
-use Rattle.core_steps.specs.Views.{stored_at, value_at, lent_view}
+use Rattle.core_steps.specs.Views.{stored_at, lent_view}
 use Rattle.core_steps.specs.States.{State, views_of, view_of, word_of, memory_of, IsOut}
 use Rattle.core_steps.specs.Steps.{Lawful, Runs, state_after, answer_of, with_seat}
-use Rattle.core_steps.specs.Invariant.{At, Each, IsSound}
+use Rattle.core_steps.specs.Invariant.{At, IsSound}
 use Rattle.core_steps.specs.Laws.{is_settle, is_join, IsInPhase, stored_after, latest}
 use Rattle.core_steps.proofs.NumberLists.{not_both, or_neither, has_cons, has_rest}
 use Rattle.core_steps.proofs.StoreLists.{stored_same, stored_other}
 use Rattle.core_steps.proofs.WordLists.{shows_memory}
 use Rattle.core_steps.proofs.LoadKeeps.{load_value}
 use Rattle.core_steps.proofs.StateSteps.{step_keeps, out_found, any_held, with_seat_worker}
-use Rattle.core_steps.proofs.Phases.{IsPhaseState, phase_state, step_in_phase, reached_sound}
-use Rattle.core_steps.proofs.OwnValues.{StaysOut, step_stays, own_after, view-snoc_new}
+use Rattle.core_steps.proofs.Phases.{phase_state, step_in_phase, reached_sound}
+use Rattle.core_steps.proofs.OwnValues.{step_stays, own_after, view-snoc_new}
 
 abbrev pub is_split : ℕ → Step → Bool
 is_split w (Split v) = eqb v w

@@ -1,24 +1,21 @@
 -- What each step of a phase does to the view of a worker whose seat is out.
-use Rattle.std.proofs.Common.{◌≡◌, ◌≢◌, ℕ, zero, suc, ◌+◌, ◌<◌, ◌≤◌, Bool, true, false, true≢false, ◌||◌, ◌&&◌, eqb, cond, List, [], ◌∷◌, ◌++◌, length, Option, Some, None, get_or, set, ◌⊎◌, inl, inr, ⊎_elim, refl, sym, ap, ◌∙◌, subst, eq-eqb, ne_eqb, arith}
-use Rattle.std.specs.Prelude.{ℤ}
+use Rattle.std.proofs.Common.{◌≡◌, ◌≢◌, ℕ, zero, suc, Bool, true, false, true≢false, eqb, cond, List, [], ◌∷◌, ◌++◌, ⊎_elim, refl, sym, ap, ◌∙◌, subst, eq-eqb, ne_eqb, arith}
 use Rattle.std.specs.Int.{w64, cast_unsigned}
 use mathlib.Core.Option.{some-injective, some-ne-none}
 use mathlib.Core.Logic.{dite}
 use native.Mathlib.Decide.{ℕ_discrete}
-use Rattle.core_steps.specs.declared.plan.Plan.{Plan}
 use Rattle.core_steps.specs.declared.step.Step.{Step}
 use Rattle.core_steps.specs.declared.step.Step.TheVariants.{Post, Split, Load, Store, See, Raise, Claim, Join, Settle}
 use Rattle.core_steps.specs.declared.view.View.{View}
 use Rattle.core_steps.specs.Numbers.{has, without}
 use Rattle.std.specs.Prelude.{if◌then◌else◌}
 use Rattle.core_steps.specs.Views.{spent_view, lent_view, seeing_view, failed_view, claiming_view, storing_view, based_view, knowing_view, holding_view}
-use Rattle.core_steps.specs.States.{State, views_of, view_of, with_view, flag_of, claim_of, memory_word, claim_word, IsOut}
+use Rattle.core_steps.specs.States.{State, view_of, with_view, flag_of, claim_of, memory_word, claim_word, IsOut}
 use Rattle.core_steps.specs.Steps.{Lawful, state_after, seat_of, with_seat, with_word}
 use Rattle.core_steps.specs.Invariant.{At, Each, IsSound}
 use Rattle.core_steps.specs.Laws.{is_settle, is_join}
-use Rattle.core_steps.proofs.NumberLists.{not_both, has_there, has_cons, has_without, has_rest, has_here}
-use Rattle.core_steps.proofs.ViewLists.{at_last}
-use Rattle.core_steps.proofs.StateSteps.{IsFound, found, out_found, seat_of_worker, with_seat_worker}
+use Rattle.core_steps.proofs.NumberLists.{not_both, has_there, has_without}
+use Rattle.core_steps.proofs.StateSteps.{out_found, seat_of_worker, with_seat_worker}
 
 -- the view of a worker, in the list after a change
 

@@ -1,5 +1,5 @@
 -- What stays from a post to its settle.
-use Rattle.std.proofs.Common.{◌≡◌, ◌≢◌, ℕ, zero, suc, ◌+◌, ◌<◌, ◌≤◌, Bool, true, false, true≢false, ◌||◌, eqb, cond, List, [], ◌∷◌, ◌++◌, length, Option, Some, None, get_or, set, ◌⊎◌, inl, inr, ⊎_elim, refl, sym, ap, ◌∙◌, subst, eq-eqb, ne_eqb, arith}
+use Rattle.std.proofs.Common.{◌≡◌, ℕ, zero, suc, ◌<◌, true, false, true≢false, List, [], ◌∷◌, length, Option, Some, None, get_or, ⊎_elim, refl, sym, ap, ◌∙◌, subst, arith}
 use Rattle.std.specs.Prelude.{ℤ}
 use Rattle.std.specs.List.{list_any}
 use mathlib.Core.Option.{some-injective}
@@ -8,15 +8,13 @@ use Rattle.core_steps.specs.declared.plan.Plan.{Plan}
 use Rattle.core_steps.specs.declared.step.Step.{Step}
 use Rattle.core_steps.specs.declared.step.Step.TheVariants.{Post, Split, Load, Store, See, Raise, Claim, Join, Settle}
 use Rattle.core_steps.specs.declared.view.View.{View}
-use Rattle.core_steps.specs.Numbers.{has}
 use Rattle.core_steps.specs.Plans.{writes}
-use Rattle.core_steps.specs.Views.{Holds, Knows, stored_at, seeing_view, failed_view, claiming_view, storing_view, based_view}
-use Rattle.core_steps.specs.States.{State, start_of, bits_of, views_of, view_of, flag_of, claim_of, word_of, memory_of, memory_word, claim_word, IsOut, IsWord}
-use Rattle.core_steps.specs.Steps.{Lawful, Runs, state_after, seat_of, with_seat, with_word}
-use Rattle.core_steps.specs.Invariant.{At, Each, IsUntouched, Inv, IsSound}
-use Rattle.core_steps.specs.Laws.{IsReached, is_settle, RunsWithin, IsInPhase}
+use Rattle.core_steps.specs.Views.{Holds, Knows, stored_at}
+use Rattle.core_steps.specs.States.{State, start_of, bits_of, views_of, view_of, flag_of, word_of, memory_of, IsOut, IsWord}
+use Rattle.core_steps.specs.Steps.{Lawful, Runs, state_after, with_seat}
+use Rattle.core_steps.specs.Invariant.{At, Each, IsUntouched, IsSound}
+use Rattle.core_steps.specs.Laws.{IsReached, is_settle, IsInPhase}
 use Rattle.core_steps.proofs.NumberLists.{or_neither, not_both, has_none}
-use Rattle.core_steps.proofs.StoreLists.{no_option}
 use Rattle.core_steps.proofs.WordLists.{shows_memory}
 use Rattle.core_steps.proofs.StateSteps.{step_keeps, run_keeps, out_found, with_seat_worker}
 use Rattle.core_steps.proofs.Starts.{first_sound}

@@ -1,6 +1,6 @@
 -- The first view with a number, and the view of a worker.
-use Rattle.std.proofs.Common.{◌≡◌, ◌≢◌, ℕ, zero, suc, ◌+◌, ◌<◌, Bool, true, false, eqb, cond, not, List, [], ◌∷◌, length, get_or, set, refl, sym, ap, ◌∙◌, subst, eq-eqb, ne_eqb, arith, add-one, one-add}
-use Rattle.std.specs.Prelude.{Option, Some, None, position, nat_lt}
+use Rattle.std.proofs.Common.{◌≡◌, ◌≢◌, ℕ, zero, suc, ◌+◌, ◌<◌, Bool, eqb, cond, not, List, [], ◌∷◌, length, get_or, set, refl, sym, ap, ◌∙◌, subst, eq-eqb, ne_eqb, arith}
+use Rattle.std.specs.Prelude.{Option, Some, None, position}
 use Rattle.std.specs.List.{position_or_len}
 use Rattle.std.proofs.lemmas.Bool.{lt-ltb}
 use mathlib.Core.Option.{some-injective, some-ne-none}
@@ -8,8 +8,8 @@ use mathlib.Core.Logic.{dite}
 use native.Mathlib.Decide.{ℕ_discrete}
 use Rattle.core_steps.specs.declared.view.View.{View}
 use Rattle.core_steps.specs.Views.{spent_view}
-use Rattle.core_steps.specs.States.{State, view_of, with_view, IsOut, views_of}
-use Rattle.core_steps.specs.Places.{IsPlaceOf, IsPlaceFound}
+use Rattle.core_steps.specs.States.{State, view_of, with_view, IsOut}
+use Rattle.core_steps.specs.Places.{IsPlaceFound}
 use Rattle.core_steps.specs.Invariant.{At, IsSound}
 use Rattle.core_steps.proofs.StateSteps.{out_found}
 

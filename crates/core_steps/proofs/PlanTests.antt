@@ -1,5 +1,5 @@
 -- What the tests of a plan say.
-use Rattle.std.proofs.Common.{◌≡◌, ◌≢◌, ℕ, zero, suc, ◌-◌, ◌<◌, Bool, true, false, true≢false, ◌||◌, ◌&&◌, not, List, [], ◌∷◌, length, get_or, ◌⊎◌, inl, inr, ⊎_elim, refl, sym, ap, ◌∙◌, subst, arith}
+use Rattle.std.proofs.Common.{◌≡◌, ◌≢◌, ℕ, zero, suc, ◌-◌, ◌<◌, Bool, true, false, true≢false, ◌&&◌, not, List, [], ◌∷◌, length, get_or, ◌⊎◌, inl, inr, ⊎_elim, refl, sym, ap, ◌∙◌, subst, arith}
 use Rattle.std.specs.Prelude.{nat_lt}
 use Rattle.std.specs.List.{list_all}
 use Rattle.std.proofs.lemmas.Bool.{ltb-true, lt-ltb}
@@ -7,10 +7,9 @@ use Rattle.std.proofs.lemmas.List.{get_or_past, get_or_default}
 use mathlib.Core.Logic.{dite}
 use native.Mathlib.Decide.{ℕ_discrete}
 use Rattle.core_steps.specs.declared.plan.Tile.{Tile}
-use Rattle.core_steps.specs.declared.plan.Plan.{Plan}
 use Rattle.core_steps.specs.Numbers.{has}
-use Rattle.core_steps.specs.Plans.{no_tile, touches_of, writes_of, AreApart, WritesAlone, IsInside, are_apart, are_below, keeps_inside}
-use Rattle.core_steps.proofs.NumberLists.{is_false, not_both, or_cases, or_left, or_right, has_here, has_there, has_cons}
+use Rattle.core_steps.specs.Plans.{no_tile, touches_of, writes_of, AreApart, WritesAlone, are_apart, are_below, keeps_inside}
+use Rattle.core_steps.proofs.NumberLists.{not_both, or_cases, or_left, or_right, has_here, has_there, has_cons}
 
 and_both : (a b : Bool) → (a && b) ≡ true → (a ≡ true) × (b ≡ true)
 and_both true b h = (refl, h)

@@ -5,9 +5,8 @@ use mathlib.Core.Option.{some-injective}
 use mathlib.Core.Logic.{dite}
 use native.Mathlib.Decide.{ℕ_discrete}
 use Rattle.core_steps.specs.declared.view.View.{View}
-use Rattle.core_steps.specs.Numbers.{has}
 use Rattle.core_steps.specs.Plans.{IsSeparate, IsInside}
-use Rattle.core_steps.specs.Views.{Holds, stored_at, overlaid, spent_view}
+use Rattle.core_steps.specs.Views.{stored_at, overlaid, spent_view}
 use Rattle.core_steps.specs.States.{flag_of, claim_of, word_of}
 use Rattle.core_steps.specs.Invariant.{At, Each, IsEmptyHanded, PhaseIsSound, TilesAreSound, ValuesAreSound, Inv}
 use Rattle.core_steps.proofs.NumberLists.{has_none, single_empty}

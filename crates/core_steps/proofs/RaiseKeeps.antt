@@ -1,8 +1,8 @@
 -- A raise keeps the invariant: the flag is at the epoch, and a view has failed.
-use Rattle.std.proofs.Common.{◌≡◌, ◌≢◌, ℕ, ◌<◌, ◌≤◌, true, List, [], ◌∷◌, length, set, refl, sym, ap, ◌∙◌, subst, arith, length-set, get_or-set_same}
+use Rattle.std.proofs.Common.{◌≡◌, ℕ, ◌<◌, ◌≤◌, List, set, refl, sym, ◌∙◌, subst, arith, length-set, get_or-set_same}
 use Rattle.core_steps.specs.declared.view.View.{View}
 use Rattle.core_steps.specs.Views.{failed_view}
-use Rattle.core_steps.specs.States.{flag_of, claim_of}
+use Rattle.core_steps.specs.States.{flag_of}
 use Rattle.core_steps.specs.Invariant.{At, Inv}
 use Rattle.core_steps.proofs.ViewLists.{set_here}
 use Rattle.core_steps.proofs.WordLists.{claim-set_flag, word-set_flag}

@@ -1,9 +1,9 @@
 -- A load of the flag keeps the invariant: the seat remembers whether it saw the flag at its epoch.
-use Rattle.std.proofs.Common.{◌≡◌, ◌≢◌, ℕ, ◌<◌, Bool, true, false, ◌||◌, eqb, List, [], ◌∷◌, length, set, ⊎_elim, refl, sym, ap, ◌∙◌, subst, arith}
+use Rattle.std.proofs.Common.{◌≡◌, ◌≢◌, ℕ, ◌<◌, true, ◌||◌, eqb, List, ◌∷◌, set, ⊎_elim, refl, ◌∙◌, arith}
 use Rattle.core_steps.specs.declared.view.View.{View}
 use Rattle.core_steps.specs.Views.{seeing_view, spent_view}
 use Rattle.core_steps.specs.States.{flag_of}
-use Rattle.core_steps.specs.Invariant.{At, Each, IsLentBy, IsEmptyHanded, PhaseIsSound, TilesAreSound, ValuesAreSound, Inv}
+use Rattle.core_steps.specs.Invariant.{At, IsLentBy, Inv}
 use Rattle.core_steps.proofs.NumberLists.{or_cases, equal_of_test}
 use Rattle.core_steps.proofs.ViewLists.{each_set, each_kept, somewhere_set, one_set}
 use Rattle.core_steps.proofs.Moves.{phase_moves, tiles_stay, values_stay}

@@ -1,5 +1,5 @@
 -- A settle keeps the invariant: the phase is over, and the base shows the words.
-use Rattle.std.proofs.Common.{◌≡◌, ℕ, ◌<◌, ◌≤◌, true, false, true≢false, List, [], ◌∷◌, length, refl, sym, ◌∙◌, arith}
+use Rattle.std.proofs.Common.{◌≡◌, ℕ, true≢false, List, [], ◌∷◌, refl, sym, arith}
 use Rattle.core_steps.specs.declared.view.View.{View}
 use Rattle.core_steps.specs.Views.{settled_view, overlaid}
 use Rattle.core_steps.specs.Invariant.{IsEmptyHanded, Inv}

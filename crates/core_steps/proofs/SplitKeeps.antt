@@ -8,7 +8,7 @@ use Rattle.core_steps.specs.Numbers.{has, IsSingle}
 use Rattle.core_steps.specs.Plans.{writes}
 use Rattle.core_steps.specs.Views.{Holds, Knows, stored_at, spent_view, lending_view, lent_view}
 use Rattle.core_steps.specs.States.{flag_of, claim_of, word_of}
-use Rattle.core_steps.specs.Invariant.{At, Each, Somewhere, AtMostOne, IsUntouched, IsLentBy, IsEmptyHanded, PhaseIsSound, TilesAreSound, ValuesAreSound, Inv}
+use Rattle.core_steps.specs.Invariant.{Each, AtMostOne, IsUntouched, IsLentBy, PhaseIsSound, TilesAreSound, ValuesAreSound, Inv}
 use Rattle.core_steps.proofs.NumberLists.{has_here, has_there, has_cons}
 use Rattle.core_steps.proofs.StoreLists.{no_option}
 use Rattle.core_steps.proofs.ViewLists.{at_last, at_longer, each_lent, somewhere_lent, one_lent, one_last}

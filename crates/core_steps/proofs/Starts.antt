@@ -1,12 +1,12 @@
 -- The state at the start is sound.
-use Rattle.std.proofs.Common.{◌≡◌, ◌≢◌, ℕ, ◌+◌, ◌<◌, ◌≤◌, true, false, true≢false, List, [], ◌∷◌, ◌++◌, length, get_or, refl, sym, ap, ◌∙◌, arith, replicate, length-append, subst, ◌^◌, lit<}
+use Rattle.std.proofs.Common.{◌≡◌, ℕ, ◌+◌, ◌<◌, true≢false, List, [], ◌∷◌, ◌++◌, length, get_or, refl, sym, ap, ◌∙◌, arith, replicate, length-append, subst, ◌^◌, lit<}
 use Rattle.std.proofs.lemmas.List.{length-replicate, get_or-replicate, get_or-append_right}
 use Rattle.std.proofs.Math.ListN.{get_or-append}
 use mathlib.Core.Option.{some-ne-none}
 use Rattle.core_steps.specs.declared.view.View.{View}
-use Rattle.core_steps.specs.Views.{first_view, spent_view}
-use Rattle.core_steps.specs.States.{State, memory_word, claim_word, flag_of, claim_of, word_of, first_state}
-use Rattle.core_steps.specs.Invariant.{At, IsEmptyHanded, Inv, IsSound}
+use Rattle.core_steps.specs.Views.{first_view}
+use Rattle.core_steps.specs.States.{State, memory_word, claim_word, first_state}
+use Rattle.core_steps.specs.Invariant.{IsEmptyHanded, Inv, IsSound}
 use Rattle.core_steps.proofs.WordLists.{ShowsMemory}
 use Rattle.core_steps.proofs.Quiet.{AreSpent, quiet_phase, quiet_tiles, quiet_values}
 

@@ -1,36 +1,30 @@
 -- Each lawful step keeps a sound state.
-use Rattle.std.proofs.Common.{◌≡◌, ◌≢◌, ℕ, zero, suc, ◌+◌, ◌<◌, ◌≤◌, Bool, true, false, true≢false, eqb, cond, List, [], ◌∷◌, ◌++◌, length, set, ◌⊎◌, ⊎_elim, refl, sym, ap, ◌∙◌, subst, eq-eqb, ne_eqb, arith, replicate}
+use Rattle.std.proofs.Common.{◌≡◌, ◌≢◌, ℕ, zero, suc, ◌<◌, Bool, true, false, true≢false, eqb, cond, List, [], ◌∷◌, length, set, ◌⊎◌, ⊎_elim, refl, sym, ap, ◌∙◌, subst, eq-eqb, ne_eqb, arith}
 use Rattle.std.specs.List.{list_any}
 use Rattle.std.specs.Prelude.{if◌then◌else◌}
 use Rattle.std.specs.Int.{w64, cast_unsigned}
-use Rattle.std.proofs.lemmas.List.{length-replicate, get_or-replicate, get_or-append_right}
-use Rattle.std.proofs.Math.ListN.{get_or-append}
-use Rattle.std.proofs.Common.{get_or, length-append, length-drop}
 use mathlib.Core.Option.{some-injective, some-ne-none}
 use mathlib.Core.Logic.{dite}
 use native.Mathlib.Decide.{ℕ_discrete}
-use Rattle.core_steps.specs.declared.plan.Plan.{Plan}
 use Rattle.core_steps.specs.declared.step.Step.{Step}
 use Rattle.core_steps.specs.declared.step.Step.TheVariants.{Post, Split, Load, Store, See, Raise, Claim, Join, Settle}
 use Rattle.core_steps.specs.declared.view.View.{View}
 use Rattle.core_steps.specs.Numbers.{has}
-use Rattle.core_steps.specs.Plans.{IsInside, writes, touches}
-use Rattle.core_steps.specs.Views.{Holds, first_view, spent_view, storing_view, based_view, seeing_view, failed_view, claiming_view, joined_view, may_load, may_store, value_at}
-use Rattle.core_steps.specs.States.{State, memory_word, claim_word, flag_of, claim_of, word_of, memory_of, views_of, view_of, with_view, IsOut, IsWord, first_state}
+use Rattle.core_steps.specs.Plans.{writes}
+use Rattle.core_steps.specs.Views.{spent_view, storing_view, based_view, seeing_view, failed_view, claiming_view, joined_view, may_store}
+use Rattle.core_steps.specs.States.{State, memory_word, claim_word, flag_of, claim_of, memory_of, views_of, view_of, with_view, IsOut, IsWord}
 use Rattle.core_steps.specs.Steps.{Lawful, MayTouch, MayStore, Runs, state_after, seat_of, with_seat, with_word}
 use Rattle.core_steps.specs.Invariant.{At, Inv, IsSound}
-use Rattle.core_steps.proofs.WordLists.{ShowsMemory, shows_memory}
+use Rattle.core_steps.proofs.WordLists.{shows_memory}
 use Rattle.core_steps.proofs.PostKeeps.{post_keeps}
 use Rattle.core_steps.proofs.SplitKeeps.{split_keeps}
 use Rattle.core_steps.proofs.StoreKeeps.{store_keeps, main_store_keeps}
-use Rattle.core_steps.proofs.LoadKeeps.{load_value}
 use Rattle.core_steps.proofs.SeeKeeps.{see_keeps, main_see_keeps}
 use Rattle.core_steps.proofs.RaiseKeeps.{raise_keeps}
 use Rattle.core_steps.proofs.ClaimKeeps.{claim_keeps}
 use Rattle.core_steps.proofs.JoinKeeps.{join_keeps}
 use Rattle.core_steps.proofs.SettleKeeps.{settle_keeps}
 use Rattle.core_steps.proofs.NumberLists.{or_cases, has_here, has_there}
-use Rattle.core_steps.proofs.Quiet.{quiet_phase, quiet_tiles, quiet_values}
 
 -- the view of a worker in the list, its place there, and what it means to put another in its place
 pub record IsFound (w : ℕ) (views : List View) : Type 0 where

@@ -1,5 +1,5 @@
 -- A store keeps the invariant: a worker's, to a write of a tile that it holds, and main's between phases.
-use Rattle.std.proofs.Common.{◌≡◌, ◌≢◌, ℕ, ◌<◌, ◌≤◌, true, false, true≢false, List, [], ◌∷◌, length, Some, None, get_or, set, refl, sym, ap, ◌∙◌, subst, arith, length-set}
+use Rattle.std.proofs.Common.{◌≡◌, ◌≢◌, ℕ, ◌<◌, ◌≤◌, true, false, true≢false, List, ◌∷◌, length, Some, set, refl, sym, ap, ◌∙◌, subst, arith, length-set}
 use mathlib.Core.Logic.{dite}
 use native.Mathlib.Decide.{ℕ_discrete}
 use Rattle.core_steps.specs.declared.plan.Plan.{Plan}
@@ -7,8 +7,8 @@ use Rattle.core_steps.specs.declared.view.View.{View}
 use Rattle.core_steps.specs.Plans.{writes, touches, IsInside, tile_of}
 use Rattle.core_steps.specs.Numbers.{has}
 use Rattle.core_steps.specs.Views.{Holds, stored_at, storing_view, based_view}
-use Rattle.core_steps.specs.States.{memory_word, flag_of, claim_of, word_of}
-use Rattle.core_steps.specs.Invariant.{At, Each, IsUntouched, IsEmptyHanded, PhaseIsSound, TilesAreSound, ValuesAreSound, Inv}
+use Rattle.core_steps.specs.States.{memory_word, word_of}
+use Rattle.core_steps.specs.Invariant.{At, IsEmptyHanded, PhaseIsSound, TilesAreSound, ValuesAreSound, Inv}
 use Rattle.core_steps.proofs.NumberLists.{or_right, not_both}
 use Rattle.core_steps.proofs.StoreLists.{no_option, stored_same, stored_other}
 use Rattle.core_steps.proofs.ViewLists.{each_set, set_here}

@@ -1,13 +1,11 @@
 -- Computed examples, on a memory of the words 5 and 6 and a plan of one tile that reads word 0 and writes word 1.
-use Rattle.std.specs.Prelude.{◌≡◌, ℕ, true, false, List, [], ◌∷◌, Some, None, refl, pos}
+use Rattle.std.specs.Prelude.{◌≡◌, true, false, [], ◌∷◌, Some, None, refl, pos}
 use Rattle.core_steps.specs.declared.plan.Plan.{Plan}
-use Rattle.core_steps.specs.declared.plan.Tile.{Tile}
 use Rattle.core_steps.specs.declared.view.View.{View}
-use Rattle.core_steps.specs.declared.step.Step.TheVariants.{Split, Store, Claim}
-use Rattle.core_steps.specs.Numbers.{has, without}
+use Rattle.core_steps.specs.declared.step.Step.TheVariants.{Split, Store}
 use Rattle.core_steps.specs.Plans.{writes, touches}
-use Rattle.core_steps.specs.Views.{stored_at, overlaid, value_at, may_load, may_store, first_view, posted_view, lending_view, lent_view, claiming_view, storing_view, joined_view, settled_view}
-use Rattle.core_steps.specs.States.{view_of, with_view}
+use Rattle.core_steps.specs.Views.{stored_at, overlaid, value_at, may_load, may_store, first_view, posted_view, lending_view, lent_view, claiming_view, storing_view, joined_view}
+use Rattle.core_steps.specs.States.{view_of}
 use Rattle.core_steps.specs.Laws.{latest}
 
 abbrev pub one_tile : Plan

@@ -1,5 +1,5 @@
 -- Lists of numbers that stand for sets.
-use Rattle.std.specs.Prelude.{◌≡◌, ℕ, ◌==◌, Bool, true, false, ◌||◌, not, List, [], ◌∷◌, filter}
+use Rattle.std.specs.Prelude.{◌≡◌, ℕ, ◌==◌, Bool, false, not, List, [], ◌∷◌, filter}
 use Rattle.std.specs.List.{list_any}
 
 -- x stands in the list

@@ -1,5 +1,5 @@
 -- Where the view of a worker stands among the seats.
-use Rattle.std.specs.Prelude.{◌≡◌, ℕ, ◌<◌, List, length, Option, Some, None, slice_index_or, slice_set}
+use Rattle.std.specs.Prelude.{◌≡◌, ℕ, ◌<◌, length, Option, Some, None, slice_index_or, slice_set}
 use Rattle.core_steps.specs.declared.view.View.{View}
 use Rattle.core_steps.specs.States.{State, view_of, with_view, IsOut}
 use Rattle.core_steps.specs.Views.{spent_view}

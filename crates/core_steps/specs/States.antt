@@ -1,5 +1,5 @@
 -- A state of the machine: the shared words, main's view, and the views of the seats that main ever lent.
-use Rattle.std.specs.Prelude.{◌≡◌, ℕ, ℤ, ◌+◌, ◌<◌, ◌==◌, true, if◌then◌else◌, List, [], ◌∷◌, ◌++◌, length, map, drop, replicate, slice_index, slice_set}
+use Rattle.std.specs.Prelude.{◌≡◌, ℕ, ℤ, ◌+◌, ◌<◌, ◌==◌, true, if◌then◌else◌, List, [], ◌∷◌, ◌++◌, length, map, drop, replicate, slice_index}
 use Rattle.std.specs.Int.{w64, cast_unsigned}
 use Rattle.core_steps.specs.declared.view.View.{View}
 use Rattle.core_steps.specs.Numbers.{has}

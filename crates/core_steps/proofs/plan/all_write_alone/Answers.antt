@@ -1,4 +1,4 @@
-use Rattle.std.proofs.Common.{◌≡◌, ℕ, ◌<◌, refl, arith}
+use Rattle.std.proofs.Common.{refl, arith}
 use Rattle.core_steps.proofs.PlanTests.{all_alone_below}
 use Rattle.core_steps.proofs.plan.all_write_alone.Goals as goal
 

@@ -1,4 +1,4 @@
-use Rattle.std.proofs.Common.{◌≡◌, ℕ, ◌<◌, true≢false, sym, refl, arith}
+use Rattle.std.proofs.Common.{true≢false, sym, refl, arith}
 use Rattle.core_steps.proofs.PlanTests.{not_alone, alone_below}
 use Rattle.core_steps.proofs.plan.writes_alone.Goals as goal
 

@@ -1,9 +1,9 @@
-use Rattle.std.proofs.Common.{◌≡◌, ◌<◌, ◌^◌, ℕ, List, ◌∷◌, length, arith, sym, subst, get_or}
+use Rattle.std.proofs.Common.{◌<◌, ◌^◌, List, ◌∷◌, arith, sym, subst}
 use Rattle.core_steps.specs.declared.view.View.{View}
-use Rattle.core_steps.specs.States.{State, claim_word}
+use Rattle.core_steps.specs.States.{State}
 use Rattle.core_steps.specs.Places.{IsPlaceOf}
 use Rattle.core_steps.specs.Invariant.{Inv}
-use Rattle.core_steps.proofs.Applied.{IsDone, claim_done, seats_kept}
+use Rattle.core_steps.proofs.Applied.{claim_done, seats_kept}
 use Rattle.core_steps.proofs.machine.Core.claim.Goals as goal
 
 pub invariant_of-self : goal.invariant_of-self

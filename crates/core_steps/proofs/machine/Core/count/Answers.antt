@@ -1,5 +1,5 @@
-use Rattle.std.proofs.Common.{◌≡◌, ℕ, List, length, ◌-◌, ap, sym, ◌∙◌, length-drop, arith}
-use Rattle.core_steps.specs.States.{State, memory_of}
+use Rattle.std.proofs.Common.{length, ap, length-drop, arith}
+use Rattle.core_steps.specs.States.{State}
 use Rattle.core_steps.proofs.machine.Core.count.Goals as goal
 
 pub returns : goal.returns

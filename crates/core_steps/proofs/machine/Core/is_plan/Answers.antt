@@ -1,7 +1,6 @@
-use Rattle.std.proofs.Common.{◌≡◌, ◌<◌, ◌≤◌, ℕ, true, true≢false, length, sym, subst, arith}
+use Rattle.std.proofs.Common.{ℕ, length, subst, arith}
 use Rattle.core_steps.specs.Plans.{IsInside}
 use Rattle.core_steps.specs.States.{memory_of}
-use Rattle.core_steps.proofs.NumberLists.{not_both}
 use Rattle.core_steps.proofs.machine.Core.is_plan.Goals as goal
 
 pub returns : goal.returns

@@ -1,5 +1,5 @@
 use Rattle.std.specs.Int.{w64}
-use Rattle.std.proofs.Common.{◌≡◌, ◌<◌, ℕ, length, arith}
+use Rattle.std.proofs.Common.{◌<◌, length, arith}
 use Rattle.std.proofs.Math.Facts.{to_z-of_z}
 use Rattle.core_steps.specs.States.{State, memory_word}
 use Rattle.core_steps.specs.Steps.{MayLoad}

@@ -1,4 +1,4 @@
-use Rattle.std.proofs.Common.{◌≡◌, ℕ, List, [], ◌++◌, replicate, ap, ◌∙◌}
+use Rattle.std.proofs.Common.{ℕ, List, ◌++◌, replicate, ap, ◌∙◌}
 use Rattle.core_steps.specs.States.{bits_of}
 use Rattle.core_steps.specs.Views.{first_view}
 use Rattle.core_steps.proofs.Starts.{new_state, new_sound}

@@ -1,4 +1,4 @@
-use Rattle.std.proofs.Common.{◌≡◌, ℕ, ◌<◌, ◌-◌, ◌^◌, List, []}
+use Rattle.std.proofs.Common.{◌≡◌, ◌<◌, ◌-◌, ◌^◌, []}
 use Rattle.core_steps.specs.States.{State, memory_of}
 use Rattle.core_steps.specs.Steps.{IsPlan}
 use Rattle.core_steps.proofs.Applied.{post_done}

@@ -1,4 +1,4 @@
-use Rattle.std.proofs.Common.{◌≡◌, ℕ, List, [], ap, sym, ◌∙◌}
+use Rattle.std.proofs.Common.{◌≡◌, []}
 use Rattle.core_steps.specs.States.{State, memory_of}
 use Rattle.core_steps.proofs.Applied.{settle_done}
 use Rattle.core_steps.proofs.machine.Core.settle.Goals as goal

@@ -1,7 +1,7 @@
-use Rattle.std.proofs.Common.{◌≡◌, ◌<◌, ◌^◌, ℕ, false, List, [], ◌∷◌, ◌++◌, arith, sym, subst}
+use Rattle.std.proofs.Common.{◌≡◌, ◌<◌, ◌^◌, false, List, ◌∷◌, arith, sym, subst}
 use Rattle.core_steps.specs.declared.view.View.{View}
 use Rattle.core_steps.specs.Numbers.{has}
-use Rattle.core_steps.specs.States.{State, IsOut}
+use Rattle.core_steps.specs.States.{State}
 use Rattle.core_steps.specs.Invariant.{Inv}
 use Rattle.core_steps.proofs.NumberLists.{is_false, not_both}
 use Rattle.core_steps.proofs.Applied.{split_done}

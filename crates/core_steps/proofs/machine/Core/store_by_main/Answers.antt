@@ -1,7 +1,7 @@
 use Rattle.std.specs.Prelude.{ℤ}
 use Rattle.std.specs.Int.{w64, cast_unsigned}
 use Rattle.std.proofs.Math.Facts.{to_z-of_z}
-use Rattle.std.proofs.Common.{◌≡◌, ap, ◌∙◌}
+use Rattle.std.proofs.Common.{ap, ◌∙◌}
 use Rattle.core_steps.specs.States.{State}
 use Rattle.core_steps.specs.Steps.{MayTouch}
 use Rattle.core_steps.proofs.Applied.{main_store_done}

@@ -1,7 +1,7 @@
 use Rattle.std.specs.Prelude.{ℤ}
 use Rattle.std.specs.Int.{w64, cast_unsigned}
 use Rattle.std.proofs.Math.Facts.{to_z-of_z}
-use Rattle.std.proofs.Common.{◌≡◌, ◌<◌, true, ℕ, length, arith, sym, ap, ◌∙◌}
+use Rattle.std.proofs.Common.{◌≡◌, ◌<◌, true, length, arith, sym, ap, ◌∙◌}
 use Rattle.core_steps.specs.Views.{may_store}
 use Rattle.core_steps.specs.States.{State, memory_word}
 use Rattle.core_steps.specs.Places.{IsPlaceOf}
