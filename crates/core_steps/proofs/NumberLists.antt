@@ -1,0 +1,101 @@
+-- Lists of numbers that stand for sets.
+use Rattle.std.proofs.Common.{◌≡◌, ◌≢◌, ℕ, Bool, true, false, true≢false, ◌||◌, not, eqb, cond, List, [], ◌∷◌, ◌++◌, ◌⊎◌, inl, inr, ⊎_elim, refl, sym, ap, ◌∙◌, subst, eq-eqb, ne_eqb}
+use mathlib.Core.Logic.{dite}
+use native.Mathlib.Decide.{ℕ_discrete}
+use Rattle.core_steps.specs.Numbers.{has, without, IsSingle}
+
+pub or_left : (a b : Bool) → a ≡ true → (a || b) ≡ true
+or_left true b h = refl
+or_left false b h = absurd (true≢false (sym h))
+
+pub or_right : (a b : Bool) → b ≡ true → (a || b) ≡ true
+or_right true b h = refl
+or_right false b h = h
+
+pub or_cases : (a b : Bool) → (a || b) ≡ true → (a ≡ true) ⊎ (b ≡ true)
+or_cases true b h = inl refl
+or_cases false b h = inr h
+
+pub or_neither : (a b : Bool) → (a || b) ≡ false → (a ≡ false) × (b ≡ false)
+or_neither true b h = absurd (true≢false h)
+or_neither false b h = (refl, h)
+
+-- a test that isn't true is false
+pub is_false : (b : Bool) → ¬ (b ≡ true) → b ≡ false
+is_false true n = absurd (n refl)
+is_false false n = refl
+
+-- a test that is true isn't false
+pub not_both : (b : Bool) → b ≡ true → b ≡ false → ⊥
+not_both b t f = true≢false (sym t ∙ f)
+
+pub equal_of_test : (a b : ℕ) → eqb a b ≡ true → a ≡ b
+equal_of_test a b t = dite (ℕ_discrete a b) (λ e. e) (λ ne. absurd (not_both (eqb a b) t (ne_eqb a b ne)))
+
+pub has_here : (x : ℕ) (ys : List ℕ) → has x (x ∷ ys) ≡ true
+has_here x ys = or_left (eqb x x) (has x ys) (eq-eqb x x refl)
+
+pub has_there : (x y : ℕ) (ys : List ℕ) → has x ys ≡ true → has x (y ∷ ys) ≡ true
+has_there x y ys h = or_right (eqb y x) (has x ys) h
+
+pub has_cons : (x y : ℕ) (ys : List ℕ) → has x (y ∷ ys) ≡ true → (x ≡ y) ⊎ (has x ys ≡ true)
+has_cons x y ys h = dite (ℕ_discrete x y) (λ e. inl e) (λ ne. ⊎_elim (λ same. absurd (not_both (eqb y x) same (ne_eqb y x (λ e. ne (sym e))))) (λ r. inr r) (or_cases (eqb y x) (has x ys) h))
+
+pub has_none : (x : ℕ) (ys : List ℕ) → ys ≡ [] → ¬ (has x ys ≡ true)
+has_none x ys e h = true≢false (sym h ∙ ap (λ (l : List ℕ). has x l) e)
+
+pub has_append : (x : ℕ) (xs ys : List ℕ) → has x (xs ++ ys) ≡ true → (has x xs ≡ true) ⊎ (has x ys ≡ true)
+has_append x [] ys h = inr h
+has_append x (z ∷ xs) ys h = ⊎_elim (λ e. inl (or_left (eqb z x) (has x xs) (eq-eqb z x (sym e))))
+    (λ r. ⊎_elim (λ t. inl (has_there x z xs t)) (λ t. inr t) (has_append x xs ys r)) (has_cons x z (xs ++ ys) h)
+
+pub has_left : (x : ℕ) (xs ys : List ℕ) → has x xs ≡ true → has x (xs ++ ys) ≡ true
+has_left x [] ys h = absurd (true≢false (sym h))
+has_left x (z ∷ xs) ys h = ⊎_elim (λ e. or_left (eqb z x) (has x (xs ++ ys)) (eq-eqb z x (sym e))) (λ r. has_there x z (xs ++ ys) (has_left x xs ys r)) (has_cons x z xs h)
+
+pub has_right : (x : ℕ) (xs ys : List ℕ) → has x ys ≡ true → has x (xs ++ ys) ≡ true
+has_right x [] ys h = h
+has_right x (z ∷ xs) ys h = has_there x z (xs ++ ys) (has_right x xs ys h)
+
+pub has_snoc : (x k : ℕ) (ys : List ℕ) → has x (ys ++ k ∷ []) ≡ true → (x ≡ k) ⊎ (has x ys ≡ true)
+has_snoc x k ys h = ⊎_elim (λ r. inr r) (λ r. ⊎_elim (λ e. inl e) (λ n. absurd (true≢false (sym n))) (has_cons x k [] r)) (has_append x ys (k ∷ []) h)
+
+pub has_last : (k : ℕ) (ys : List ℕ) → has k (ys ++ k ∷ []) ≡ true
+has_last k ys = has_right k ys (k ∷ []) (has_here k [])
+
+without_same : (x y : ℕ) (ys : List ℕ) → y ≡ x → without x (y ∷ ys) ≡ without x ys
+without_same x y ys e = ap (λ (b : Bool). cond (not b) (y ∷ without x ys) (without x ys)) (eq-eqb y x e)
+
+without_other : (x y : ℕ) (ys : List ℕ) → y ≢ x → without x (y ∷ ys) ≡ y ∷ without x ys
+without_other x y ys ne = ap (λ (b : Bool). cond (not b) (y ∷ without x ys) (without x ys)) (ne_eqb y x ne)
+
+pub has_without : (x y : ℕ) (ys : List ℕ) → x ≢ y → has x ys ≡ true → has x (without y ys) ≡ true
+has_without x y [] ne h = h
+has_without x y (z ∷ ys) ne h = dite (ℕ_discrete z y)
+    (λ e. subst (λ (l : List ℕ). has x l ≡ true) (sym (without_same y z ys e)) (⊎_elim (λ d. absurd (ne (d ∙ e))) (λ r. has_without x y ys ne r) (has_cons x z ys h)))
+    (λ n. subst (λ (l : List ℕ). has x l ≡ true) (sym (without_other y z ys n)) (⊎_elim (λ d. or_left (eqb z x) (has x (without y ys)) (eq-eqb z x (sym d))) (λ r. has_there x z (without y ys) (has_without x y ys ne r)) (has_cons x z ys h)))
+
+-- what is left was there, and isn't what was taken out
+pub has_rest : (x y : ℕ) (ys : List ℕ) → has x (without y ys) ≡ true → (x ≢ y) × (has x ys ≡ true)
+has_rest x y [] h = absurd (true≢false (sym h))
+has_rest x y (z ∷ ys) h = dite (ℕ_discrete z y)
+    (λ e. let r = has_rest x y ys (subst (λ (l : List ℕ). has x l ≡ true) (without_same y z ys e) h) in (r.0, has_there x z ys r.1))
+    (λ n. ⊎_elim (λ d. ((λ s. n (sym d ∙ s)), or_left (eqb z x) (has x ys) (eq-eqb z x (sym d)))) (λ r. let q = has_rest x y ys r in (q.0, has_there x z ys q.1))
+    (has_cons x z (without y ys) (subst (λ (l : List ℕ). has x l ≡ true) (without_other y z ys n) h)))
+
+pub single_without : (y : ℕ) (ys : List ℕ) → IsSingle ys → IsSingle (without y ys)
+single_without y [] h = tt
+single_without y (z ∷ ys) h = dite (ℕ_discrete z y)
+    (λ e. subst IsSingle (sym (without_same y z ys e)) (single_without y ys h.1))
+    (λ n. subst IsSingle (sym (without_other y z ys n)) (is_false (has z (without y ys)) (λ t. not_both (has z ys) (has_rest z y ys t).1 h.0), single_without y ys h.1))
+
+pub single_append : (xs ys : List ℕ) → IsSingle xs → IsSingle ys → ((n : ℕ) → has n xs ≡ true → ¬ (has n ys ≡ true)) → IsSingle (xs ++ ys)
+single_append [] ys p q apart = q
+single_append (x ∷ xs) ys p q apart =
+    (is_false (has x (xs ++ ys)) (λ t. ⊎_elim (λ a. not_both (has x xs) a p.0) (λ b. apart x (has_here x xs) b) (has_append x xs ys t)), single_append xs ys p.1 q (λ n a b. apart n (has_there n x xs a) b))
+
+pub single_snoc : (k : ℕ) (ks : List ℕ) → IsSingle ks → ¬ (has k ks ≡ true) → IsSingle (ks ++ k ∷ [])
+single_snoc k ks one fresh = single_append ks (k ∷ []) one (refl, tt) (λ n a b. ⊎_elim (λ e. fresh (subst (λ (j : ℕ). has j ks ≡ true) e a)) (λ r. true≢false (sym r)) (has_cons n k [] b))
+
+pub single_empty : (ks : List ℕ) → ks ≡ [] → IsSingle ks
+single_empty ks e = subst IsSingle (sym e) tt
