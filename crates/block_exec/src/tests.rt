@@ -73,11 +73,26 @@ fn an_if_runs_one_branch_and_counts_it(rt: HostRuntime) -> Result<(), Fail> {
         let mut scalars = [choice, 0];
         let mut steps = Budget { left: 10, used: 0 };
         let mut port = MemoryPort::new(&mut memory);
-        let end = exec_block(AT, block.as_slice(), &mut scalars, &[], &[], &mut port, &mut steps, &mut Blind);
+        let end = exec_block(
+            AT,
+            block.as_slice(),
+            &mut scalars,
+            &[],
+            &[],
+            &mut port,
+            &mut steps,
+            &mut Blind,
+        );
         assert_eq!(rt; end, BlockEnd::Ended);
         assert_eq!(rt; memory, want);
         assert_eq!(rt; scalars[1], if choice == 0 { 5 } else { 0 });
-        assert_eq!(rt; steps, Budget { left: 10 - used, used });
+        assert_eq!(rt;
+            steps,
+            Budget {
+                left: 10 - used,
+                used
+            }
+        );
     }
     Ok(())
 }
@@ -92,7 +107,16 @@ fn a_trap_in_mid_block_keeps_the_effects_before_it(rt: HostRuntime) -> Result<()
     let mut scalars = [0];
     let mut steps = Budget { left: 10, used: 3 };
     let mut port = MemoryPort::new(&mut memory);
-    let end = exec_block(AT, block.as_slice(), &mut scalars, &[], &[], &mut port, &mut steps, &mut Blind);
+    let end = exec_block(
+        AT,
+        block.as_slice(),
+        &mut scalars,
+        &[],
+        &[],
+        &mut port,
+        &mut steps,
+        &mut Blind,
+    );
     assert_eq!(rt; end, BlockEnd::Trapped(Trap::ZeroDivisor));
     assert_eq!(rt; memory, [7, 0]);
     assert_eq!(rt; scalars, [0]);
@@ -111,10 +135,23 @@ fn an_address_is_shown_before_it_is_refused(rt: HostRuntime) -> Result<(), Fail>
     let mut steps = Budget { left: 10, used: 0 };
     let mut watch = Record::new(alloc);
     let mut port = MemoryPort::new(&mut memory);
-    let end = exec_block(AT, block.as_slice(), &mut scalars, &[], &[], &mut port, &mut steps, &mut watch);
+    let end = exec_block(
+        AT,
+        block.as_slice(),
+        &mut scalars,
+        &[],
+        &[],
+        &mut port,
+        &mut steps,
+        &mut watch,
+    );
     assert_eq!(rt; end, BlockEnd::Trapped(Trap::Outside(5)));
     assert_eq!(rt; memory, [4, 4]);
-    let want = [(Seen::Start, 0), (Seen::Scalar(0), 6), (Seen::Address(1), 5)];
+    let want = [
+        (Seen::Start, 0),
+        (Seen::Scalar(0), 6),
+        (Seen::Address(1), 5),
+    ];
     assert_eq!(rt; &watch.seen[..], &want[..]);
     Ok(())
 }
@@ -129,7 +166,16 @@ fn a_limited_block_shows_its_scalars(rt: HostRuntime) -> Result<(), Fail> {
         let mut steps = Budget { left, used: 0 };
         let mut watch = Record::new(alloc);
         let mut port = MemoryPort::new(&mut memory);
-        let end = exec_block(AT, block.as_slice(), &mut scalars, &[], &[], &mut port, &mut steps, &mut watch);
+        let end = exec_block(
+            AT,
+            block.as_slice(),
+            &mut scalars,
+            &[],
+            &[],
+            &mut port,
+            &mut steps,
+            &mut watch,
+        );
         assert_eq!(rt; end, BlockEnd::Limited);
         assert_eq!(rt; memory, want);
         assert_eq!(rt; watch.seen[0], (Seen::Start, 0));
@@ -154,7 +200,13 @@ fn heads_yield_bounds_and_conditions(rt: HostRuntime) -> Result<(), Fail> {
         let mut port = MemoryPort::new(&mut memory);
         let end = exec_head(AT, &head, &[2], &[], &[], &mut port, &mut steps, &mut watch);
         assert_eq!(rt; end, want);
-        assert_eq!(rt; steps, Budget { left: 0, used: left });
+        assert_eq!(rt;
+            steps,
+            Budget {
+                left: 0,
+                used: left
+            }
+        );
         assert_eq!(rt; watch.seen[1], (Seen::Scalar(0), 2));
     }
     Ok(())
