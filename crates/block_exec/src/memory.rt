@@ -1,6 +1,7 @@
 //! The plain port.
 
 ghost use Rattle.std.specs.Prelude.{◌≡◌, ◌↔◌, ◌<◌, ◌≤ℤ◌, IsTrue, pos, unsigned_abs};
+ghost use Rattle.std.specs.Borrow.{GName};
 ghost use Rattle.nest_lang.specs.Lookups.{plain};
 
 use crate::port::Port;
@@ -22,13 +23,14 @@ impl<'a> MemoryPort<'a> {
 }
 
 impl Port for MemoryPort<'_> {
-    ghost Basis = { Unit {0} };
+    ghost Basis = { GName };
 
     ghost memory = { λ p. p.memory.now };
 
     ghost expects = { λ p. plain };
 
-    ghost basis = { λ p. tt };
+    // the reference that it was made of, so that a caller learns what was written through it
+    ghost basis = { λ p. p.memory.ghost_name };
 
     #[tactic(auto, using(crate::proofs::Plain::plain_looks))]
     fn load(&mut self, _access: u8, address: i64) -> Result<i64, Stop> {
