@@ -112,7 +112,7 @@ module _ (f : Frame) (verified : f.expects.verifies ≡ true) where
   level_near (Stmt-F.Store access a e) s t h =
       ap₂ (λ (p q : Told). with_value p.seen p.value (λ z. with_value (p.seen ++ q.seen) q.value (λ k. stored (p.seen ++ q.seen ++ shown f (Address access) z ∷ []) z k (or_stopped access (look_store f.expects s.memory access z))))) (told_alike s t a h) (told_alike s t e h)
       ∙ ap (λ (go : ℤ → ℤ → Step). with_value (told f t a).seen (told f t a).value (λ z. with_value ((told f t a).seen ++ (told f t e).seen) (told f t e).value (go z)))
-        (λ i z k. stored_alike ((told f t a).seen ++ (told f t e).seen ++ shown f (Address access) z ∷ []) access z k s.memory t.memory h.memory.0 i)
+      (λ i z k. stored_alike ((told f t a).seen ++ (told f t e).seen ++ shown f (Address access) z ∷ []) access z k s.memory t.memory h.memory.0 i)
 
   traced_near : (x : Stmt-F (Store → Trace)) → ((s : Store) → AllByRecursion Near (statement_level f x s).rest) → Near (λ s. traced (statement_level f x s) s)
   unfolding Near

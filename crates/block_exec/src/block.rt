@@ -1,7 +1,8 @@
 //! Execution of blocks.
 
-ghost use Rattle.std.specs.Prelude.{◌≡◌, ◌+◌, ◌≤◌, ◌^◌, ◌++◌, [], length, slice_set, unsigned_abs, MatchResult, IsOk, OnOk, OnErr, IfErr, false};
+ghost use Rattle.std.specs.Prelude.{◌≡◌, ◌+◌, ◌≤◌, ◌^◌, ◌++◌, [], length, slice_set, unsigned_abs, MatchResult, IsOk, OnOk, OnErr, IfErr, false, pos, if◌then◌else◌};
 ghost use Rattle.nest_lang.specs.declared.observe.Seen.TheVariants.{Address};
+ghost use Rattle.nest_lang.specs.Values.{same};
 ghost use Rattle.nest_lang.specs.Stores.{store_of};
 ghost use Rattle.nest_lang.specs.Lookups.{look_store};
 ghost use Rattle.nest_lang.specs.Traces.{cut_of, cut, seen_in};
@@ -16,6 +17,7 @@ use crate::port::Port;
 use crate::site::Site;
 use crate::watch::Watch;
 use nest_lang::{BlockRef, Budget, Seen, Stmt, Trap};
+use sqlite_items::Items;
 
 /// How a block ends.
 #[derive(Clone, Copy, Debug, PartialEq, Eq)]
@@ -136,8 +138,8 @@ fn run_statement<P: Port, W: Watch>(
             condition, site, scalars, locals, port, watch,
         ) {
             Ok(value) => {
-                let chosen = if value == 0 { second } else { first };
-                run_statements(chosen.as_slice(), site, scalars, locals, port, steps, watch)
+                let branch = chosen(value, first, second);
+                run_statements(branch, site, scalars, locals, port, steps, watch)
             }
             Err(halt) => halt.end(),
         },
@@ -177,6 +179,17 @@ fn run_statements<P: Port, W: Watch>(
         }
     }
     BlockEnd::Ended
+}
+
+/// The branch of an `if`: the first where its value is not 0, and else the second.
+fn chosen<'a>(value: i64, first: &'a Items<Stmt>, second: &'a Items<Stmt>) -> &'a [Stmt]
+    ensures { result.now ≡ (if same value (pos 0) then second.now else first.now) }
+{
+    if value == 0 {
+        second.as_slice()
+    } else {
+        first.as_slice()
+    }
 }
 
 /// Sets one place, if there is one of that number.

@@ -6,11 +6,9 @@ ghost use Rattle.block_exec.specs.Laws.{DependsWhereLoaded, ChangesWhereStored};
 /// words.
 pub fn depends_where_loaded()
     ensures { DependsWhereLoaded }
-{
-}
+{}
 
 /// A block leaves every word where no store is expected, also where it is cut off.
 pub fn changes_where_stored()
     ensures { ChangesWhereStored }
-{
-}
+{}

@@ -61,24 +61,39 @@ fn pair(alloc: Global, first: Stmt, second: Stmt) -> Result<Items<Stmt>, AllocEr
     Ok(block)
 }
 
+/// An `if` of two statements on either side, run where scalar 0 has a value: how it ended, the words, the
+/// scalars and the steps.
+fn run_if(
+    alloc: Global,
+    choice: i64,
+) -> Result<(BlockEnd, [i64; 2], [i64; 2], Budget), AllocError> {
+    let first = pair(alloc, store(0, 7), store(1, 9))?;
+    let second = pair(alloc, store(0, 8), Stmt::Set(1, Expr::Number(5)))?;
+    let mut block = Items::new(alloc);
+    block.push(Stmt::If(scalar(0), first, second))?;
+    let mut memory = [0, 0];
+    let mut scalars = [choice, 0];
+    let mut steps = Budget { left: 10, used: 0 };
+    let mut port = MemoryPort::new(&mut memory);
+    let end = exec_block(
+        AT,
+        block.as_slice(),
+        &mut scalars,
+        &[],
+        &[],
+        &mut port,
+        &mut steps,
+        &mut Blind,
+    );
+    Ok((end, memory, scalars, steps))
+}
+
 #[test]
 fn an_if_runs_one_branch_and_counts_it(rt: HostRuntime) -> Result<(), Fail> {
     let alloc = rt.alloc();
-    for (choice, want, used) in [(1, [7, 9], 3), (0, [8, 0], 3)] {
-        let first = pair(alloc, store(0, 7), store(1, 9))?;
-        let second = pair(alloc, store(0, 8), Stmt::Set(1, Expr::Number(5)))?;
-        let mut block = Items::new(alloc);
-        block.push(Stmt::If(scalar(0), first, second))?;
-        let mut memory = [0, 0];
-        let mut scalars = [choice, 0];
-        let mut steps = Budget { left: 10, used: 0 };
-        let mut port = MemoryPort::new(&mut memory);
-        let end = exec_block(AT, block.as_slice(), &mut scalars, &[], &[], &mut port, &mut steps, &mut Blind);
-        assert_eq!(rt; end, BlockEnd::Ended);
-        assert_eq!(rt; memory, want);
-        assert_eq!(rt; scalars[1], if choice == 0 { 5 } else { 0 });
-        assert_eq!(rt; steps, Budget { left: 10 - used, used });
-    }
+    let steps = Budget { left: 7, used: 3 };
+    assert_eq!(rt; run_if(alloc, 1)?, (BlockEnd::Ended, [7, 9], [1, 0], steps));
+    assert_eq!(rt; run_if(alloc, 0)?, (BlockEnd::Ended, [8, 0], [0, 5], steps));
     Ok(())
 }
 
@@ -92,7 +107,16 @@ fn a_trap_in_mid_block_keeps_the_effects_before_it(rt: HostRuntime) -> Result<()
     let mut scalars = [0];
     let mut steps = Budget { left: 10, used: 3 };
     let mut port = MemoryPort::new(&mut memory);
-    let end = exec_block(AT, block.as_slice(), &mut scalars, &[], &[], &mut port, &mut steps, &mut Blind);
+    let end = exec_block(
+        AT,
+        block.as_slice(),
+        &mut scalars,
+        &[],
+        &[],
+        &mut port,
+        &mut steps,
+        &mut Blind,
+    );
     assert_eq!(rt; end, BlockEnd::Trapped(Trap::ZeroDivisor));
     assert_eq!(rt; memory, [7, 0]);
     assert_eq!(rt; scalars, [0]);
@@ -101,7 +125,7 @@ fn a_trap_in_mid_block_keeps_the_effects_before_it(rt: HostRuntime) -> Result<()
 }
 
 #[test]
-fn an_address_is_shown_before_it_is_refused(rt: HostRuntime) -> Result<(), Fail> {
+fn an_address_is_shown_where_it_is_refused(rt: HostRuntime) -> Result<(), Fail> {
     let alloc = rt.alloc();
     let mut block = Items::new(alloc);
     let value = load(alloc, 1, Expr::Number(5))?;
@@ -111,51 +135,88 @@ fn an_address_is_shown_before_it_is_refused(rt: HostRuntime) -> Result<(), Fail>
     let mut steps = Budget { left: 10, used: 0 };
     let mut watch = Record::new(alloc);
     let mut port = MemoryPort::new(&mut memory);
-    let end = exec_block(AT, block.as_slice(), &mut scalars, &[], &[], &mut port, &mut steps, &mut watch);
+    let end = exec_block(
+        AT,
+        block.as_slice(),
+        &mut scalars,
+        &[],
+        &[],
+        &mut port,
+        &mut steps,
+        &mut watch,
+    );
     assert_eq!(rt; end, BlockEnd::Trapped(Trap::Outside(5)));
     assert_eq!(rt; memory, [4, 4]);
-    let want = [(Seen::Start, 0), (Seen::Scalar(0), 6), (Seen::Address(1), 5)];
+    let want = [
+        (Seen::Start, 0),
+        (Seen::Scalar(0), 6),
+        (Seen::Address(1), 5),
+    ];
     assert_eq!(rt; &watch.seen[..], &want[..]);
     Ok(())
 }
 
 #[test]
-fn a_limited_block_shows_its_scalars(rt: HostRuntime) -> Result<(), Fail> {
+fn a_block_without_steps_shows_its_scalars(rt: HostRuntime) -> Result<(), Fail> {
     let alloc = rt.alloc();
     let block = pair(alloc, store(0, 7), store(1, 9))?;
-    for (left, want) in [(0, [0, 0]), (1, [7, 0])] {
-        let mut memory = [0, 0];
-        let mut scalars = [6];
-        let mut steps = Budget { left, used: 0 };
-        let mut watch = Record::new(alloc);
-        let mut port = MemoryPort::new(&mut memory);
-        let end = exec_block(AT, block.as_slice(), &mut scalars, &[], &[], &mut port, &mut steps, &mut watch);
-        assert_eq!(rt; end, BlockEnd::Limited);
-        assert_eq!(rt; memory, want);
-        assert_eq!(rt; watch.seen[0], (Seen::Start, 0));
-        assert_eq!(rt; watch.seen[1], (Seen::Scalar(0), 6));
-    }
+    let mut memory = [0, 0];
+    let mut scalars = [6];
+    let mut steps = Budget { left: 0, used: 0 };
+    let mut watch = Record::new(alloc);
+    let mut port = MemoryPort::new(&mut memory);
+    let end = exec_block(
+        AT,
+        block.as_slice(),
+        &mut scalars,
+        &[],
+        &[],
+        &mut port,
+        &mut steps,
+        &mut watch,
+    );
+    assert_eq!(rt; end, BlockEnd::Limited);
+    assert_eq!(rt; memory, [0, 0]);
+    let want = [(Seen::Start, 0), (Seen::Scalar(0), 6)];
+    assert_eq!(rt; &watch.seen[..], &want[..]);
     Ok(())
 }
 
 #[test]
-fn heads_yield_bounds_and_conditions(rt: HostRuntime) -> Result<(), Fail> {
+fn a_for_yields_its_bounds(rt: HostRuntime) -> Result<(), Fail> {
     let alloc = rt.alloc();
-    let mut memory = [9];
     let lower = load(alloc, 1, Expr::Number(0))?;
-    let condition = two(alloc, Op::Lt, scalar(0), Expr::Number(2))?;
-    for (head, left, want) in [
-        (Head::For(lower, Expr::Number(0), -4), 1, HeadEnd::For(9, 3)),
-        (Head::While(condition), 1, HeadEnd::While(false)),
-        (Head::While(Expr::Number(5)), 0, HeadEnd::Limited),
-    ] {
-        let mut steps = Budget { left, used: 0 };
-        let mut watch = Record::new(alloc);
-        let mut port = MemoryPort::new(&mut memory);
-        let end = exec_head(AT, &head, &[2], &[], &[], &mut port, &mut steps, &mut watch);
-        assert_eq!(rt; end, want);
-        assert_eq!(rt; steps, Budget { left: 0, used: left });
-        assert_eq!(rt; watch.seen[1], (Seen::Scalar(0), 2));
-    }
+    let head = Head::For(lower, Expr::Number(0), -4);
+    let mut memory = [9];
+    let mut steps = Budget { left: 1, used: 0 };
+    let mut watch = Record::new(alloc);
+    let mut port = MemoryPort::new(&mut memory);
+    let end = exec_head(AT, &head, &[], &[], &[], &mut port, &mut steps, &mut watch);
+    assert_eq!(rt; end, HeadEnd::For(9, 3));
+    assert_eq!(rt; steps, Budget { left: 0, used: 1 });
+    let want = [
+        (Seen::Start, 0),
+        (Seen::Address(1), 0),
+        (Seen::Lower, 9),
+        (Seen::Trip, 3),
+    ];
+    assert_eq!(rt; &watch.seen[..], &want[..]);
+    Ok(())
+}
+
+#[test]
+fn a_while_yields_its_condition(rt: HostRuntime) -> Result<(), Fail> {
+    let alloc = rt.alloc();
+    let head = Head::While(two(alloc, Op::Lt, scalar(0), Expr::Number(2))?);
+    let mut memory = [];
+    let mut steps = Budget { left: 1, used: 0 };
+    let mut watch = Record::new(alloc);
+    let mut port = MemoryPort::new(&mut memory);
+    let end = exec_head(AT, &head, &[2], &[], &[], &mut port, &mut steps, &mut watch);
+    assert_eq!(rt; end, HeadEnd::While(false));
+    let want = [(Seen::Start, 0), (Seen::Scalar(0), 2), (Seen::Condition, 0)];
+    assert_eq!(rt; &watch.seen[..], &want[..]);
+    let end = exec_head(AT, &head, &[2], &[], &[], &mut port, &mut steps, &mut Blind);
+    assert_eq!(rt; end, HeadEnd::Limited);
     Ok(())
 }
