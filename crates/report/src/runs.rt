@@ -13,6 +13,15 @@ pub struct WordRun {
     pub value: i64,
 }
 
+impl WordRun {
+    /// Writes the line of this run.
+    fn push_line(&self, text: &mut String) -> Result<(), AllocError>
+        ensures { OnOk result (string_bytes text.new ≡ string_bytes text.old ++ words_line self.now) }
+    {
+        writeln!(text, "words {} {} {}", self.first, self.last, self.value)
+    }
+}
+
 /// Writes a line for each longest run of equal words that aren't 0, ascending.
 pub(crate) fn push_words(text: &mut String, memory: &[i64]) -> Result<(), AllocError>
     ensures { OnOk result ((runs : List WordRun) × LongestRuns memory.now runs
@@ -26,7 +35,7 @@ pub(crate) fn push_words(text: &mut String, memory: &[i64]) -> Result<(), AllocE
             value: words[0],
         };
         if run.value != 0 {
-            writeln!(text, "words {} {} {}", run.first, run.last, run.value)?;
+            run.push_line(text)?;
         }
         first += words.len();
     }
