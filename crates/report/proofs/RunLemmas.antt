@@ -4,7 +4,7 @@ use Rattle.std.specs.Prelude.{All, Any, AllPairs, Contains}
 use Rattle.std.specs.List.{AllAdjacentBelow, IsChunkByPrefix, prefix_len}
 use Rattle.std.specs.Ordering.{int_eq}
 use Rattle.std.specs.Option.{unwrap_or}
-use Rattle.std.proofs.lemmas.Bool.{cases_lt, bool_cases, false≢true}
+use Rattle.std.proofs.lemmas.Bool.{cases_lt, cases_Bool, false≢true}
 use Rattle.std.proofs.lemmas.Bool.Decides.{Decides-int_eq}
 use Rattle.std.proofs.lemmas.List.{get_or-drop, get_or_append_left, drop-drop, append-nil}
 use Rattle.std.proofs.lemmas.Grind.{flat_map-append}
@@ -195,7 +195,7 @@ longest_from (suc k) n memory runs end so = elim (cases_lt n (length memory)) [
     inl inside ↦
       let found = some_piece memory n inside in
       let some = found.2.not_empty in
-      elim (bool_cases (int_eq found.1 (pos 0))) [
+      elim (cases_Bool (int_eq found.1 (pos 0))) [
         inl test ↦ longest_from k (n + found.0) memory runs (omega arith)
           (LongestBelow-zeros memory n found.0 runs (subst (λ (word : ℤ). IsPiece memory n found.0 word) ((Decides-int_eq found.1 (pos 0)).0 test) found.2) so)
       | inr test ↦ longest_from k (n + found.0) memory (runs ++ run_of n found.0 found.1 ∷ []) (omega arith)
