@@ -1,8 +1,8 @@
 -- A memory has no two lists of longest runs.
-use Rattle.std.proofs.Common.{◌≡◌, ◌≢◌, ℕ, zero, suc, ◌+◌, ◌-◌, ◌<◌, ◌≤◌, ℤ, pos, List, [], ◌∷◌, ◌++◌, length, get_or, Some, arith, slice_get, refl, sym, ◌∙◌, ap, subst, ◌⊎◌, inl, inr}
-use Rattle.std.specs.Prelude.{All, Any, AllPairs, Contains}
+use Rattle.std.proofs.Common.{◌≡◌, ℕ, zero, suc, ◌+◌, ◌-◌, ◌<◌, ◌≤◌, ℤ, List, [], ◌∷◌, get_or, Some, arith, refl, sym, ◌∙◌, ap, subst, ◌⊎◌, inl, inr}
+use Rattle.std.specs.Prelude.{All, AllPairs, Contains}
 use Rattle.std.proofs.lemmas.Bool.{cases_lt}
-use Rattle.std.proofs.lemmas.List.Elements.{All-head, All-tail, All-contains, Contains-get_or, Contains-append_cases}
+use Rattle.std.proofs.lemmas.List.Elements.{All-tail, All-contains}
 use Rattle.report.specs.declared.runs.WordRun.{WordRun}
 use Rattle.report.specs.LongestRuns.{IsIn, IsLongest, LongestRuns}
 use Rattle.report.proofs.RunLemmas.{same_word}
@@ -17,25 +17,25 @@ same_value memory one other a is is' inside inside' = same_word memory a one.val
 -- none of two longest runs with an address in common begins after the other
 begins_no_later : (memory : List ℤ) (one other : WordRun) (a : ℕ) → IsLongest memory one → IsLongest memory other → IsIn one a → IsIn other a → one.first ≤ other.first
 begins_no_later memory one other a is is' inside inside' = elim (cases_lt other.first one.first) [
-    inl later ↦
+  | inl later ↦
       let low = inside.0 in
       let high = inside'.1 in
       let next : one.first - 1 + 1 ≡ one.first = omega arith in
       let at = is'.equal (one.first - 1) (omega arith, omega arith) in
       absurd (is.before (one.first - 1) next (at ∙ ap Some (sym (same_value memory one other a is is' inside inside'))))
   | inr not_later ↦ not_later
-  ]
+]
 
 -- none of them ends before the other
 ends_no_sooner : (memory : List ℤ) (one other : WordRun) (a : ℕ) → IsLongest memory one → IsLongest memory other → IsIn one a → IsIn other a → other.last ≤ one.last
 ends_no_sooner memory one other a is is' inside inside' = elim (cases_lt one.last other.last) [
-    inl sooner ↦
+  | inl sooner ↦
       let low = inside'.0 in
       let high = inside.1 in
       let at = is'.equal (one.last + 1) (omega arith, omega arith) in
       absurd (is.after (at ∙ ap Some (sym (same_value memory one other a is is' inside inside'))))
   | inr not_sooner ↦ not_sooner
-  ]
+]
 
 run_by_fields : (one other : WordRun) → one.first ≡ other.first → one.last ≡ other.last → one.value ≡ other.value → one ≡ other
 run_by_fields one other first last value =
@@ -79,29 +79,29 @@ same_list (x ∷ xs) (y ∷ ys) some some' before before' within within' =
     let x_some : x.first ≤ x.last = some 0 x (omega arith) in
     let y_some : y.first ≤ y.last = some' 0 y (omega arith) in
     let heads : x ≡ y = elim (first_or_rest y ys x (within 0 x (omega arith))) [
-        inl same ↦ same
+      | inl same ↦ same
       | inr x_later ↦ elim (first_or_rest x xs y (within' 0 y (omega arith))) [
-          inl same ↦ sym same
+        | inl same ↦ sym same
         | inr y_later ↦
             let x_after : y.last < x.first = All-contains (Before y) ys x after' x_later in
             let y_after : x.last < y.first = All-contains (Before x) xs y after y_later in
             absurd (omega arith)
-        ]
-      ] in
+      ]
+    ] in
     let rest : All (Contains ys) xs = λ k d less. elim (first_or_rest y ys (get_or xs k d) (All-tail (Contains (y ∷ ys)) x xs within k d less)) [
-        inl same ↦
+      | inl same ↦
           let next : x.last < (get_or xs k d).first = after k d less in
           let first : (get_or xs k d).first ≡ x.first = ap (λ (r : WordRun). r.first) (same ∙ sym heads) in
           absurd (omega arith)
       | inr there ↦ there
-      ] in
+    ] in
     let rest' : All (Contains xs) ys = λ k d less. elim (first_or_rest x xs (get_or ys k d) (All-tail (Contains (x ∷ xs)) y ys within' k d less)) [
-        inl same ↦
+      | inl same ↦
           let next : y.last < (get_or ys k d).first = after' k d less in
           let first : (get_or ys k d).first ≡ y.first = ap (λ (r : WordRun). r.first) (same ∙ heads) in
           absurd (omega arith)
       | inr there ↦ there
-      ] in
+    ] in
     ap (λ (r : WordRun). r ∷ xs) heads ∙ ap (λ (rs : List WordRun). y ∷ rs)
     (same_list xs ys (All-tail (λ run. run.first ≤ run.last) x xs some) (All-tail (λ run. run.first ≤ run.last) y ys some') (λ i j d less in'. before (suc i) (suc j) d (omega arith) (omega arith)) (λ i j d less in'. before' (suc i) (suc j) d (omega arith) (omega arith)) rest rest')
 

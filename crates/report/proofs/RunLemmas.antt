@@ -1,6 +1,6 @@
 -- Longest runs, found piece by piece: a piece is a list of equal words that can't be made longer.
-use Rattle.std.proofs.Common.{◌≡◌, ◌≢◌, ℕ, zero, suc, ◌+◌, ◌-◌, ◌<◌, ◌≤◌, ℤ, pos, List, [], ◌∷◌, ◌++◌, length, get_or, drop, Bool, Option, Some, true, false, arith, slice_get, refl, sym, ◌∙◌, ap, subst, ◌⊎◌, inl, inr, length-append, length-drop, flat_map, append_assoc}
-use Rattle.std.specs.Prelude.{All, Any, AllPairs, Contains}
+use Rattle.std.proofs.Common.{◌≡◌, ◌≢◌, ℕ, zero, suc, ◌+◌, ◌-◌, ◌<◌, ◌≤◌, ℤ, pos, List, [], ◌∷◌, ◌++◌, length, get_or, drop, Bool, Option, Some, true, false, arith, slice_get, refl, sym, ◌∙◌, ap, subst, inl, inr, length-append, length-drop, flat_map, append_assoc}
+use Rattle.std.specs.Prelude.{All, Any, AllPairs}
 use Rattle.std.specs.List.{AllAdjacentBelow, IsChunkByPrefix, prefix_len}
 use Rattle.std.specs.Ordering.{int_eq}
 use Rattle.std.specs.Option.{unwrap_or}
@@ -41,7 +41,7 @@ LongestBelow-start memory = record {
   longest = grind arith;
   below = grind arith;
   complete = λ a word less at nonzero. absurd (omega arith);
-  uncut = λ a word next at. absurd (omega arith)
+  uncut = λ a word next at. absurd (omega arith);
 }
 
 -- below the end of the memory stand all runs
@@ -49,7 +49,7 @@ pub LongestRuns-below : (memory : List ℤ) (n : ℕ) (runs : List WordRun) → 
 LongestRuns-below memory n runs end so = record {
   ascending = so.ascending;
   longest = so.longest;
-  complete = λ a word at nonzero. let inside : a < length memory = slice_get_within memory a word at in so.complete a word (omega arith) at nonzero
+  complete = λ a word at nonzero. let inside : a < length memory = slice_get_within memory a word at in so.complete a word (omega arith) at nonzero;
 }
 
 -- at the end of a piece no run is cut
@@ -66,10 +66,10 @@ LongestBelow-zeros memory n len runs piece so = record {
   longest = so.longest;
   below = All-weaker (λ run. run.last < n) (λ run. run.last < n + len) (λ run less. omega arith) runs so.below;
   complete = λ a word less at nonzero. elim (cases_lt a n) [
-    inl before ↦ so.complete a word before at nonzero
-  | inr within ↦ absurd (nonzero (same_word memory a word (pos 0) at (piece.equal a within less)))
+    | inl before ↦ so.complete a word before at nonzero
+    | inr within ↦ absurd (nonzero (same_word memory a word (pos 0) at (piece.equal a within less)))
   ];
-  uncut = uncut-piece memory n len (pos 0) piece
+  uncut = uncut-piece memory n len (pos 0) piece;
 }
 
 -- the run of a piece
@@ -86,7 +86,7 @@ IsLongest-piece memory n len word runs piece nonzero so =
       not_zero = nonzero;
       equal = λ a inside. piece.equal a inside.0 (let most = inside.1 in omega arith);
       before = λ a next at. so.uncut a word next at (piece.equal n (omega arith) (omega arith));
-      after = subst (λ (a : ℕ). slice_get memory a ≢ Some word) (sym last) piece.after
+      after = subst (λ (a : ℕ). slice_get memory a ≢ Some word) (sym last) piece.after;
     }
 
 -- some element of a list is one of the list with one more
@@ -104,10 +104,10 @@ LongestBelow-push memory n len word runs piece nonzero so =
       longest = All-push (IsLongest memory) runs (run_of n len word) so.longest (IsLongest-piece memory n len word runs piece nonzero so);
       below = All-push (λ run. run.last < n + len) runs (run_of n len word) (All-weaker (λ run. run.last < n) (λ run. run.last < n + len) (λ run less. omega arith) runs so.below) (omega arith);
       complete = λ a other less at other_nonzero. elim (cases_lt a n) [
-        inl before ↦ Any-more (λ run. IsIn run a) runs (run_of n len word) (so.complete a other before at other_nonzero)
-      | inr within ↦ Any-push (λ run. IsIn run a) runs (run_of n len word) (within, omega arith)
+        | inl before ↦ Any-more (λ run. IsIn run a) runs (run_of n len word) (so.complete a other before at other_nonzero)
+        | inr within ↦ Any-push (λ run. IsIn run a) runs (run_of n len word) (within, omega arith)
       ];
-      uncut = uncut-piece memory n len word piece
+      uncut = uncut-piece memory n len word piece;
     }
 
 -- equal words in front of what is left, and another word after them or none, are a piece
@@ -117,12 +117,12 @@ IsPiece-drop memory n len word some most equal other =
     record {
       not_empty = some;
       equal = λ a least less.
-        let place : n + (a - n) ≡ a = omega arith in
-        let at : get_or memory a word ≡ word = sym (ap (λ (k : ℕ). get_or memory k word) place) ∙ (sym (get_or-drop n memory (a - n) word) ∙ equal (a - n) (omega arith)) in
-        slice_get-get_or memory a word (omega arith) ∙ ap Some at;
+          let place : n + (a - n) ≡ a = omega arith in
+          let at : get_or memory a word ≡ word = sym (ap (λ (k : ℕ). get_or memory k word) place) ∙ (sym (get_or-drop n memory (a - n) word) ∙ equal (a - n) (omega arith)) in
+          slice_get-get_or memory a word (omega arith) ∙ ap Some at;
       after = λ at.
-        let inside : n + len < length memory = slice_get_within memory (n + len) word at in
-        other (omega arith) (get_or-drop n memory len word ∙ get_or_from_slice_get memory (n + len) word word at)
+          let inside : n + len < length memory = slice_get_within memory (n + len) word at in
+          other (omega arith) (get_or-drop n memory len word ∙ get_or_from_slice_get memory (n + len) word word at);
     }
 
 -- adjacent words that are equal are all equal to the first
@@ -146,13 +146,13 @@ get_or_default (word ∷ words) (suc n) d e less = get_or_default words n d e (o
 -- a list whose first element passes begins with one that does
 prefix_len-some : (p : ℤ → Bool) (words : List ℤ) (d : ℤ) → 0 < length words → p (get_or words 0 d) ≡ true → 0 < prefix_len p words
 prefix_len-some p words d some passes = elim (cases_lt 0 (prefix_len p words)) [
-    inl more ↦ more
+  | inl more ↦ more
   | inr none ↦
-    let zero_len : prefix_len p words ≡ 0 = omega arith in
-    let stops = prefix_len_stops p words d (omega arith) in
-    let fails : p (get_or words 0 d) ≡ false = ap (λ (k : ℕ). p (get_or words k d)) (sym zero_len) ∙ stops in
-    absurd (false≢true (sym fails ∙ passes))
-  ]
+      let zero_len : prefix_len p words ≡ 0 = omega arith in
+      let stops = prefix_len_stops p words d (omega arith) in
+      let fails : p (get_or words 0 d) ≡ false = ap (λ (k : ℕ). p (get_or words k d)) (sym zero_len) ∙ stops in
+      absurd (false≢true (sym fails ∙ passes))
+]
 
 -- the next chunk of what is left is a piece
 pub IsPiece-chunk : (memory rest xs ys : List ℤ) (n : ℕ) → rest ≡ drop n memory → rest ≡ xs ++ ys → 0 < length xs → IsChunkByPrefix int_eq rest (length xs) → IsPiece memory n (length xs) (get_or xs 0 (pos 0))
@@ -184,25 +184,28 @@ some_piece memory n inside =
     let len : length left ≡ length memory - n = length-drop n memory in
     let front : get_or left 0 word ≡ word = get_or-drop n memory 0 word ∙ (ap (λ (k : ℕ). get_or memory k word) (let e : n + 0 ≡ n = omega arith in e) ∙ get_or_default memory n word (pos 0) inside) in
     let equal : (i : ℕ) → i < prefix_len is_word left → get_or left i word ≡ word = λ i less. sym ((Decides-int_eq word (get_or left i word)).0 (prefix_len_passes is_word left i word less)) in
-    let some : 0 < prefix_len is_word left = prefix_len-some is_word left word (omega arith) ((Decides-int_eq word (get_or left 0 word)).1 (sym front)) in
-    (prefix_len is_word left, word, IsPiece-drop memory n (prefix_len is_word left) word some (prefix_len-le-length is_word left) equal
-    (λ more same. told_apart word (get_or left (prefix_len is_word left) word) (prefix_len_stops is_word left word more) (sym same)))
+    let some : 0 < prefix_len is_word left = prefix_len-some is_word left word (omega arith) ((Decides-int_eq word (get_or left 0 word)).1 (sym front)) in (
+      prefix_len is_word left,
+      word,
+      IsPiece-drop memory n (prefix_len is_word left) word some (prefix_len-le-length is_word left) equal
+          (λ more same. told_apart word (get_or left (prefix_len is_word left) word) (prefix_len_stops is_word left word more) (sym same)),
+    )
 
 -- from the longest runs below an address on, piece by piece
 longest_from : (k n : ℕ) (memory : List ℤ) (runs : List WordRun) → length memory ≤ n + k → LongestBelow memory n runs → (all : List WordRun) × LongestRuns memory all
 longest_from zero n memory runs end so = (runs, LongestRuns-below memory n runs (omega arith) so)
 longest_from (suc k) n memory runs end so = elim (cases_lt n (length memory)) [
-    inl inside ↦
+  | inl inside ↦
       let found = some_piece memory n inside in
       let some = found.2.not_empty in
       elim (cases_Bool (int_eq found.1 (pos 0))) [
-        inl test ↦ longest_from k (n + found.0) memory runs (omega arith)
-          (LongestBelow-zeros memory n found.0 runs (subst (λ (word : ℤ). IsPiece memory n found.0 word) ((Decides-int_eq found.1 (pos 0)).0 test) found.2) so)
-      | inr test ↦ longest_from k (n + found.0) memory (runs ++ run_of n found.0 found.1 ∷ []) (omega arith)
-          (LongestBelow-push memory n found.0 found.1 runs found.2 (told_apart found.1 (pos 0) test) so)
+        | inl test ↦ longest_from k (n + found.0) memory runs (omega arith)
+            (LongestBelow-zeros memory n found.0 runs (subst (λ (word : ℤ). IsPiece memory n found.0 word) ((Decides-int_eq found.1 (pos 0)).0 test) found.2) so)
+        | inr test ↦ longest_from k (n + found.0) memory (runs ++ run_of n found.0 found.1 ∷ []) (omega arith)
+            (LongestBelow-push memory n found.0 found.1 runs found.2 (told_apart found.1 (pos 0) test) so)
       ]
   | inr all ↦ (runs, LongestRuns-below memory n runs all so)
-  ]
+]
 
 -- each memory has a list of its longest runs
 pub longest_runs : (memory : List ℤ) → (runs : List WordRun) × LongestRuns memory runs

@@ -1,5 +1,5 @@
 -- Examples of longest runs and of outcomes, each computed.
-use Rattle.std.specs.Prelude.{◌≡◌, ℕ, ℤ, pos, negsuc, List, [], ◌∷◌, ◌++◌, codes}
+use Rattle.std.specs.Prelude.{ℕ, ℤ, pos, negsuc, [], ◌∷◌, codes}
 use Rattle.nest_lang.specs.declared.budget.Ending.TheVariants.{Ended, Trapped, Limited}
 use Rattle.nest_lang.specs.declared.tree.Trap.TheVariants.{Outside}
 use Rattle.nest_lang.specs.Stores.{store_of}

@@ -2,7 +2,6 @@
 use Rattle.std.specs.Prelude.{◌≡◌, ℕ, ℤ, List}
 use Rattle.nest_lang.specs.declared.budget.Ending.{Ending}
 use Rattle.nest_lang.specs.Stores.{Store}
-use Rattle.report.specs.declared.runs.WordRun.{WordRun}
 use Rattle.report.specs.LongestRuns.{LongestRuns}
 use Rattle.report.specs.Outcomes.{IsOutcome}
 

@@ -8,5 +8,5 @@ unfolding digits
 returns c = record {
   outside = (word_run 0 1 (pos 5) ∷ [], search rules, refl);
   below_zero = (word_run 1 1 (negsuc 11) ∷ [], search rules, refl);
-  nothing = ([], search rules, refl)
+  nothing = ([], search rules, refl);
 }

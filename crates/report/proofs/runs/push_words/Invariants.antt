@@ -1,4 +1,4 @@
-use Rattle.std.proofs.Common.{◌≡◌, ℕ, List, ◌++◌, drop, flat_map, string_bytes}
+use Rattle.std.proofs.Common.{◌≡◌, List, ◌++◌, drop, flat_map, string_bytes}
 use Rattle.report.specs.declared.runs.WordRun.{WordRun}
 use Rattle.report.specs.Outcomes.{words_line}
 use Rattle.report.proofs.RunLemmas.{LongestBelow}
