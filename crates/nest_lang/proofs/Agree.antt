@@ -1,20 +1,19 @@
 -- Traces that have the same first entries. A bound on the turns of each `while` that is no less than m is
 -- not seen in the first m entries.
-use Rattle.std.proofs.Common.{◌≡◌, refl, ap, ◌∙◌, sym, subst, ℕ, ℤ, pos, zero, suc, ◌<◌, ◌+◌, ◌-◌, ◌≤◌, min, ◌⊎◌, inl, inr, Bool, true, false, List, [], ◌∷◌, ◌++◌, length, map, take, Option, Some, None, Result, Ok, Err, append_assoc, length-append, nat_le, arith, rules}
-use Rattle.std.proofs.lemmas.Grind.{common_steps}
+use Rattle.std.proofs.Common.{◌≡◌, refl, ap, ◌∙◌, sym, subst, ℕ, ℤ, zero, suc, ◌<◌, ◌+◌, ◌-◌, ◌≤◌, min, ◌⊎◌, inl, inr, true, false, List, [], ◌∷◌, ◌++◌, length, map, take, Option, Some, None, Result, Ok, Err, length-append, nat_le, arith}
 use Rattle.std.proofs.lemmas.List.{take-append-le}
 use Rattle.nest_lang.specs.declared.tree.Head.{Head}
 use Rattle.nest_lang.specs.declared.tree.Head.TheVariants.{For, While}
 use Rattle.nest_lang.specs.declared.tree.Loop.{Loop}
 use Rattle.nest_lang.specs.declared.tree.Nest.{Nest}
-use Rattle.nest_lang.specs.Stores.{Store, effect_on}
+use Rattle.nest_lang.specs.Stores.{Store}
 use Rattle.nest_lang.specs.Lookups.{Expectation, plain}
-use Rattle.nest_lang.specs.Traces.{Observation, Entry, Halt, Trace, ends, joined, and_then, in_turn, Step, step_of, traced, Limited, Cut, cut_of, cut, after_all, seen_of, seen_in}
+use Rattle.nest_lang.specs.Traces.{Observation, Entry, Halt, Trace, joined, and_then, in_turn, traced, Limited, cut_of, cut, after_all, seen_of, seen_in}
 use Rattle.nest_lang.specs.declared.tree.Part.TheVariants as part
 use Rattle.nest_lang.specs.Expressions.{Frame}
 use Rattle.nest_lang.specs.Statements.{instance_trace}
 use Rattle.nest_lang.specs.Heads.{Yield, Bounds, Tested, head_of, head_step, headed}
-use Rattle.nest_lang.specs.Loops.{Around, inward, outside, frame_of, turn_trace, turns_from, turns_of, turn_if, whiles_from, loop_by, loops_trace}
+use Rattle.nest_lang.specs.Loops.{Around, outside, frame_of, turn_trace, turns_from, turns_of, turn_if, whiles_from, loop_by, loops_trace}
 use Rattle.nest_lang.specs.Runs.{nest_trace, nests_trace}
 
 -- both have m entries, the same ones
@@ -63,7 +62,7 @@ alike-joined m None es t u (inr b) =
     inr (record {
       same = long-behind m es t.entries u.entries b.same;
       first = omega (arith, length-append es t.entries, b.first);
-      second = omega (arith, length-append es u.entries, b.second)
+      second = omega (arith, length-append es u.entries, b.second);
     })
 
 -- one more entry

@@ -13,5 +13,5 @@ values-computed = record {
   least_by_minus_one = refl;
   least_negated = refl;
   falling_trip = refl;
-  longest_trip = refl
+  longest_trip = refl;
 }

@@ -1,8 +1,7 @@
 -- How a cut trace goes on, and what it shows.
-use Rattle.std.proofs.Common.{◌≡◌, append_assoc, append-nil, refl, ap, ◌∙◌, sym, ℕ, ℤ, map, zero, suc, ◌<◌, ◌+◌, ◌-◌, ◌≤◌, min, ltb, leb, Bool, true, false, cond, List, [], ◌∷◌, ◌++◌, length, take, add-one, Option, Some, None, arith, length-append, rules}
-use Rattle.std.proofs.lemmas.Grind.{common_steps}
-use Rattle.nest_lang.specs.Stores.{Store, Effect, effect_on}
-use Rattle.nest_lang.specs.Traces.{Observation, Entry, Halt, Trace, ends, joined, and_then, in_turn, Step, traced, Finish, Done, Halted, Limited, finish_of, Cut, cut_of, cut, after_all, seen_of, seen_in}
+use Rattle.std.proofs.Common.{◌≡◌, append_assoc, append-nil, refl, ap, ◌∙◌, sym, ℕ, zero, suc, ◌<◌, ◌+◌, ◌-◌, ◌≤◌, min, List, [], ◌∷◌, ◌++◌, Option, Some, None, arith}
+use Rattle.nest_lang.specs.Stores.{Store, effect_on}
+use Rattle.nest_lang.specs.Traces.{Observation, Entry, Halt, Trace, ends, joined, and_then, in_turn, Step, traced, Finish, Done, Halted, Limited, finish_of, Cut, cut_of, cut, after_all, seen_in}
 
 abbrev pub trace_of : List Entry → Option Halt → Trace
 trace_of entries halt = record { entries = entries; halt = halt }

@@ -2,6 +2,7 @@ pub mod Agree
 pub mod Computed
 pub mod Cuts
 pub mod ExpressionLemmas
+pub mod HeadLemmas
 pub mod Present
 pub mod RunLemmas
 pub mod StatementLemmas

@@ -1,12 +1,12 @@
 -- Plain runs within more and more steps.
-use Rattle.std.proofs.Common.{◌≡◌, refl, ap, ◌∙◌, sym, subst, ℕ, ℤ, zero, suc, ◌<◌, ◌+◌, ◌-◌, ◌≤◌, min, inl, inr, Bool, true, false, if◌then◌else◌, List, [], ◌∷◌, ◌++◌, length, nat_le, take, drop, set, Option, Some, None, arith, rules}
+use Rattle.std.proofs.Common.{◌≡◌, refl, ap, ◌∙◌, sym, ℕ, ℤ, zero, suc, ◌+◌, ◌-◌, ◌≤◌, min, inl, inr, true, false, List, [], ◌∷◌, ◌++◌, length, nat_le, take, set, arith}
 use Rattle.std.proofs.lemmas.Grind.{common_steps}
 use Rattle.nest_lang.specs.declared.tree.Nest.{Nest}
 use Rattle.nest_lang.specs.Stores.{Store, Effect, Nothing, Local, Scalar, Word, effect_on}
-use Rattle.nest_lang.specs.Traces.{Entry, Trace, Finish, Done, Halted, Limited, finish_of, Cut, cut_of, cut, after_all}
+use Rattle.nest_lang.specs.Traces.{Entry, Trace, Limited, finish_of, cut_of, cut, after_all}
 use Rattle.nest_lang.specs.Runs.{nests_trace, plain_run, run_of}
-use Rattle.nest_lang.specs.Laws.{run_entries, LongerRunBegins, FinishedRunStays, SizesStay}
-use Rattle.nest_lang.proofs.Agree.{Alike, BothLong, alike-nests, take-less, cut-long}
+use Rattle.nest_lang.specs.Laws.{LongerRunBegins, FinishedRunStays, SizesStay}
+use Rattle.nest_lang.proofs.Agree.{Alike, alike-nests, take-less, cut-long}
 
 take-more : {A : Type 0} (n m : ℕ) (xs : List A) → n ≤ m → (more : List A) × (take m xs ≡ take n xs ++ more)
 take-more zero m xs h = (take m xs, refl)
@@ -48,15 +48,15 @@ cut-whole t s left used h =
 within-cut : (t : Trace) (s : Store) (left used : ℕ) → ((cut t s left used).ending ≡ Limited → ⊥) → length t.entries ≤ left
 within-cut t s left used other =
     elim (nat_le (length t.entries) left) as (λ b. nat_le (length t.entries) left ≡ b → length t.entries ≤ left) [
-      true ↦ λ e. grind arith
-    | false ↦ λ e. absurd (other (ap (λ c. c.ending) (cut-long t s left used (grind arith))))
+      | true ↦ λ e. grind arith
+      | false ↦ λ e. absurd (other (ap (λ c. c.ending) (cut-long t s left used (grind arith))))
     ] refl
 
 stays-alike : (t u : Trace) (s : Store) (n m : ℕ) → n ≤ m → Alike (n + 1) t u → ((run_of (cut t s n 0)).ending ≡ Limited → ⊥) → run_of (cut u s m 0) ≡ run_of (cut t s n 0)
 stays-alike t u s n m h (inl e) other =
     let few : length t.entries ≤ n = within-cut t s n 0 other in
     let here : run_of (cut t s m 0) ≡ run_of (cut t s n 0) =
-        ap run_of (cut-whole t s m 0 (omega arith)) ∙ sym (ap run_of (cut-whole t s n 0 few)) in
+    ap run_of (cut-whole t s m 0 (omega arith)) ∙ sym (ap run_of (cut-whole t s n 0 few)) in
     ap (λ z. run_of (cut z s m 0)) (sym e) ∙ here
 stays-alike t u s n m h (inr b) other = absurd (omega (arith, within-cut t s n 0 other, b.first))
 

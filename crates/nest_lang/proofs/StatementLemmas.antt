@@ -1,5 +1,5 @@
 -- What each statement does, one level at a time, and how blocks go on.
-use Rattle.std.proofs.Common.{◌≡◌, refl, ap, ◌∙◌, sym, ℕ, ℤ, map, zero, suc, ◌<◌, ◌+◌, ◌-◌, ◌≤◌, List, [], ◌∷◌, ◌++◌, length, drop, get_or, drop-cons, add-one, Option, Some, None, Result, Ok, Err, arith, rules}
+use Rattle.std.proofs.Common.{◌≡◌, refl, ap, ◌∙◌, sym, ℕ, ℤ, map, ◌<◌, ◌+◌, ◌≤◌, List, [], ◌∷◌, ◌++◌, length, drop, get_or, None, Result, Ok, Err, rules}
 use Rattle.std.proofs.lemmas.List.{drop_all, drop_more}
 use Rattle.nest_lang.specs.declared.tree.Expr.{Expr}
 use Rattle.nest_lang.specs.declared.tree.Stmt.{Stmt, the_lemmas}
@@ -11,7 +11,7 @@ use Rattle.nest_lang.specs.Stores.{Store}
 use Rattle.nest_lang.specs.Traces.{Observation, Halt, Trace, in_turn, Step, traced, Finish, Done, Limited, Cut, cut_of, cut, seen_in}
 use Rattle.nest_lang.specs.Expressions.{Frame, told}
 use Rattle.nest_lang.specs.Statements.{with_value, stored, statement_level, statement_trace, block_trace}
-use Rattle.nest_lang.proofs.Cuts.{cut-due, cut-end, cut-turn, resumed, resumed-not, seen-due, seen-turn, rest_seen, rest_seen-not}
+use Rattle.nest_lang.proofs.Cuts.{cut-due, cut-end, cut-turn, resumed, resumed-not, seen-due, seen-turn, rest_seen}
 
 -- a statement shows nothing before its step is due
 with-before : (seen : List Observation) (r : Result ℤ Halt) (go : ℤ → Step) → ((v : ℤ) → (go v).entry.before ≡ []) → (with_value seen r go).entry.before ≡ []

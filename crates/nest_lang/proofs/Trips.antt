@@ -1,12 +1,12 @@
 -- Turns of a `for`: turn t belongs to it exactly where t is below their number.
-use Rattle.std.proofs.Common.{◌≡◌, ℕ, zero, suc, ◌+◌, ◌-◌, ◌*◌, ◌/◌, ◌%◌, ◌<◌, ◌≤◌, min, ℤ, pos, negsuc, ◌+ℤ◌, ◌-ℤ◌, ◌*ℤ◌, ◌<ℤ◌, ◌≤ℤ◌, refl, ap, sym, ◌∙◌, subst, arith, rules, nat_abs, unsigned_abs}
+use Rattle.std.proofs.Common.{◌≡◌, ℕ, zero, suc, ◌+◌, ◌*◌, ◌<◌, ◌≤◌, ℤ, pos, negsuc, ◌+ℤ◌, ◌-ℤ◌, ◌*ℤ◌, ◌<ℤ◌, ◌≤ℤ◌, refl, sym, subst, arith, nat_abs, unsigned_abs}
 use Rattle.std.specs.Prelude.{◌↔◌}
 use Rattle.std.proofs.lemmas.Int.{ints}
 use Rattle.std.proofs.lemmas.Grind.{div_ceil_times}
 use Rattle.std.proofs.Math.IntN.{pos-*ℤ-pos, negsuc-*ℤ-pos}
 use Rattle.std.proofs.Math.Nat.{mul-le-mul_right, lt_of_mul-lt-mul_right, lt_of_lt_of_le, mul_comm}
 use Rattle.std.specs.Int.{div_ceil}
-use Rattle.nest_lang.specs.Values.{turn_value, IsTurn, steps_over, trip_count}
+use Rattle.nest_lang.specs.Values.{IsTurn, steps_over, trip_count}
 
 -- t steps of a size stay below a distance exactly where t is below the quotient rounded up
 below_ceil-to : (d k t : ℕ) → 0 < k → t < div_ceil d k → t * k < d
@@ -28,36 +28,36 @@ below_ceil-from d k t some h =
 turns-rising : (distance : ℤ) (lower upper : ℤ) (k t : ℕ) → 0 < k → distance ≡ upper -ℤ lower → (t < steps_over distance k) ↔ ((lower +ℤ pos k *ℤ pos t) <ℤ upper)
 turns-rising (pos d) lower upper k t some e =
     let there : t < div_ceil d k → (lower +ℤ pos k *ℤ pos t) <ℤ upper =
-        λ h. let m : t * k < d = below_ceil-to d k t some h in
-             let c : k * t ≡ t * k = mul_comm k t in
-             rw pos-*ℤ-pos (omega (arith, ints)) in
+    λ h. let m : t * k < d = below_ceil-to d k t some h in
+    let c : k * t ≡ t * k = mul_comm k t in
+    rw pos-*ℤ-pos (omega (arith, ints)) in
     let back : (lower +ℤ pos k *ℤ pos t) <ℤ upper → t < div_ceil d k =
-        λ h. let p : (lower +ℤ pos (k * t)) <ℤ upper = rw pos-*ℤ-pos at h in
-             let c : k * t ≡ t * k = mul_comm k t in
-             below_ceil-from d k t some (omega (arith, ints)) in
+    λ h. let p : (lower +ℤ pos (k * t)) <ℤ upper = rw pos-*ℤ-pos at h in
+    let c : k * t ≡ t * k = mul_comm k t in
+    below_ceil-from d k t some (omega (arith, ints)) in
     (there, back)
 turns-rising (negsuc n) lower upper k t some e =
     let there : t < 0 → (lower +ℤ pos k *ℤ pos t) <ℤ upper = λ h. absurd (omega arith) in
     let back : (lower +ℤ pos k *ℤ pos t) <ℤ upper → t < 0 =
-        λ h. let p : (lower +ℤ pos (k * t)) <ℤ upper = rw pos-*ℤ-pos at h in absurd (omega (arith, ints)) in
+    λ h. let p : (lower +ℤ pos (k * t)) <ℤ upper = rw pos-*ℤ-pos at h in absurd (omega (arith, ints)) in
     (there, back)
 
 turns-falling : (distance : ℤ) (lower upper : ℤ) (k t : ℕ) → distance ≡ lower -ℤ upper → (t < steps_over distance (suc k)) ↔ (upper <ℤ (lower +ℤ negsuc k *ℤ pos t))
 turns-falling (pos d) lower upper k t e =
     let some : 0 < suc k = omega arith in
     let there : t < div_ceil d (suc k) → upper <ℤ (lower +ℤ negsuc k *ℤ pos t) =
-        λ h. let m : t * suc k < d = below_ceil-to d (suc k) t some h in
-             let c : suc k * t ≡ t * suc k = mul_comm (suc k) t in
-             rw negsuc-*ℤ-pos (omega (arith, ints)) in
+    λ h. let m : t * suc k < d = below_ceil-to d (suc k) t some h in
+    let c : suc k * t ≡ t * suc k = mul_comm (suc k) t in
+    rw negsuc-*ℤ-pos (omega (arith, ints)) in
     let back : upper <ℤ (lower +ℤ negsuc k *ℤ pos t) → t < div_ceil d (suc k) =
-        λ h. let p = rw negsuc-*ℤ-pos at h in
-             let c : suc k * t ≡ t * suc k = mul_comm (suc k) t in
-             below_ceil-from d (suc k) t some (omega (arith, ints)) in
+    λ h. let p = rw negsuc-*ℤ-pos at h in
+    let c : suc k * t ≡ t * suc k = mul_comm (suc k) t in
+    below_ceil-from d (suc k) t some (omega (arith, ints)) in
     (there, back)
 turns-falling (negsuc n) lower upper k t e =
     let there : t < 0 → upper <ℤ (lower +ℤ negsuc k *ℤ pos t) = λ h. absurd (omega arith) in
     let back : upper <ℤ (lower +ℤ negsuc k *ℤ pos t) → t < 0 =
-        λ h. let p = rw negsuc-*ℤ-pos at h in absurd (omega (arith, ints)) in
+    λ h. let p = rw negsuc-*ℤ-pos at h in absurd (omega (arith, ints)) in
     (there, back)
 
 -- turn t belongs to a `for` exactly where t is below the number of its turns

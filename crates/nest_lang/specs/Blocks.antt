@@ -1,5 +1,5 @@
 -- Blocks: the present blocks of a nest, in the order of the text.
-use Rattle.std.specs.Prelude.{ℕ, suc, ◌+◌, List, [], ◌∷◌, ◌++◌}
+use Rattle.std.specs.Prelude.{ℕ, ◌+◌, List, [], ◌∷◌, ◌++◌}
 use Rattle.nest_lang.specs.declared.tree.Head.{Head}
 use Rattle.nest_lang.specs.declared.tree.Head.TheVariants.{For, While}
 use Rattle.nest_lang.specs.declared.tree.Loop.{Loop}

@@ -1,9 +1,8 @@
 -- Examples of values and of plain runs, each computed.
-use Rattle.std.specs.Prelude.{◌≡◌, ℕ, ℤ, pos, negsuc, List, [], ◌∷◌, Result, Ok, Err}
-use Rattle.nest_lang.specs.declared.tree.Op.TheVariants.{Add, Sub, Mul, Div, Rem, Eq, Ne, Lt, Le, Gt, Ge}
+use Rattle.std.specs.Prelude.{◌≡◌, ℕ, ℤ, pos, negsuc, List, [], ◌∷◌, Ok, Err}
+use Rattle.nest_lang.specs.declared.tree.Op.TheVariants.{Add, Div, Rem}
 use Rattle.nest_lang.specs.declared.tree.Trap.TheVariants.{Overflow, ZeroDivisor, Outside}
 use Rattle.nest_lang.specs.declared.tree.Place.TheVariants.{Scalar, Counter}
-use Rattle.nest_lang.specs.declared.tree.Expr.{Expr}
 use Rattle.nest_lang.specs.declared.tree.Expr.TheVariants.{Number, Var, Load, Two}
 use Rattle.nest_lang.specs.declared.tree.Stmt.{Stmt}
 use Rattle.nest_lang.specs.declared.tree.Stmt.TheVariants as statement
@@ -11,7 +10,7 @@ use Rattle.nest_lang.specs.declared.tree.Head.{Head}
 use Rattle.nest_lang.specs.declared.tree.Head.TheVariants.{For, While}
 use Rattle.nest_lang.specs.declared.tree.Nest.{Nest}
 use Rattle.nest_lang.specs.Values.{apply_of, negate_of, trip_count}
-use Rattle.nest_lang.specs.Stores.{Store, store_of}
+use Rattle.nest_lang.specs.Stores.{store_of}
 use Rattle.nest_lang.specs.Traces.{Finish, Done, Halted, Limited, Trapped}
 use Rattle.nest_lang.specs.Runs.{Run, plain_run}
 

@@ -1,13 +1,12 @@
 -- Heads: what the head of a loop yields, and what it shows.
-use Rattle.std.specs.Prelude.{ℕ, ℤ, pos, List, [], ◌∷◌, ◌++◌, Option, Some, None, Result, Ok, Err, Bool, true, false, not, if◌then◌else◌}
+use Rattle.std.specs.Prelude.{ℕ, ℤ, pos, List, [], ◌∷◌, ◌++◌, Some, None, Result, Ok, Err, Bool, not, if◌then◌else◌}
 use Rattle.nest_lang.specs.declared.tree.Head.{Head}
 use Rattle.nest_lang.specs.declared.tree.Head.TheVariants.{For, While}
-use Rattle.nest_lang.specs.declared.observe.Seen.{Seen}
 use Rattle.nest_lang.specs.declared.observe.Seen.TheVariants.{Lower, Trip, Condition}
 use Rattle.nest_lang.specs.Values.{same, trip_count}
 use Rattle.nest_lang.specs.Stores.{Store, Nothing}
 use Rattle.nest_lang.specs.Traces.{Observation, Halt, Trace, Step, step_of}
-use Rattle.nest_lang.specs.Expressions.{Frame, shown, Told, told}
+use Rattle.nest_lang.specs.Expressions.{Frame, shown, told}
 use Rattle.nest_lang.specs.Statements.{announced}
 
 -- the lower bound and the number of turns of a `for`, or whether the condition of a `while` holds
@@ -36,11 +35,11 @@ as_number b = if b then pos 1 else pos 0
 unfoldable pub head_of : Frame → Head → Store → Headed
 head_of f (For lower upper stride) s =
     then_head (told f s lower).seen (told f s lower).value (λ from.
-        then_head (told f s upper).seen (told f s upper).value (λ to.
-            heading (shown f Lower from ∷ shown f Trip (pos (trip_count from to stride)) ∷ []) (Ok (Bounds from (trip_count from to stride)))))
+    then_head (told f s upper).seen (told f s upper).value (λ to.
+    heading (shown f Lower from ∷ shown f Trip (pos (trip_count from to stride)) ∷ []) (Ok (Bounds from (trip_count from to stride)))))
 head_of f (While condition) s =
     then_head (told f s condition).seen (told f s condition).value (λ v.
-        heading (shown f Condition (as_number (not (same v (pos 0)))) ∷ []) (Ok (Tested (not (same v (pos 0))))))
+    heading (shown f Condition (as_number (not (same v (pos 0)))) ∷ []) (Ok (Tested (not (same v (pos 0))))))
 
 -- the step of a head, and what follows from what it yields
 abbrev pub head_step : List Observation → List Observation → Result Yield Halt → (Yield → List (Store → Trace)) → Step

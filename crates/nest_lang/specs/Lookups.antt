@@ -1,5 +1,5 @@
 -- Look-ups: which word an access finds, and when it is refused.
-use Rattle.std.specs.Prelude.{ℕ, ℤ, ◌+ℤ◌, int_le, List, Option, Some, None, Result, Ok, Err, Bool, true, false, not, ◌&&◌, if◌then◌else◌}
+use Rattle.std.specs.Prelude.{ℕ, ℤ, ◌+ℤ◌, int_le, List, Option, Some, None, Result, Ok, Err, Bool, false, not, ◌&&◌, if◌then◌else◌}
 use Rattle.nest_lang.specs.declared.observe.Stop.{Stop}
 use Rattle.nest_lang.specs.declared.observe.Stop.TheVariants.{Outside, Unexpected}
 use Rattle.nest_lang.specs.Stores.{word_at}

@@ -1,15 +1,14 @@
 -- Loops: the trace of loops inside one another, in original order.
-use Rattle.std.specs.Prelude.{ℕ, zero, suc, ◌+◌, ℤ, pos, List, [], ◌∷◌, ◌++◌, Bool, true, false, Option, Some, None}
+use Rattle.std.specs.Prelude.{ℕ, zero, suc, ◌+◌, ℤ, pos, List, [], ◌∷◌, ◌++◌, true, false}
 use Rattle.nest_lang.specs.declared.tree.Head.{Head}
 use Rattle.nest_lang.specs.declared.tree.Head.TheVariants.{For, While}
 use Rattle.nest_lang.specs.declared.tree.Loop.{Loop}
 use Rattle.nest_lang.specs.declared.tree.Part.{Part}
 use Rattle.nest_lang.specs.declared.tree.Part.TheVariants as part
-use Rattle.nest_lang.specs.declared.state.Outer.{Outer}
 use Rattle.nest_lang.specs.Values.{turn_value}
 use Rattle.nest_lang.specs.Stores.{Store}
 use Rattle.nest_lang.specs.Lookups.{Expectation}
-use Rattle.nest_lang.specs.Traces.{Trace, ends, and_then, in_turn, traced, Over}
+use Rattle.nest_lang.specs.Traces.{Trace, ends, and_then, in_turn, traced}
 use Rattle.nest_lang.specs.Expressions.{Frame}
 use Rattle.nest_lang.specs.Statements.{instance_trace}
 use Rattle.nest_lang.specs.Heads.{Yield, Bounds, Tested, headed}

@@ -1,5 +1,5 @@
 -- Rules that every nest of a file keeps.
-use Rattle.std.specs.Prelude.{ℕ, ℤ, pos, nat_le, List, [], ◌∷◌, length, Bool, true, false, not, ◌&&◌}
+use Rattle.std.specs.Prelude.{pos, nat_le, List, [], ◌∷◌, length, Bool, true, false, not, ◌&&◌}
 use Rattle.nest_lang.specs.declared.tree.Head.{Head}
 use Rattle.nest_lang.specs.declared.tree.Head.TheVariants.{For, While}
 use Rattle.nest_lang.specs.declared.tree.Loop.{Loop}

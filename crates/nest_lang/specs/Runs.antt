@@ -1,5 +1,5 @@
 -- Plain runs: what nests do, one after another, within a number of steps.
-use Rattle.std.specs.Prelude.{◌≡◌, ℕ, ◌+◌, List, [], map}
+use Rattle.std.specs.Prelude.{ℕ, ◌+◌, List, map}
 use Rattle.nest_lang.specs.declared.tree.Loop.{Loop}
 use Rattle.nest_lang.specs.declared.tree.Nest.{Nest}
 use Rattle.nest_lang.specs.declared.budget.Ending.{Ending}

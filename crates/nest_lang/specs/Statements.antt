@@ -1,17 +1,15 @@
 -- Statements: the trace of a block.
-use Rattle.std.specs.Prelude.{ℕ, suc, ℤ, pos, List, [], ◌∷◌, ◌++◌, map, replicate, unsigned_abs, Option, Some, None, Result, Ok, Err, if◌then◌else◌}
-use Rattle.nest_lang.specs.declared.tree.Expr.{Expr}
+use Rattle.std.specs.Prelude.{ℕ, suc, ℤ, pos, List, [], ◌∷◌, ◌++◌, map, replicate, unsigned_abs, Some, None, Result, Ok, Err, if◌then◌else◌}
 use Rattle.nest_lang.specs.declared.tree.Stmt.{Stmt}
 use Rattle.nest_lang.specs.declared.tree.Stmt.TheFolds.{fold-Stmt}
 use Rattle.nest_lang.specs.declared.tree.Stmt.TheOpen.{Stmt-F}
-use Rattle.nest_lang.specs.declared.observe.Seen.{Seen}
 use Rattle.nest_lang.specs.declared.observe.Seen.TheVariants.{Start, Address}
 use Rattle.nest_lang.specs.declared.observe.Seen.TheVariants as see
 use Rattle.nest_lang.specs.Values.{same}
-use Rattle.nest_lang.specs.Stores.{Store, Effect, Nothing, Local, Scalar, Word}
+use Rattle.nest_lang.specs.Stores.{Store, Nothing, Local, Scalar, Word}
 use Rattle.nest_lang.specs.Lookups.{look_store}
-use Rattle.nest_lang.specs.Traces.{Observation, Entry, Halt, Trace, ends, in_turn, Step, step_of, traced}
-use Rattle.nest_lang.specs.Expressions.{Frame, shown, Told, told, or_stopped}
+use Rattle.nest_lang.specs.Traces.{Observation, Entry, Halt, Trace, in_turn, Step, step_of, traced}
+use Rattle.nest_lang.specs.Expressions.{Frame, shown, told, or_stopped}
 
 -- goes on with a value, or halts with what was shown for it
 abbrev pub with_value : List Observation → Result ℤ Halt → (ℤ → Step) → Step
@@ -32,12 +30,12 @@ statement_level f (Stmt-F.Set number e) s =
     with_value (told f s e).seen (told f s e).value (λ v. step_of [] (told f s e).seen (Scalar number v) None [])
 statement_level f (Stmt-F.Store access a e) s =
     with_value (told f s a).seen (told f s a).value (λ address.
-        with_value ((told f s a).seen ++ (told f s e).seen) (told f s e).value (λ v.
-            stored ((told f s a).seen ++ (told f s e).seen ++ shown f (Address access) address ∷ []) address v
-                (or_stopped access (look_store f.expects s.memory access address))))
+    with_value ((told f s a).seen ++ (told f s e).seen) (told f s e).value (λ v.
+    stored ((told f s a).seen ++ (told f s e).seen ++ shown f (Address access) address ∷ []) address v
+    (or_stopped access (look_store f.expects s.memory access address))))
 statement_level f (Stmt-F.If e first second) s =
     with_value (told f s e).seen (told f s e).value (λ v.
-        step_of [] (told f s e).seen Nothing None (if same v (pos 0) then second else first))
+    step_of [] (told f s e).seen Nothing None (if same v (pos 0) then second else first))
 
 unfoldable pub statement_trace : Frame → Stmt → Store → Trace
 statement_trace f = fold-Stmt (Store → Trace) (λ x s. traced (statement_level f x s) s)

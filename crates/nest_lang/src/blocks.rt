@@ -4,10 +4,9 @@ ghost use Rattle.std.specs.Prelude.{◌≡◌, ◌+◌, ◌*◌, ◌≤◌, ◌+
 ghost use Rattle.arrayvec.specs.ArrayVec.{array_vec_len};
 ghost use Rattle.nest_lang.specs.Blocks.{present_blocks, outermost, opening, closing, block_if_any};
 
+use crate::tree::{BlockRef, Head, Loop, Nest, Part, Stmt};
 use arrayvec::ArrayVec;
 use sqlite_items::Items;
-
-use crate::tree::{BlockRef, Head, Loop, Nest, Part, Stmt};
 
 impl Nest {
     /// The present blocks: at most 18, which are three for each loop.
@@ -42,7 +41,10 @@ fn push_outermost(head: &Head, blocks: &mut ArrayVec<BlockRef, 18>)
     ensures len { array_vec_len blocks.new ≤ array_vec_len blocks.old + 1 }
 {
     if let Head::While(_) = head {
-        blocks.push(BlockRef { part: Part::Head, level: 1 });
+        blocks.push(BlockRef {
+            part: Part::Head,
+            level: 1,
+        });
     }
 }
 
@@ -54,7 +56,10 @@ fn push_opening(loops: &[Loop], level: u8, blocks: &mut ArrayVec<BlockRef, 18>)
     ensures len { array_vec_len blocks.new ≤ array_vec_len blocks.old + 2 * length loops.now }
 {
     if let Some((first, rest)) = loops.split_first() {
-        blocks.push(BlockRef { part: Part::Head, level });
+        blocks.push(BlockRef {
+            part: Part::Head,
+            level,
+        });
         push_if_any(Part::Pre, level, &first.pre, blocks);
         push_opening(rest, level + 1, blocks);
     }

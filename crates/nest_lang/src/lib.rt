@@ -26,3 +26,6 @@ pub use observe::{Seen, Stop};
 pub use state::{Outer, State};
 pub use tree::{AccessRef, BlockRef, Expr, Head, Loop, Nest, Op, Part, Place, Stmt, Trap};
 pub use value::{apply, negate, trip_of};
+
+#[cfg(test)]
+mod tests;

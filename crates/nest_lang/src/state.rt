@@ -16,7 +16,9 @@ pub struct State {
 impl Model for State {
     ghost use Rattle.std.specs.Prelude.{[]};
     ghost use Rattle.nest_lang.specs.Stores.{Store};
+
     ghost Value = { Store };
+
     ghost view = { λ s. record { memory = s.memory.items; scalars = s.scalars.items; locals = [] } };
 }
 

@@ -63,5 +63,9 @@ fn turns_between(from: i64, to: i64, size: u64) -> u64
     requires { 0 < size }
     ensures { result ≡ steps_over (to -ℤ from) size }
 {
-    if from < to { to.abs_diff(from).div_ceil(size) } else { 0 }
+    if from < to {
+        to.abs_diff(from).div_ceil(size)
+    } else {
+        0
+    }
 }

@@ -1,0 +1,12 @@
+pub mod Announcements
+pub mod Chained
+pub mod EveryBlock
+pub mod Fits
+pub mod Instances
+pub mod Plain
+pub mod Quiet
+pub mod Shows
+pub mod Tells
+pub mod AlikeStores
+pub mod Runs
+pub mod StoredWords

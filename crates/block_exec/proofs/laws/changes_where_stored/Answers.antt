@@ -1,0 +1,5 @@
+use Rattle.block_exec.proofs.StoredWords.{changes_where_stored}
+use Rattle.block_exec.proofs.laws.changes_where_stored.Goals as goal
+
+pub returns : goal.returns
+returns c = changes_where_stored

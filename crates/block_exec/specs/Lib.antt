@@ -1,0 +1,4 @@
+pub mod Ports
+pub mod Watches
+pub mod Ends
+pub mod Laws
