@@ -1,0 +1,4 @@
+pub mod LongestRuns
+pub mod Outcomes
+pub mod Laws
+pub mod Examples

@@ -1,0 +1,14 @@
+// What a call answers in place of its text.
+use std::alloc::AllocError;
+use thiserror::Error;
+
+/// A growth that was refused.
+#[derive(Clone, Copy, Debug, PartialEq, Eq, Error)]
+#[error("out of memory")]
+pub struct NoMemory;
+
+impl From<AllocError> for NoMemory {
+    fn from(_: AllocError) -> Self {
+        NoMemory
+    }
+}
