@@ -176,7 +176,10 @@ impl Mark {
     pub fn sign(text: &[u8]) -> Option<Mark>
         ensures { result ≡ sign_at text.now }
     {
-        SIGNS.iter().copied().find(|sign| text.starts_with(sign.spelling()))
+        SIGNS
+            .iter()
+            .copied()
+            .find(|sign| text.starts_with(sign.spelling()))
     }
 }
 
@@ -191,4 +194,13 @@ impl Token {
             _ => false,
         }
     }
+}
+
+/// How an operand begins.
+#[derive(Clone, Copy, Debug, PartialEq, Eq)]
+pub enum Start {
+    Number(i64),
+    Name(Name),
+    Bracket,
+    Other,
 }

@@ -6,7 +6,7 @@ abbrev pub invariant-bytes : goal.invariant-bytes
 invariant-bytes l = record {
   left : gap l.comment (drop l.at l.text) ≡ gap false (drop l.fn.from l.text);
   within : l.at ≤ length l.text;
-  ahead : l.fn.from ≤ l.at
+  ahead : l.fn.from ≤ l.at;
 }
 
 abbrev pub decreases-bytes : goal.decreases-bytes
