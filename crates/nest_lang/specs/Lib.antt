@@ -7,5 +7,7 @@ pub mod Statements
 pub mod Heads
 pub mod Loops
 pub mod Blocks
+pub mod Rules
 pub mod Runs
 pub mod Laws
+pub mod Examples

@@ -1,5 +1,6 @@
 -- Values: numbers of 64 bits with a sign, computed over exact whole numbers.
-use Rattle.std.specs.Prelude.{ℕ, suc, ◌+◌, ◌-◌, ◌/◌, ◌^◌, ℤ, pos, negsuc, ◌+ℤ◌, ◌-ℤ◌, ◌*ℤ◌, ◌<ℤ◌, neg_ℤ, int_div, int_rem, int_lt, int_le, nat_lt, Result, Ok, Err, Bool, not, ◌&&◌, if◌then◌else◌}
+use Rattle.std.specs.Prelude.{ℕ, suc, ◌^◌, ℤ, pos, negsuc, ◌+ℤ◌, ◌-ℤ◌, ◌*ℤ◌, ◌<ℤ◌, neg_ℤ, int_div, int_rem, int_lt, int_le, nat_lt, Result, Ok, Err, Bool, not, ◌&&◌, if◌then◌else◌}
+use Rattle.std.specs.Int.{div_ceil}
 use Rattle.nest_lang.specs.declared.tree.Op.{Op}
 use Rattle.nest_lang.specs.declared.tree.Op.TheVariants.{Add, Sub, Mul, Div, Rem, Eq, Ne, Lt, Le, Gt, Ge}
 use Rattle.nest_lang.specs.declared.tree.Trap.{Trap}
@@ -50,9 +51,9 @@ abbrev pub IsTurn : ℤ → ℤ → ℤ → ℕ → Type 0
 IsTurn lower upper (pos k) t = turn_value lower (pos k) t <ℤ upper
 IsTurn lower upper (negsuc k) t = upper <ℤ turn_value lower (negsuc k) t
 
--- how many steps of a size it takes to cover a distance, and none where the distance is negative
+-- how many steps of a size it takes, the last one possibly short, to cover a distance, and none where the distance is negative
 abbrev pub steps_over : ℤ → ℕ → ℕ
-steps_over (pos distance) size = (distance + size - 1) / size
+steps_over (pos distance) size = div_ceil distance size
 steps_over (negsuc short) size = 0
 
 -- the number of turns of a `for`

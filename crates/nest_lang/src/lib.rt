@@ -11,6 +11,7 @@
 //! they give these definitions. `laws` has what holds of the definitions themselves.
 #![tactic(auto)]
 
+mod blocks;
 mod budget;
 mod command;
 pub mod laws;

@@ -3,8 +3,7 @@
 //! Names are resolved in it: a variable says which scalar, which loop's name or which local it is, and
 //! each access of a block has its number, from 1, in the order of evaluation.
 
-ghost use Rattle.std.specs.Prelude.{◌≡◌, length, slice_get};
-ghost use Rattle.nest_lang.specs.Blocks.{present_blocks};
+ghost use Rattle.std.specs.Prelude.{◌≡◌, length};
 
 use sqlite_items::{Boxed, Items};
 
@@ -87,15 +86,16 @@ pub struct Nest {
 }
 
 /// Which part of a loop a block is.
-#[derive(Clone, Copy, Debug, PartialEq, Eq)]
+#[derive(Clone, Copy, Debug, Default, PartialEq, Eq)]
 pub enum Part {
+    #[default]
     Head,
     Pre,
     Post,
 }
 
 /// A block of a nest: a part of the loop at a level, from 1 for the outermost.
-#[derive(Clone, Copy, Debug, PartialEq, Eq)]
+#[derive(Clone, Copy, Debug, Default, PartialEq, Eq)]
 pub struct BlockRef {
     pub part: Part,
     pub level: u8,
