@@ -107,7 +107,7 @@ impl<'a> Cursor<'a> {
     }
 
     /// Reads a whole expression.
-    #[tactic(auto, using(crate::proofs::Steps::measures), unfolding(crate::specs::Reading::expression))]
+    #[tactic(auto, unfolding(crate::specs::Reading::expression))]
     pub fn expression(&mut self, alloc: Global, loop_name: Name) -> Result<Expr, ReadRefusal>
         ensures { Gives result self.new (expression loop_name self.old) }
     {

@@ -19,9 +19,14 @@ pub struct NestFile {
 }
 
 impl Model for NestFile {
+    ghost use Rattle.std.specs.Coded.{codes};
+    ghost use Rattle.nest_lang.specs.contracts.tree.Expr as expr;
+    ghost use Rattle.nest_lang.specs.contracts.tree.Stmt as stmt;
     ghost use Rattle.nest_text.specs.Files.{File};
 
     ghost Value = { File };
+
+    ghost coded = { Prim.hlevel (codes, expr.the_row.coded, stmt.the_row.coded) };
 
     ghost view = { λ f. record { words = f.words; nests = f.nests } };
 }

@@ -6,8 +6,8 @@
 //! at most one. So far it reads a restricted form: one `for` between two numbers with one store in it,
 //! whose address and value are sums of numbers, of the loop's name and of loads.
 //!
-//! The crate stands on `nest_lang`, whose trees it makes, and on `nest_io` for the answer to a refused
-//! growth. The top call uses `read_nest` and the parts of a `NestFile`.
+//! The crate stands on `nest_lang`, whose trees it makes, and on the kit's `sqlite_items` for trees that
+//! lead back to themselves. The top call uses `read_nest` and the parts of a `NestFile`.
 #![tactic(auto)]
 
 mod cursor;
@@ -25,4 +25,3 @@ mod token;
 pub use file::NestFile;
 pub use reader::read_nest;
 pub use refusal::{NoMemory, ReadRefusal};
-pub use token::{BadToken, Mark, Name, Spot, Token};
