@@ -88,103 +88,109 @@ fn read(alloc: Global, text: &[u8]) -> Result<String, Fail> {
     }
 }
 
+/// Texts, each with what it reads as.
+static ACCEPTED: [(&str, &str); 11] = [
+    (
+        "nest 1 memory 300 for i = 0 below 100 { [200 + i] = [i] + 1 }",
+        "300: 0..100/1 2[(200+i)]=(1[i]+1)",
+    ),
+    (
+        "nest 01 memory 0004 for i = 00 below 03 { [i] = 1 }",
+        "4: 0..3/1 1[i]=1",
+    ),
+    ("nest 1 memory 4 for i=0below 3{[i]=1}", "4: 0..3/1 1[i]=1"),
+    (
+        "nest\t1\r\nmemory 4#for x\nfor i = 0 below 3 { [i] = 1 } # the end",
+        "4: 0..3/1 1[i]=1",
+    ),
+    (
+        "nest 1 memory 4 for i = 0 below 3 { [i] = 1 }#",
+        "4: 0..3/1 1[i]=1",
+    ),
+    (
+        "nest 1 memory 9 for i = 0 below 3 { [[[i]] + [i]] = [[2] + [1]] }",
+        "9: 0..3/1 7[(2[1[i]]+3[i])]=6[(4[2]+5[1])]",
+    ),
+    (
+        "nest 1 memory 9 for i = 0 below 3 { [i] = 1 + 2 + 3 + i }",
+        "9: 0..3/1 1[i]=(((1+2)+3)+i)",
+    ),
+    (
+        "nest 1 memory 9 for _ = 5 below 3 { [_] = 9223372036854775807 }",
+        "9: 5..3/1 1[i]=9223372036854775807",
+    ),
+    (
+        "nest 1 memory 9 for a_1z = 5 below 3 { [a_1z] = 1 }",
+        "9: 5..3/1 1[i]=1",
+    ),
+    (
+        "nest 1 memory 9 for seq = 5 below 3 { [seq] = 1 }",
+        "9: 5..3/1 1[i]=1",
+    ),
+    (
+        "nest 1 memory 9 for nests = 5 below 3 { [nests] = 1 }",
+        "9: 5..3/1 1[i]=1",
+    ),
+];
+
+/// Texts that have no reading.
+static REFUSED: [&str; 35] = [
+    "",
+    "nest",
+    "nest 2 memory 4 for i = 0 below 3 { [i] = 1 }",
+    "nest 0 memory 4 for i = 0 below 3 { [i] = 1 }",
+    "nest one memory 4 for i = 0 below 3 { [i] = 1 }",
+    "memory 4 for i = 0 below 3 { [i] = 1 }",
+    "nest 1 scalar s = 0 memory 4 for i = 0 below 3 { [i] = 1 }",
+    "nest 1 memory for i = 0 below 3 { [i] = 1 }",
+    "nest 1 memory 4 data 0: 1 for i = 0 below 3 { [i] = 1 }",
+    "nest 1 memory 4 while 1 { [0] = 1 }",
+    "nest 1 memory 4 for i = 0 below 3 step 1 { [i] = 1 }",
+    "nest 1 memory 4 for i = 0 below 3 { [i] = 1 [i] = 1 }",
+    "nest 1 memory 4 for i = 0 below 3 { }",
+    "nest 1 memory 4 for i = 0 below 3 { let x = 1 }",
+    "nest 1 memory 4 for i = 0 below 3 { i = 1 }",
+    "nest 1 memory 4 for i = 0 below 3 { [i] = 1 } candidate { }",
+    "nest 1 memory 4 for i = 0 below 3 { [i] = 1 } }",
+    "nest 1 memory 4 for i = 0 below 3 { [i] = 1",
+    "nest 1 memory 4 for i = 0 below 3 { [i] = }",
+    "nest 1 memory 4 for i = 0 below 3 { [] = 1 }",
+    "nest 1 memory 4 for i = 0 below 3 { [i] 1 }",
+    "nest 1 memory 4 for i = 0 below 3 { [i] == 1 }",
+    "nest 1 memory 4 for i = 0 below 3 { [i] = k }",
+    "nest 1 memory 4 for i = 0 below i { [i] = 1 }",
+    "nest 1 memory 4 for i = 0 below 3abc { [i] = 1 }",
+    "nest 1 memory 4 for i = 0 below 1 + 1 { [i] = 1 }",
+    "nest 1 memory 4 for i = -1 below 3 { [i] = 1 }",
+    "nest 1 memory 4 for i = 0 below 3 { [i] = 1 - 1 }",
+    "nest 1 memory 4 for i = 0 below 3 { [i] = (1) }",
+    "nest 1 memory 4 for i = 0 below 3 { [i] = 1 + }",
+    "nest 1 memory 4 for i = 0 below 3 { [i] = 1 ! 2 }",
+    "nest 1 memory 4 for i = 0 below 3 { [i] = 9223372036854775808 }",
+    "nest 1 memory 4 for i = 0 below 3 { [i] = 1 $ }",
+    "nest 1 memory 4 for step = 0 below 3 { [step] = 1 }",
+    "nest 1 memory 4 for i = 0 below 3 { [i] = 1 } # a comment\n}",
+];
+
+/// Sees that a text reads as this, or that it is refused.
+fn reads_as(rt: &impl Abort, alloc: Global, text: &str, expected: &str) -> Result<(), Fail> {
+    let seen = read(alloc, text.as_bytes())?;
+    assert_eq!(rt; seen.as_str(), expected);
+    Ok(())
+}
+
 #[test]
 fn accepted_texts(rt: HostRuntime) -> Result<(), Fail> {
-    let texts: [(&[u8], &str); 12] = [
-        (
-            b"nest 1 memory 300 for i = 0 below 100 { [200 + i] = [i] + 1 }",
-            "300: 0..100/1 2[(200+i)]=(1[i]+1)",
-        ),
-        (
-            b"nest 01 memory 0004 for i = 00 below 03 { [i] = 1 }",
-            "4: 0..3/1 1[i]=1",
-        ),
-        (
-            b"nest 1 memory 0 for i = 0 below 3abc { [i] = 1 }",
-            "refused",
-        ),
-        (b"nest 1 memory 4 for i=0below 3{[i]=1}", "4: 0..3/1 1[i]=1"),
-        (
-            b"nest\t1\r\nmemory 4#for x\nfor i = 0 below 3 { [i] = 1 } # the end",
-            "4: 0..3/1 1[i]=1",
-        ),
-        (
-            b"nest 1 memory 4 for i = 0 below 3 { [i] = 1 }#",
-            "4: 0..3/1 1[i]=1",
-        ),
-        (
-            b"nest 1 memory 9 for i = 0 below 3 { [[[i]] + [i]] = [[2] + [1]] }",
-            "9: 0..3/1 7[(2[1[i]]+3[i])]=6[(4[2]+5[1])]",
-        ),
-        (
-            b"nest 1 memory 9 for i = 0 below 3 { [i] = 1 + 2 + 3 + i }",
-            "9: 0..3/1 1[i]=(((1+2)+3)+i)",
-        ),
-        (
-            b"nest 1 memory 9 for _ = 5 below 3 { [_] = 9223372036854775807 }",
-            "9: 5..3/1 1[i]=9223372036854775807",
-        ),
-        (
-            b"nest 1 memory 9 for a_1z = 5 below 3 { [a_1z] = 1 }",
-            "9: 5..3/1 1[i]=1",
-        ),
-        (
-            b"nest 1 memory 9 for seq = 5 below 3 { [seq] = 1 }",
-            "9: 5..3/1 1[i]=1",
-        ),
-        (
-            b"nest 1 memory 9 for nests = 5 below 3 { [nests] = 1 }",
-            "9: 5..3/1 1[i]=1",
-        ),
-    ];
-    for (text, expected) in texts {
-        let seen = read(rt.alloc(), text)?;
-        assert_eq!(rt; seen.as_str(), expected);
+    for (text, expected) in &ACCEPTED {
+        reads_as(&rt, rt.alloc(), text, expected)?;
     }
     Ok(())
 }
 
 #[test]
 fn refused_texts(rt: HostRuntime) -> Result<(), Fail> {
-    let texts: [&[u8]; 34] = [
-        b"",
-        b"nest",
-        b"nest 2 memory 4 for i = 0 below 3 { [i] = 1 }",
-        b"nest 0 memory 4 for i = 0 below 3 { [i] = 1 }",
-        b"nest one memory 4 for i = 0 below 3 { [i] = 1 }",
-        b"memory 4 for i = 0 below 3 { [i] = 1 }",
-        b"nest 1 scalar s = 0 memory 4 for i = 0 below 3 { [i] = 1 }",
-        b"nest 1 memory for i = 0 below 3 { [i] = 1 }",
-        b"nest 1 memory 4 data 0: 1 for i = 0 below 3 { [i] = 1 }",
-        b"nest 1 memory 4 while 1 { [0] = 1 }",
-        b"nest 1 memory 4 for i = 0 below 3 step 1 { [i] = 1 }",
-        b"nest 1 memory 4 for i = 0 below 3 { [i] = 1 [i] = 1 }",
-        b"nest 1 memory 4 for i = 0 below 3 { }",
-        b"nest 1 memory 4 for i = 0 below 3 { let x = 1 }",
-        b"nest 1 memory 4 for i = 0 below 3 { i = 1 }",
-        b"nest 1 memory 4 for i = 0 below 3 { [i] = 1 } candidate { }",
-        b"nest 1 memory 4 for i = 0 below 3 { [i] = 1 } }",
-        b"nest 1 memory 4 for i = 0 below 3 { [i] = 1",
-        b"nest 1 memory 4 for i = 0 below 3 { [i] = }",
-        b"nest 1 memory 4 for i = 0 below 3 { [] = 1 }",
-        b"nest 1 memory 4 for i = 0 below 3 { [i] 1 }",
-        b"nest 1 memory 4 for i = 0 below 3 { [i] == 1 }",
-        b"nest 1 memory 4 for i = 0 below 3 { [i] = k }",
-        b"nest 1 memory 4 for i = 0 below i { [i] = 1 }",
-        b"nest 1 memory 4 for i = 0 below 1 + 1 { [i] = 1 }",
-        b"nest 1 memory 4 for i = -1 below 3 { [i] = 1 }",
-        b"nest 1 memory 4 for i = 0 below 3 { [i] = 1 - 1 }",
-        b"nest 1 memory 4 for i = 0 below 3 { [i] = (1) }",
-        b"nest 1 memory 4 for i = 0 below 3 { [i] = 1 + }",
-        b"nest 1 memory 4 for i = 0 below 3 { [i] = 1 ! 2 }",
-        b"nest 1 memory 4 for i = 0 below 3 { [i] = 9223372036854775808 }",
-        b"nest 1 memory 4 for i = 0 below 3 { [i] = 1 $ }",
-        b"nest 1 memory 4 for step = 0 below 3 { [step] = 1 }",
-        b"nest 1 memory 4 for i = 0 below 3 { [i] = 1 } # a comment\n}",
-    ];
-    for text in texts {
-        let seen = read(rt.alloc(), text)?;
-        assert_eq!(rt; seen.as_str(), "refused");
+    for text in &REFUSED {
+        reads_as(&rt, rt.alloc(), text, "refused")?;
     }
     Ok(())
 }
