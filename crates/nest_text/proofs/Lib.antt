@@ -6,3 +6,5 @@ pub mod Places
 pub mod Steps
 pub mod Equal
 pub mod Main
+pub mod Computed
+pub mod Dividing

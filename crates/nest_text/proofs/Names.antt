@@ -21,12 +21,15 @@ found test [] x h = absurd (cc)
 found test (y ∷ ys) x h = elim (test y) as (λ b. test y ≡ b → cond b (Some y) (find test ys) ≡ Some x → test x ≡ true)
     [ true ↦ λ e k. (let q : y ≡ x = cc in ap test (sym q) ∙ e) | false ↦ λ e k. found test ys x k ] refl h
 
-pub sign-within : (text : List ℕ) (m : Mark) → sign_at text ≡ Some m → length (spelling m) ≤ length text
+pub sign-begins : (text : List ℕ) (m : Mark) → sign_at text ≡ Some m → spelling m ≡ take (length (spelling m)) text
 unfolding sign_at
-sign-within text m h =
+sign-begins text m h =
     let t : starts_with nat_eq text (spelling m) ≡ true = found (λ k. starts_with nat_eq text (spelling k)) signs m h in
-    let e : spelling m ≡ take (length (spelling m)) text = same_text (spelling m) (take (length (spelling m)) text) (sym t) in
-    let l : length (spelling m) ≡ length (take (length (spelling m)) text) = ap (λ (x : List ℕ). length x) e in
+    same_text (spelling m) (take (length (spelling m)) text) (sym t)
+
+pub sign-within : (text : List ℕ) (m : Mark) → sign_at text ≡ Some m → length (spelling m) ≤ length text
+sign-within text m h =
+    let l : length (spelling m) ≡ length (take (length (spelling m)) text) = ap (λ (x : List ℕ). length x) (sign-begins text m h) in
     omega (arith, length-take {A = ℕ})
 
 pub ruleset within = (sign-within)

@@ -12,7 +12,7 @@ use Rattle.nest_text.specs.Lexing.{is_letter, is_digit, is_name_byte, is_blank, 
 use Rattle.nest_text.specs.Sights.{Sight, first, behind, skip}
 use Rattle.nest_text.specs.Placed.{Placed}
 
-gap-no_longer : (c : Bool) (bs : List ℕ) → length (gap c bs) ≤ length bs
+pub gap-no_longer : (c : Bool) (bs : List ℕ) → length (gap c bs) ≤ length bs
 unfolding gap
 gap-no_longer c [] = omega arith
 gap-no_longer c (b ∷ bs) = elim (between c b) as (λ o. length (gap_at (λ d. gap d bs) (b ∷ bs) o) ≤ length (b ∷ bs))

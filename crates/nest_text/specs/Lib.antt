@@ -6,3 +6,5 @@ pub mod Files
 pub mod Grammar
 pub mod Reading
 pub mod Answers
+pub mod Division
+pub mod Examples
