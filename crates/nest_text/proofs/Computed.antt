@@ -1,5 +1,5 @@
 -- The computed examples.
-use Rattle.std.proofs.Common.{◌≡◌, ℕ, List, refl, sym, ◌∙◌, Option, Some, None, codes}
+use Rattle.std.proofs.Common.{◌≡◌, ℕ, List, refl, sym, ◌∙◌, Some, None, codes}
 use Rattle.nest_text.specs.Tokens.{spelling, word_of, sign_at, is_mark}
 use Rattle.nest_text.specs.Lexing.{between, gap, decimal, numbered, named, lexed, spots, tokens_from}
 use Rattle.nest_text.specs.Sights.{here, skip}
@@ -19,7 +19,7 @@ tokens-computed = record {
   greatest = refl;
   longest_name = refl;
   long_name = refl;
-  nothing = refl
+  nothing = refl;
 }
 
 copy-computed : reading copy_text ≡ Some copy_file
@@ -51,7 +51,7 @@ readings-computed = record {
   nested = reading-reads nested_text nested_file nested-computed;
   version_2 = unread (codes "nest 2 memory 4 for i = 0 below 3 { [i] = 1 }") version_2-computed;
   other_name = unread (codes "nest 1 memory 4 for i = 0 below 3 { [i] = k }") other_name-computed;
-  two_stores = unread (codes "nest 1 memory 4 for i = 0 below 3 { [i] = 1 [i] = 1 }") two_stores-computed
+  two_stores = unread (codes "nest 1 memory 4 for i = 0 below 3 { [i] = 1 [i] = 1 }") two_stores-computed;
 }
 
 pub ruleset examples = (tokens-computed, readings-computed)

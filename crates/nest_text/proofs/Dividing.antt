@@ -1,14 +1,11 @@
 -- The tokens of a text divide it.
-use Rattle.std.proofs.Common.{◌≡◌, ℕ, zero, suc, ◌+◌, ◌-◌, ◌<◌, ◌≤◌, List, [], ◌∷◌, ◌++◌, length, take, drop, length-drop, refl, sym, ◌∙◌, ap, arith, subst, Option, Some, None, Bool, true, false, not, cond, ◌==◌}
+use Rattle.std.proofs.Common.{◌≡◌, ℕ, zero, suc, ◌+◌, ◌-◌, ◌<◌, ◌≤◌, List, [], ◌∷◌, ◌++◌, length, take, drop, length-drop, refl, sym, ◌∙◌, ap, arith, subst, Option, Some, None, Bool, true, false, cond, ◌==◌}
 use Rattle.std.proofs.lemmas.List.{take-append-drop, append-nil}
 use Rattle.std.specs.List.{prefix_len}
 use Rattle.nest_text.specs.declared.token.Mark.{Mark}
-use Rattle.nest_text.specs.declared.token.Token.{Token}
-use Rattle.nest_text.specs.declared.token.Token.TheVariants as token
-use Rattle.nest_text.specs.declared.token.BadToken.TheVariants as bad
 use Rattle.nest_text.specs.declared.token.Spot.{Spot}
 use Rattle.nest_text.specs.Tokens.{spelling, sign_at}
-use Rattle.nest_text.specs.Lexing.{is_letter, is_digit, is_name_byte, is_blank, between, gap, gap_at, Lexed, lexed, spelled_by, sign_or_byte, named, numbered, spots, spots_at, tokens_from}
+use Rattle.nest_text.specs.Lexing.{is_letter, is_digit, is_name_byte, is_blank, between, gap, Lexed, lexed, spelled_by, sign_or_byte, named, numbered, spots, spots_at, tokens_from}
 use Rattle.nest_text.specs.Division.{Gap, none, blank, opens, inside, closes, Begins, Stops, AllPass, Spells, name, number, sign, bad_byte, Divides, ends, goes_on, TokensDivide}
 use Rattle.nest_text.proofs.Places.{lexed-moves, gap-no_longer}
 use Rattle.nest_text.proofs.Names.{sign-begins}
@@ -35,7 +32,7 @@ more-gap c k b bs h up p = record {
   d = p.d;
   is = up p.g p.d p.is;
   splits = ap (λ (l : List ℕ). b ∷ l) p.splits ∙ ap (λ (l : List ℕ). b ∷ (p.g ++ l)) (sym (gap-goes c k b bs h));
-  closed = λ x xs e. p.closed x xs (sym (gap-goes c k b bs h) ∙ e)
+  closed = λ x xs e. p.closed x xs (sym (gap-goes c k b bs h) ∙ e);
 }
 
 no-gap : (b : ℕ) (bs : List ℕ) → between false b ≡ None → Parted false (b ∷ bs)
@@ -44,7 +41,7 @@ no-gap b bs h = record {
   d = false;
   is = none;
   splits = sym (gap-stays b bs h);
-  closed = λ x xs e. (let q : b ∷ bs ≡ x ∷ xs = sym (gap-stays b bs h) ∙ e in let r : b ≡ x = cc in (refl, subst (λ (y : ℕ). between false y ≡ None) r h))
+  closed = λ x xs e. (let q : b ∷ bs ≡ x ∷ xs = sym (gap-stays b bs h) ∙ e in let r : b ≡ x = cc in (refl, subst (λ (y : ℕ). between false y ≡ None) r h));
 }
 
 parted : (c : Bool) (bs : List ℕ) → Parted c bs
@@ -57,9 +54,9 @@ parted true (b ∷ bs) = elim (b == 10) as (λ t. (b == 10) ≡ t → Parted tru
 parted false (b ∷ bs) = elim (is_blank b) as (λ t. is_blank b ≡ t → Parted false (b ∷ bs)) [
   | true ↦ λ e. more-gap false false b bs (rw e) (λ g d i. blank e i) (parted false bs)
   | false ↦ λ e. elim (b == 35) as (λ u. (b == 35) ≡ u → Parted false (b ∷ bs)) [
-      | true ↦ λ k. more-gap false true b bs (rw (e, k)) (λ g d i. opens k i) (parted true bs)
-      | false ↦ λ k. no-gap b bs (rw (e, k))
-    ] refl
+    | true ↦ λ k. more-gap false true b bs (rw (e, k)) (λ g d i. opens k i) (parted true bs)
+    | false ↦ λ k. no-gap b bs (rw (e, k))
+  ] refl
 ] refl
 
 begins : (p : ℕ → Bool) (b : ℕ) (bs : List ℕ) → p b ≡ true → Begins p (take (suc (prefix_len p bs)) (b ∷ bs))
@@ -109,9 +106,9 @@ unfolding lexed
 lexed-spelled b bs h = elim (is_letter b) as (λ t. is_letter b ≡ t → SpelledAs (b ∷ bs) (cond t (spelled_by (b ∷ bs) (prefix_len is_name_byte (b ∷ bs)) named) (cond (is_digit b) (spelled_by (b ∷ bs) (prefix_len is_digit (b ∷ bs)) numbered) (sign_or_byte (sign_at (b ∷ bs)))))) [
   | true ↦ λ e. name (run-begins is_name_byte is_letter b bs (letter-named b e) e) (run-passes is_name_byte (b ∷ bs)) (run-stops is_name_byte (b ∷ bs))
   | false ↦ λ e. elim (is_digit b) as (λ u. is_digit b ≡ u → SpelledAs (b ∷ bs) (cond u (spelled_by (b ∷ bs) (prefix_len is_digit (b ∷ bs)) numbered) (sign_or_byte (sign_at (b ∷ bs))))) [
-      | true ↦ λ k. number (run-begins is_digit is_digit b bs k k) (run-passes is_digit (b ∷ bs)) (run-stops is_digit (b ∷ bs))
-      | false ↦ λ k. sign-spelled b bs h e k (sign_at (b ∷ bs)) refl
-    ] refl
+    | true ↦ λ k. number (run-begins is_digit is_digit b bs k k) (run-passes is_digit (b ∷ bs)) (run-stops is_digit (b ∷ bs))
+    | false ↦ λ k. sign-spelled b bs h e k (sign_at (b ∷ bs)) refl
+  ] refl
 ] refl
 
 next : (size : ℕ) (bs : List ℕ) (c : ℕ) (cs : List ℕ) (spots : List Spot) (p : Parted false bs) → gap false bs ≡ c ∷ cs → Divides size (drop (lexed (c ∷ cs)).len (c ∷ cs)) spots → Divides size bs (record { at = size - length (c ∷ cs); token = (lexed (c ∷ cs)).token } ∷ spots)
@@ -121,9 +118,9 @@ next size bs c cs spots p e i =
     let w : take n (c ∷ cs) ++ drop n (c ∷ cs) ≡ c ∷ cs = take-append-drop n (c ∷ cs) in
     let q : bs ≡ p.g ++ (take n (c ∷ cs) ++ drop n (c ∷ cs)) = p.splits ∙ ap (λ (l : List ℕ). p.g ++ l) (e ∙ sym w) in
     let r : Divides size (p.g ++ (take n (c ∷ cs) ++ drop n (c ∷ cs))) (record { at = size - length (take n (c ∷ cs) ++ drop n (c ∷ cs)); token = (lexed (c ∷ cs)).token } ∷ spots) =
-      goes_on (subst (λ (x : Bool). Gap false p.g x) k.0 p.is) (lexed-spelled c cs k.1) i in
+    goes_on (subst (λ (x : Bool). Gap false p.g x) k.0 p.is) (lexed-spelled c cs k.1) i in
     subst (λ (l : List ℕ). Divides size l (record { at = size - length (c ∷ cs); token = (lexed (c ∷ cs)).token } ∷ spots)) (sym q)
-      (subst (λ (l : List ℕ). Divides size (p.g ++ (take n (c ∷ cs) ++ drop n (c ∷ cs))) (record { at = size - length l; token = (lexed (c ∷ cs)).token } ∷ spots)) w r)
+    (subst (λ (l : List ℕ). Divides size (p.g ++ (take n (c ∷ cs) ++ drop n (c ∷ cs))) (record { at = size - length l; token = (lexed (c ∷ cs)).token } ∷ spots)) w r)
 
 last : (size : ℕ) (bs : List ℕ) (p : Parted false bs) → gap false bs ≡ [] → Divides size bs []
 last size bs p e = let q : bs ≡ p.g = p.splits ∙ ap (λ (l : List ℕ). p.g ++ l) e ∙ append-nil p.g in subst (λ (l : List ℕ). Divides size l []) (sym q) (ends p.is)

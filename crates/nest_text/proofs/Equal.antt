@@ -1,7 +1,7 @@
 -- The functions read what the relation says, and nothing else.
-use Rattle.std.proofs.Common.{◌≡◌, ℕ, zero, suc, ◌+◌, ◌<◌, ◌≤◌, ℤ, pos, negsuc, List, [], ◌∷◌, length, refl, sym, ◌∙◌, ap, subst, arith, Option, Some, None, Bool, true, false, cond, nat_lt, nat_le, nat_eq, ◌==◌}
+use Rattle.std.proofs.Common.{◌≡◌, ℕ, zero, suc, ◌+◌, ◌<◌, ◌≤◌, List, [], ◌∷◌, length, refl, sym, ◌∙◌, ap, subst, Option, Some, None, Bool, true, false, cond, nat_lt, nat_le}
 use Rattle.std.specs.Str.{bytes_eq}
-use Rattle.std.proofs.lemmas.Bool.{eq-eqb, lt-ltb, le-leb, eqb-true, ltb-true, leb-true}
+use Rattle.std.proofs.lemmas.Bool.{lt-ltb, le-leb, ltb-true, leb-true}
 use Rattle.std.proofs.lemmas.Slice.Eq.{bytes_eq-Decides}
 use Rattle.nest_lang.specs.declared.tree.Place.TheVariants.{Counter}
 use Rattle.nest_lang.specs.declared.tree.Op.{Op}
@@ -13,8 +13,6 @@ use Rattle.nest_text.specs.declared.token.Token.{Token}
 use Rattle.nest_text.specs.declared.token.Token.TheVariants as token
 use Rattle.nest_text.specs.declared.token.Mark.{Mark}
 use Rattle.nest_text.specs.declared.token.Mark.TheVariants as mark
-use Rattle.nest_text.specs.declared.token.Start.{Start}
-use Rattle.nest_text.specs.declared.token.Start.TheVariants as start
 use Rattle.nest_text.specs.Tokens.{is_mark, spelling}
 use Rattle.nest_text.specs.Sights.{Sight, stands, Sees, skip, behind, numbered}
 use Rattle.nest_text.specs.Grammar.{Layer, Operand, Sum, Is, number, variable, load, operand as as_operand, plus, IsExpression, most_open, most_tokens, most_accesses}

@@ -1,7 +1,7 @@
 -- Blanks and comments in a text.
-use Rattle.std.proofs.Common.{◌≡◌, ℕ, suc, ◌+◌, ◌<◌, ◌≤◌, List, [], ◌∷◌, length, drop, get_or, drop-cons, add-one, refl, sym, ◌∙◌, ap, arith, Option, Some, None, Bool, true, false, cond}
+use Rattle.std.proofs.Common.{◌≡◌, ℕ, ◌+◌, ◌<◌, ◌≤◌, List, length, drop, get_or, drop-cons, add-one, Some, None, Bool}
 use Rattle.std.proofs.lemmas.List.{drop_all}
-use Rattle.nest_text.specs.Lexing.{between, gap, gap_at}
+use Rattle.nest_text.specs.Lexing.{between, gap}
 
 pub gap-stops : (text : List ℕ) (at : ℕ) (comment : Bool) → at < length text → between comment (get_or text at 0) ≡ None → gap comment (drop at text) ≡ drop at text
 unfolding gap

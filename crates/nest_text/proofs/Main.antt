@@ -1,5 +1,5 @@
 -- A text is read exactly where it has a reading, and as that.
-use Rattle.std.proofs.Common.{◌≡◌, ℕ, zero, suc, ◌+◌, ◌<◌, ◌≤◌, ℤ, pos, negsuc, List, [], ◌∷◌, length, refl, sym, ◌∙◌, ap, subst, arith, Option, Some, None, Result, Ok, Err, IfOk, Bool, true, false, cond, nat_lt, nat_le, nat_eq, ◌==◌}
+use Rattle.std.proofs.Common.{◌≡◌, ℕ, ◌+◌, ◌<◌, ◌≤◌, ℤ, pos, negsuc, List, [], ◌∷◌, length, refl, sym, ◌∙◌, ap, subst, Option, Some, None, Result, Ok, Err, IfOk, true, false, cond, nat_le, ◌==◌}
 use Rattle.std.proofs.lemmas.Bool.{le-leb, eqb-true, leb-true}
 use Rattle.nest_lang.specs.declared.tree.Expr.{Expr}
 use Rattle.nest_lang.specs.declared.tree.Expr.TheVariants.{Number}
@@ -18,7 +18,7 @@ use Rattle.nest_text.specs.declared.refusal.ReadRefusal.TheVariants.{Form, NoMem
 use Rattle.nest_text.specs.Sights.{Sight, here, stands, Sees, skip, numbered, in_block, start}
 use Rattle.nest_text.specs.Files.{File}
 use Rattle.nest_text.specs.Grammar.{IsExpression, IsStore, store as is_store, IsLoop, loop as is_loop, Reads, file as is_file, most_bytes, most_words, most_accesses}
-use Rattle.nest_text.specs.Reading.{Reading, after, ◌>>=◌, gives, need, number, number_at, name, name_at, access, expression, store, block, a_loop, if_one, version, word_count, memory, ended, end, contents, what, reading, addition_of, Shows}
+use Rattle.nest_text.specs.Reading.{gives, need, number, number_at, name, name_at, access, expression, store, block, a_loop, if_one, version, word_count, memory, ended, end, contents, what, reading, addition_of, Shows}
 use Rattle.nest_text.specs.Answers.{AnswersText, OneReading, IsSimple}
 use Rattle.nest_text.proofs.Steps.{bind_some}
 use Rattle.nest_text.proofs.Equal.{need-sees, access-left, expression-complete, need-some, access-some, expression-sound}

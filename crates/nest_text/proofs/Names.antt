@@ -1,5 +1,5 @@
 -- Names, words and signs in front of a text.
-use Rattle.std.proofs.Common.{◌≡◌, ℕ, ◌-◌, ◌<◌, ◌≤◌, List, [], ◌∷◌, ◌++◌, length, take, drop, replicate, Bool, true, false, cond, nat_lt, nat_eq, refl, sym, ◌∙◌, ap, arith, length-take, Option, Some, None}
+use Rattle.std.proofs.Common.{◌≡◌, ℕ, ◌≤◌, List, [], ◌∷◌, ◌++◌, length, take, drop, replicate, Bool, true, false, cond, nat_lt, nat_eq, refl, sym, ◌∙◌, ap, arith, length-take, Option, Some, None}
 use Rattle.std.specs.List.{find, starts_with}
 use Rattle.std.specs.Cmp.Lexicographic.{same_text}
 use Rattle.std.proofs.lemmas.List.{drop-replicate}
@@ -7,7 +7,7 @@ use Rattle.std.proofs.lemmas.Bool.Decides.{nat_tests}
 use Rattle.nest_text.specs.declared.token.Mark.{Mark}
 use Rattle.nest_text.specs.declared.token.Token.TheVariants as token
 use Rattle.nest_text.specs.Tokens.{spelling, word_of, sign_at, signs}
-use Rattle.nest_text.specs.Lexing.{named, name_of}
+use Rattle.nest_text.specs.Lexing.{named}
 
 pub named-name : (s new : List ℕ) {word : Option Mark} → length s ≤ 32 → word ≡ word_of s → word ≡ None → new ≡ s → token.Name (record { bytes = new ++ drop (length s) (replicate 32 0) }) ≡ named s
 unfolding named

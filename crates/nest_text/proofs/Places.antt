@@ -1,5 +1,5 @@
 -- Places: the tokens from a place of a text on.
-use Rattle.std.proofs.Common.{◌≡◌, ℕ, zero, suc, ◌+◌, ◌-◌, ◌<◌, ◌≤◌, List, [], ◌∷◌, length, take, drop, get_or, drop-drop, length-drop, refl, sym, ◌∙◌, ap, arith, subst, Option, Some, None, Bool, true, false, not, cond, nat_le, ◌==◌, ◌&&◌, ◌||◌}
+use Rattle.std.proofs.Common.{◌≡◌, ℕ, zero, suc, ◌+◌, ◌-◌, ◌<◌, ◌≤◌, List, [], ◌∷◌, length, drop, drop-drop, length-drop, refl, sym, ◌∙◌, ap, arith, Option, Some, None, Bool, true, false, cond}
 use Rattle.std.proofs.lemmas.List.{drop_all}
 use Rattle.std.specs.List.{prefix_len}
 use Rattle.nest_text.specs.declared.token.Token.{Token}
@@ -8,8 +8,8 @@ use Rattle.nest_text.specs.declared.token.Mark.{Mark}
 use Rattle.nest_text.specs.declared.token.Mark.TheVariants as mark
 use Rattle.nest_text.specs.declared.token.Spot.{Spot}
 use Rattle.nest_text.specs.Tokens.{spelling, sign_at}
-use Rattle.nest_text.specs.Lexing.{is_letter, is_digit, is_name_byte, is_blank, between, gap, gap_at, lexed, spelled_by, sign_or_byte, named, numbered, spots, spots_at, tokens_from}
-use Rattle.nest_text.specs.Sights.{Sight, first, behind, skip}
+use Rattle.nest_text.specs.Lexing.{is_letter, is_digit, is_name_byte, between, gap, gap_at, lexed, spelled_by, sign_or_byte, named, numbered, spots, spots_at, tokens_from}
+use Rattle.nest_text.specs.Sights.{first, skip}
 use Rattle.nest_text.specs.Placed.{Placed}
 
 pub gap-no_longer : (c : Bool) (bs : List ℕ) → length (gap c bs) ≤ length bs

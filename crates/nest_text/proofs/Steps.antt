@@ -1,5 +1,5 @@
 -- Steps: each production as an equation, and that readings leave no more tokens than they found.
-use Rattle.std.proofs.Common.{◌≡◌, ℕ, zero, suc, ◌+◌, ◌-◌, ◌<◌, ◌≤◌, ℤ, List, [], ◌∷◌, length, refl, sym, ◌∙◌, ap, arith, Option, Some, None, Bool, true, false, cond, nat_lt, nat_le}
+use Rattle.std.proofs.Common.{◌≡◌, ℕ, zero, suc, ◌+◌, ◌<◌, ◌≤◌, List, [], ◌∷◌, length, refl, sym, ◌∙◌, ap, arith, Option, Some, None, Bool, true, false, cond, nat_lt}
 use Rattle.std.specs.Str.{bytes_eq}
 use Rattle.nest_lang.specs.declared.tree.Place.TheVariants.{Counter}
 use Rattle.nest_lang.specs.declared.tree.Op.{Op}

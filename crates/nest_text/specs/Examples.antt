@@ -1,8 +1,7 @@
 -- Examples of tokens and of readings, each computed.
-use Rattle.std.specs.Prelude.{◌≡◌, ℕ, ℤ, pos, List, [], ◌∷◌, codes}
+use Rattle.std.specs.Prelude.{◌≡◌, ℕ, pos, List, [], ◌∷◌, codes}
 use Rattle.nest_lang.specs.declared.tree.Place.TheVariants.{Counter}
 use Rattle.nest_lang.specs.declared.tree.Op.TheVariants.{Add}
-use Rattle.nest_lang.specs.declared.tree.Expr.{Expr}
 use Rattle.nest_lang.specs.declared.tree.Expr.TheVariants.{Number, Var, Load, Two}
 use Rattle.nest_lang.specs.declared.tree.Stmt.TheVariants.{Store}
 use Rattle.nest_lang.specs.declared.tree.Head.TheVariants.{For}
@@ -40,11 +39,13 @@ copy_text = codes "nest 1 memory 300 for i = 0 below 100 { [200 + i] = [i] + 1 }
 abbrev pub copy_file : File
 copy_file = record {
   words = 300;
-  nests = record { loops = record {
-    head = For (Number (pos 0)) (Number (pos 100)) (pos 1);
-    pre = Store 2 (Two Add (Number (pos 200)) (Var (Counter 0))) (Two Add (Load 1 (Var (Counter 0))) (Number (pos 1))) ∷ [];
-    post = []
-  } ∷ [] } ∷ []
+  nests = record {
+    loops = record {
+      head = For (Number (pos 0)) (Number (pos 100)) (pos 1);
+      pre = Store 2 (Two Add (Number (pos 200)) (Var (Counter 0))) (Two Add (Load 1 (Var (Counter 0))) (Number (pos 1))) ∷ [];
+      post = [];
+    } ∷ [];
+  } ∷ [];
 }
 
 -- loads within loads, and a sum of three
@@ -54,11 +55,13 @@ nested_text = codes "nest 1 memory 9 for k = 0 below 3 { [[[k]] + [k]] = 1 + [k]
 abbrev pub nested_file : File
 nested_file = record {
   words = 9;
-  nests = record { loops = record {
-    head = For (Number (pos 0)) (Number (pos 3)) (pos 1);
-    pre = Store 5 (Two Add (Load 2 (Load 1 (Var (Counter 0)))) (Load 3 (Var (Counter 0)))) (Two Add (Two Add (Number (pos 1)) (Load 4 (Var (Counter 0)))) (Var (Counter 0))) ∷ [];
-    post = []
-  } ∷ [] } ∷ []
+  nests = record {
+    loops = record {
+      head = For (Number (pos 0)) (Number (pos 3)) (pos 1);
+      pre = Store 5 (Two Add (Load 2 (Load 1 (Var (Counter 0)))) (Load 3 (Var (Counter 0)))) (Two Add (Two Add (Number (pos 1)) (Load 4 (Var (Counter 0)))) (Var (Counter 0))) ∷ [];
+      post = [];
+    } ∷ [];
+  } ∷ [];
 }
 
 pub record ReadingExamples : Type 0 where

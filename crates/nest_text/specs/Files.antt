@@ -1,5 +1,5 @@
 -- Files: what a text gives.
-use Rattle.std.specs.Prelude.{◌≡◌, ℕ, ℤ, pos, List, [], ◌∷◌, replicate}
+use Rattle.std.specs.Prelude.{ℕ, pos, List, [], replicate}
 use Rattle.nest_lang.specs.declared.tree.Nest.{Nest}
 use Rattle.nest_lang.specs.Stores.{Store}
 

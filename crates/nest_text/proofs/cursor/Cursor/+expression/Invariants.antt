@@ -1,4 +1,4 @@
-use Rattle.std.proofs.Common.{◌≡◌, ℕ, ◌+◌, ◌*◌, length}
+use Rattle.std.proofs.Common.{◌≡◌, ◌+◌, ◌*◌, length}
 use Rattle.nest_text.specs.Reading.{operand, sum, others}
 use Rattle.nest_text.proofs.cursor.Cursor.+expression.Given as goal
 

@@ -1,4 +1,4 @@
-use Rattle.std.proofs.Common.{◌≡◌, ℕ, ◌≤◌, ◌<◌, ◌+◌, arith, length, drop, length-drop, ap}
+use Rattle.std.proofs.Common.{◌≡◌, ℕ, ◌≤◌, ◌+◌, arith, length, drop, length-drop, ap}
 use Rattle.std.proofs.lemmas.List.{take_rest}
 use Rattle.nest_text.specs.Lexing.{lexed}
 use Rattle.nest_text.proofs.Places.{placed}
