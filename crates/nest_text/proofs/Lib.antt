@@ -1,0 +1,10 @@
+pub mod Marks
+pub mod Numbers
+pub mod Gaps
+pub mod Names
+pub mod Places
+pub mod Steps
+pub mod Equal
+pub mod Main
+pub mod Computed
+pub mod Dividing

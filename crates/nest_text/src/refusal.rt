@@ -1,0 +1,42 @@
+//! Why a call gives no result.
+
+ghost use Rattle.std.specs.Prelude.{◌≡◌};
+ghost use Rattle.nest_text.specs.declared.refusal.ReadRefusal.TheVariants.{NoMemory as OutOfMemory};
+
+use std::alloc::{AllocError, AllocFailed};
+use thiserror::Error;
+
+/// A growth that was refused.
+#[derive(Clone, Copy, Debug, PartialEq, Eq)]
+pub struct NoMemory;
+
+impl From<AllocError> for NoMemory {
+    fn from(_: AllocError) -> Self {
+        NoMemory
+    }
+}
+
+/// Why a text was not read: it has no reading, or a growth was refused.
+#[derive(Clone, Copy, Debug, PartialEq, Eq, Error)]
+pub enum ReadRefusal {
+    #[error("the text is not of the form")]
+    Form,
+    #[error("out of memory")]
+    NoMemory,
+}
+
+impl From<AllocError> for ReadRefusal {
+    ghost from_gives = { λ _ refusal. refusal ≡ OutOfMemory };
+
+    fn from(_: AllocError) -> Self {
+        ReadRefusal::NoMemory
+    }
+}
+
+impl<T: Drop> From<AllocFailed<T>> for ReadRefusal {
+    ghost from_gives = { λ _ refusal. refusal ≡ OutOfMemory };
+
+    fn from(_: AllocFailed<T>) -> Self {
+        ReadRefusal::NoMemory
+    }
+}
