@@ -1,0 +1,27 @@
+-- How large the numbers of a combination are.
+use Rattle.std.proofs.Common.{◌≡◌, ◌≤◌, ◌<◌, ◌^◌, ◌+◌, ◌*◌, ℕ, ℤ, ◌+ℤ◌, ◌*ℤ◌, unsigned_abs, FitsSigned, arith}
+use Rattle.std.specs.Int.{w128}
+use Rattle.std.proofs.lemmas.Int.{ints, unsigned_abs-mul, fits_signed_from_abs}
+
+abs-add : (a b : ℤ) → unsigned_abs (a +ℤ b) ≤ unsigned_abs a + unsigned_abs b
+abs-add a b = grind (arith, ints)
+
+product_within : (a b m : ℕ) → a ≤ m → b ≤ m → a * b ≤ m * m
+product_within a b m h k = grind arith
+
+pub abs-mul_within : (x y : ℤ) (m : ℕ) → unsigned_abs x ≤ m → unsigned_abs y ≤ m → unsigned_abs (x *ℤ y) ≤ m * m
+abs-mul_within x y m h k = rw (unsigned_abs-mul x y) (product_within (unsigned_abs x) (unsigned_abs y) m h k)
+
+pub abs-weighted : (q x p y : ℤ) (m : ℕ) → unsigned_abs q ≤ m → unsigned_abs x ≤ m → unsigned_abs p ≤ m → unsigned_abs y ≤ m → unsigned_abs (q *ℤ x +ℤ p *ℤ y) ≤ m * m + m * m
+abs-weighted q x p y m hq hx hp hy =
+    let one = abs-mul_within q x m hq hx in
+    let two = abs-mul_within p y m hp hy in
+    let sum = abs-add (q *ℤ x) (p *ℤ y) in
+    omega (arith, one, two, sum)
+
+-- with numbers of at most 2^62 each product is at most 2^124, and their sum at most 2^125
+pub weighted_within : (q x p y : ℤ) → unsigned_abs q ≤ 2 ^ 62 → unsigned_abs x ≤ 2 ^ 62 → unsigned_abs p ≤ 2 ^ 62 → unsigned_abs y ≤ 2 ^ 62 → unsigned_abs (q *ℤ x +ℤ p *ℤ y) ≤ 2 ^ 126
+weighted_within q x p y hq hx hp hy = let bound = abs-weighted q x p y (2 ^ 62) hq hx hp hy in omega (arith, bound)
+
+pub weighted_fits : (q x p y : ℤ) → unsigned_abs q ≤ 2 ^ 62 → unsigned_abs x ≤ 2 ^ 62 → unsigned_abs p ≤ 2 ^ 62 → unsigned_abs y ≤ 2 ^ 62 → FitsSigned w128 (q *ℤ x +ℤ p *ℤ y)
+weighted_fits q x p y hq hx hp hy = let bound = weighted_within q x p y hq hx hp hy in fits_signed_from_abs w128 (q *ℤ x +ℤ p *ℤ y) (omega (arith, bound))

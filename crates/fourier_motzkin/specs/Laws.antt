@@ -1,0 +1,36 @@
+-- The laws of elimination, each in one statement.
+use Rattle.std.specs.Prelude.{◌≡◌, ℕ, ℤ, List, ◌↔◌}
+use Rattle.std.specs.List.{All, Contains}
+use Rattle.affine.specs.declared.row.Row.{Row}
+use Rattle.affine.specs.Rows.{Meets}
+use Rattle.fourier_motzkin.specs.RowSets.{IsTidied, tidied}
+use Rattle.fourier_motzkin.specs.Elimination.{AllOver, MeetsSaid, eliminated}
+use Rattle.fourier_motzkin.specs.Verdicts.{verdict_of, bounds_of}
+use Rattle.fourier_motzkin.specs.declared.verdicts.Ruling.TheVariants.{Empty}
+
+-- the tidied set is the one list that rises and has exactly the rows that are kept
+abbrev pub TidiedIsKept : Type 0
+TidiedIsKept = (rows set : List Row) → IsTidied rows set ↔ (set ≡ tidied rows)
+
+-- a point meets all rows exactly where it meets the tidied rows
+abbrev pub TidyingKeepsPoints : Type 0
+TidyingKeepsPoints = (rows : List Row) (point : List ℤ) → All (Meets point) rows ↔ All (Meets point) (tidied rows)
+
+-- a point that meets all rows meets what is said after an elimination
+abbrev pub EliminatingKeepsPoints : Type 0
+EliminatingKeepsPoints = (n variable : ℕ) (rows : List Row) (point : List ℤ) → AllOver n rows → All (Meets point) rows → MeetsSaid point (eliminated variable rows)
+
+-- where the verdict is Empty, no whole-number point meets all rows
+abbrev pub EmptyHasNoPoint : Type 0
+EmptyHasNoPoint = (n : ℕ) (rows : List Row) (point : List ℤ) → AllOver n rows → verdict_of n rows ≡ Empty → All (Meets point) rows → ⊥
+
+-- two lists have the same rows
+abbrev pub SameRows : List Row → List Row → Type 0
+SameRows rows others = (row : Row) → Contains rows row ↔ Contains others row
+
+-- no answer depends on the order of the rows, or on how often one is given
+pub record OrderIsNoMatter : Type 0 where
+  pub tidied : (rows others : List Row) → SameRows rows others → tidied rows ≡ tidied others
+  pub eliminated : (variable : ℕ) (rows others : List Row) → SameRows rows others → eliminated variable rows ≡ eliminated variable others
+  pub verdict : (n : ℕ) (rows others : List Row) → SameRows rows others → verdict_of n rows ≡ verdict_of n others
+  pub bounds : (n : ℕ) (rows others : List Row) → SameRows rows others → bounds_of n rows ≡ bounds_of n others

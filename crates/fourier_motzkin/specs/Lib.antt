@@ -1,0 +1,5 @@
+pub mod RowSets
+pub mod Elimination
+pub mod Laws
+pub mod Verdicts
+pub mod Ranges

@@ -1,0 +1,33 @@
+//! Laws: functions that do nothing, each with a law of the definitions as its contract.
+
+ghost use Rattle.fourier_motzkin.specs.Laws.{EliminatingKeepsPoints, EmptyHasNoPoint, OrderIsNoMatter, TidiedIsKept, TidyingKeepsPoints};
+
+/// The tidied set is the one list that rises by the coefficients and has exactly the rows that tidying keeps.
+pub fn tidied_is_kept()
+    ensures { TidiedIsKept }
+{
+}
+
+/// A whole-number point meets all rows exactly where it meets the tidied rows.
+pub fn tidying_keeps_points()
+    ensures { TidyingKeepsPoints }
+{
+}
+
+/// A whole-number point that meets all rows meets the rows after an elimination, which are then not False.
+pub fn eliminating_keeps_points()
+    ensures { EliminatingKeepsPoints }
+{
+}
+
+/// Where the verdict is Empty, no whole-number point meets all rows.
+pub fn empty_has_no_point()
+    ensures { EmptyHasNoPoint }
+{
+}
+
+/// Tidied sets, eliminations, verdicts and bounds are the same for two lists with the same rows.
+pub fn order_is_no_matter()
+    ensures { OrderIsNoMatter }
+{
+}
