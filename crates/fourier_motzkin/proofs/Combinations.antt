@@ -1,9 +1,11 @@
 -- Sums of two lists place by place, as a loop makes them.
-use Rattle.std.proofs.Common.{◌≡◌, ℕ, ◌+◌, ◌≤◌, ◌<◌, ℤ, ◌+ℤ◌, ◌*ℤ◌, List, [], ◌∷◌, ◌++◌, length, refl, sym, ap, ◌∙◌, ◌⊎◌, inl, inr, arith, append_assoc, append-nil, unsigned_abs}
+use Rattle.std.proofs.Common.{◌≡◌, ℕ, ◌+◌, ◌≤◌, ◌<◌, ℤ, ◌+ℤ◌, ◌*ℤ◌, List, [], ◌∷◌, ◌++◌, length, refl, sym, ap, ◌∙◌, ◌⊎◌, inl, inr, arith, append_assoc, append-nil, unsigned_abs, pos, ◌*◌, ◌^◌}
 use Rattle.std.specs.List.{All}
 use Rattle.std.proofs.lemmas.List.{length-append}
-use Rattle.std.proofs.lemmas.List.Elements.{All-push, All-same}
-use Rattle.affine.specs.Sums.{weighted}
+use Rattle.std.proofs.lemmas.List.Elements.{All-head, All-push, All-rest, All-same}
+use Rattle.std.proofs.lemmas.Int.{ints}
+use Rattle.affine.specs.Sums.{dot, weighted}
+use Rattle.fourier_motzkin.proofs.Sizes.{abs-sum_more}
 
 pub weighted_room : (sums rest more xs : List ℤ) (x : ℤ) → rest ≡ x ∷ more → length sums + length rest ≡ length xs → length xs ≤ 16 → length sums < 16
 weighted_room sums rest more xs x is room few = let long : length rest ≡ length (x ∷ more) = ap length is in omega arith
@@ -27,3 +29,32 @@ weighted_room_more sums new rest more xs x r is pushed room =
 
 pub pushed_within : (most : ℕ) (sums new : List ℤ) (r : ℤ) → new ≡ sums ++ r ∷ [] → unsigned_abs r ≤ most → All (λ number. unsigned_abs number ≤ most) sums → All (λ number. unsigned_abs number ≤ most) new
 pushed_within most sums new r is small all = All-same (λ number. unsigned_abs number ≤ most) new (sums ++ r ∷ []) is (All-push (λ number. unsigned_abs number ≤ most) sums r all small)
+
+-- one product more
+pub dot_more : (x y sum r whole : ℤ) (left right left' right' : List ℤ) → left ≡ x ∷ left' → right ≡ y ∷ right' → r ≡ sum +ℤ x *ℤ y → sum +ℤ dot left right ≡ whole → r +ℤ dot left' right' ≡ whole
+dot_more x y sum r whole left right left' right' e f value done =
+    let is : sum +ℤ (x *ℤ y +ℤ dot left' right') ≡ whole = rw (e, f) at done in
+    rw value (omega (arith, ints, is))
+
+pub dot_end : (sum whole : ℤ) (left right : List ℤ) → (left ≡ []) ⊎ (right ≡ []) → sum +ℤ dot left right ≡ whole → sum ≡ whole
+dot_end sum whole left right (inl e) done = let is : sum +ℤ pos 0 ≡ whole = rw e at done in omega (arith, ints, is)
+dot_end sum whole [] right (inr e) done = omega (arith, ints, done)
+dot_end sum whole (x ∷ left) right (inr e) done = let is : sum +ℤ pos 0 ≡ whole = rw e at done in omega (arith, ints, is)
+
+pub long_more : {X : Type 0} (yielded : List X) (p : X) (rest more outer : List ℤ) (y : ℤ) → rest ≡ y ∷ more → length yielded + length rest ≡ length outer → length (yielded ++ p ∷ []) + length more ≡ length outer
+long_more yielded p rest more outer y is long =
+    let longer : length rest ≡ length (y ∷ more) = ap length is in
+    let front = length-append yielded (p ∷ []) in
+    omega (arith, longer, front)
+
+pub size_more : {X : Type 0} (yielded : List X) (p : X) (sum r x y : ℤ) → r ≡ sum +ℤ x *ℤ y → unsigned_abs sum ≤ 2 ^ 62 + length yielded * (2 ^ 62 * 2 ^ 60) → unsigned_abs x ≤ 2 ^ 62 → unsigned_abs y ≤ 2 ^ 60 → unsigned_abs r ≤ 2 ^ 62 + length (yielded ++ p ∷ []) * (2 ^ 62 * 2 ^ 60)
+size_more yielded p sum r x y is small h k =
+    let bound = abs-sum_more sum x y (length yielded) small h k in
+    rw (is, length-append yielded (p ∷ [])) bound
+
+-- what holds of the rest of a list holds of its first number, and of the others
+pub within_head : (most : ℕ) (rest more : List ℤ) (x : ℤ) → rest ≡ x ∷ more → All (λ number. unsigned_abs number ≤ most) rest → unsigned_abs x ≤ most
+within_head most rest more x is all = All-head (λ number. unsigned_abs number ≤ most) x more (All-same (λ number. unsigned_abs number ≤ most) (x ∷ more) rest (sym is) all)
+
+pub within_tail : (most : ℕ) (rest more : List ℤ) (x : ℤ) → rest ≡ x ∷ more → All (λ number. unsigned_abs number ≤ most) rest → All (λ number. unsigned_abs number ≤ most) more
+within_tail most rest more x is all = All-rest (λ number. unsigned_abs number ≤ most) x more rest is all

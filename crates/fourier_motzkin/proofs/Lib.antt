@@ -6,3 +6,6 @@ pub mod Sizes
 pub mod Steps
 pub mod Points
 pub mod Orders
+pub mod Runs
+pub mod Ends
+pub mod Ranges

@@ -135,7 +135,7 @@ projected_over n variable rows over = All_from (λ row. variables row ≡ n) (pr
 
 -- judging
 
-judged_cases : (P : Eliminated → Type 0) (rows : List Row) → (list_any is_false rows ≡ true → P set.False) → P set.Wide → (list_any is_wide rows ≡ false → nat_lt 512 (length rows) ≡ false → P (set.Rows rows)) → P (judged rows)
+pub judged_cases : (P : Eliminated → Type 0) (rows : List Row) → (list_any is_false rows ≡ true → P set.False) → P set.Wide → (list_any is_wide rows ≡ false → nat_lt 512 (length rows) ≡ false → P (set.Rows rows)) → P (judged rows)
 judged_cases P rows wrong wide stands = at (list_any is_false rows) refl (list_any is_wide rows) refl (nat_lt 512 (length rows)) refl
   where
     at : (a : Bool) → list_any is_false rows ≡ a → (b : Bool) → list_any is_wide rows ≡ b → (d : Bool) → nat_lt 512 (length rows) ≡ d → P (if a then set.False else (if b || d then set.Wide else set.Rows rows))

@@ -2,6 +2,8 @@
 
 ghost use Rattle.std.specs.Prelude.{◌≡◌, ◌<◌, ◌≤◌, ◌^◌, ℤ, List, [], length, slice_index_or, unsigned_abs, ◌↔◌, ◌⊎◌, IsNone, IfSome};
 ghost use Rattle.std.specs.List.{All};
+ghost use Rattle.fourier_motzkin.specs.RowSets.{IsWithin};
+ghost use Rattle.fourier_motzkin.specs.Elimination.{AllOver};
 ghost use Rattle.fourier_motzkin.specs.Ranges.{Allowed, IsOpen, IsRange};
 ghost use Rattle.fourier_motzkin.specs.Verdicts.{AreLevels, Bounds};
 
@@ -53,7 +55,9 @@ impl Scan {
     /// where the verdict was there before.
     pub fn level(&self, level: usize) -> &[Row]
         requires { level < length self.now.levels }
-        ensures { result.now ≡ slice_index_or self.now.levels level [] }
+        ensures rows { result.now ≡ slice_index_or self.now.levels level [] }
+        ensures over { AllOver (length self.now.levels) result.now }
+        ensures within { All (IsWithin (2 ^ 62)) result.now }
     {
         self.levels[level].as_slice()
     }
@@ -68,6 +72,6 @@ impl Scan {
         ensures some { IfSome result (λ ends. IsRange (Allowed (slice_index_or self.now.levels level []) point.now) ends.0 ends.1) }
         ensures none { IsNone result ↔ (((value : ℤ) → Allowed (slice_index_or self.now.levels level []) point.now value → ⊥) ⊎ IsOpen level (slice_index_or self.now.levels level [])) }
     {
-        range_of(self.levels[level].as_slice(), level, point)
+        range_of(self.level(level), level, point)
     }
 }

@@ -1,0 +1,49 @@
+-- What a row says of one variable, and ends that say the same.
+use Rattle.std.proofs.Common.{◌≡◌, ℕ, zero, suc, ℤ, pos, negsuc, neg_ℤ, ◌+ℤ◌, ◌*ℤ◌, ◌≤ℤ◌, ◌<ℤ◌, Option, Some, None, refl, sym, ap, ◌∙◌, subst, arith}
+use Rattle.std.specs.Prelude.{◌↔◌, ◌⊎◌}
+use Rattle.std.specs.Int.{int_div_euclid}
+use Rattle.std.proofs.lemmas.Int.{ints}
+use Rattle.affine.proofs.FloorLemmas.{non_negative-floor}
+use Rattle.affine.proofs.IntegerLemmas.{mul-neg}
+use Rattle.fourier_motzkin.specs.Ranges.{Lies}
+
+mul_comm : (a b : ℤ) → a *ℤ b ≡ b *ℤ a
+mul_comm a b = omega (arith, ints)
+
+-- c x + rest >= 0 for c > 0: x is at least the quotient of -rest, rounded up
+pub bounded_below : (c rest x : ℤ) → pos 0 <ℤ c → (pos 0 ≤ℤ (rest +ℤ c *ℤ x)) ↔ (neg_ℤ (int_div_euclid rest c) ≤ℤ x)
+bounded_below (pos zero) rest x some = absurd (omega (arith, ints))
+bounded_below (pos (suc n)) rest x some =
+    let both = non_negative-floor x rest n in (
+      λ h. let k = both.0 (omega (arith, ints)) in omega (arith, ints, k),
+      λ h. let k = both.1 (omega (arith, ints)) in omega (arith, ints, k),
+    )
+bounded_below (negsuc n) rest x some = absurd (omega (arith, ints))
+
+-- c x + rest >= 0 for c < 0: x is at most the quotient of rest by -c, rounded down
+pub bounded_above : (c rest x : ℤ) → c <ℤ pos 0 → (pos 0 ≤ℤ (rest +ℤ c *ℤ x)) ↔ (x ≤ℤ int_div_euclid rest (neg_ℤ c))
+bounded_above (pos n) rest x some = absurd (omega (arith, ints))
+bounded_above (negsuc n) rest x some =
+    let both = non_negative-floor (neg_ℤ x) rest n in
+    let turned = mul-neg (pos (suc n)) x in
+    let minus : negsuc n *ℤ x ≡ neg_ℤ (pos (suc n) *ℤ x) = mul_comm (negsuc n) x ∙ mul-neg x (pos (suc n)) ∙ ap neg_ℤ (mul_comm x (pos (suc n))) in (
+      λ h. let k = both.0 (omega (arith, ints)) in omega (arith, ints, k),
+      λ h. let k = both.1 (omega (arith, ints)) in omega (arith, ints, k),
+    )
+
+-- narrowed ends, where the row says the same as a bound
+pub narrowed_same : (least greatest least' greatest' : Option ℤ) (P Q : ℤ → Type 0) → ((x : ℤ) → Lies least' greatest' x ↔ (Lies least greatest x × Q x)) → ((x : ℤ) → P x ↔ Q x) → (x : ℤ) → Lies least' greatest' x ↔ (Lies least greatest x × P x)
+narrowed_same least greatest least' greatest' P Q is same x = (
+    λ h. let k = (is x).0 h in (k.0, (same x).1 k.1),
+    λ h. (is x).1 (h.0, (same x).0 h.1),
+  )
+
+pub narrowed_below : (least greatest least' greatest' : Option ℤ) (c rest l q : ℤ) → pos 0 <ℤ c → q ≡ int_div_euclid rest c → l ≡ neg_ℤ q → ((x : ℤ) → Lies least' greatest' x ↔ (Lies least greatest x × (l ≤ℤ x))) → (x : ℤ) → Lies least' greatest' x ↔ (Lies least greatest x × (pos 0 ≤ℤ (rest +ℤ c *ℤ x)))
+narrowed_below least greatest least' greatest' c rest l q some e f is =
+    narrowed_same least greatest least' greatest' (λ x. pos 0 ≤ℤ (rest +ℤ c *ℤ x)) (λ x. l ≤ℤ x) is
+      (λ x. rw (f, e) (bounded_below c rest x some))
+
+pub narrowed_above : (least greatest least' greatest' : Option ℤ) (c rest g d : ℤ) → c <ℤ pos 0 → d ≡ neg_ℤ c → g ≡ int_div_euclid rest d → ((x : ℤ) → Lies least' greatest' x ↔ (Lies least greatest x × (x ≤ℤ g))) → (x : ℤ) → Lies least' greatest' x ↔ (Lies least greatest x × (pos 0 ≤ℤ (rest +ℤ c *ℤ x)))
+narrowed_above least greatest least' greatest' c rest g d some e f is =
+    narrowed_same least greatest least' greatest' (λ x. pos 0 ≤ℤ (rest +ℤ c *ℤ x)) (λ x. x ≤ℤ g) is
+      (λ x. rw (f, e) (bounded_above c rest x some))
