@@ -1,6 +1,6 @@
 -- What a row says of one variable, and ends that say the same.
-use Rattle.std.proofs.Common.{◌≡◌, ℕ, zero, suc, ℤ, pos, negsuc, neg_ℤ, ◌+ℤ◌, ◌*ℤ◌, ◌≤ℤ◌, ◌<ℤ◌, Option, Some, None, refl, sym, ap, ◌∙◌, subst, arith}
-use Rattle.std.specs.Prelude.{◌↔◌, ◌⊎◌}
+use Rattle.std.proofs.Common.{◌≡◌, zero, suc, ℤ, pos, negsuc, neg_ℤ, ◌+ℤ◌, ◌*ℤ◌, ◌≤ℤ◌, ◌<ℤ◌, Option, ap, ◌∙◌, arith}
+use Rattle.std.specs.Prelude.{◌↔◌}
 use Rattle.std.specs.Int.{int_div_euclid}
 use Rattle.std.proofs.lemmas.Int.{ints}
 use Rattle.affine.proofs.FloorLemmas.{non_negative-floor}
@@ -34,16 +34,16 @@ bounded_above (negsuc n) rest x some =
 -- narrowed ends, where the row says the same as a bound
 pub narrowed_same : (least greatest least' greatest' : Option ℤ) (P Q : ℤ → Type 0) → ((x : ℤ) → Lies least' greatest' x ↔ (Lies least greatest x × Q x)) → ((x : ℤ) → P x ↔ Q x) → (x : ℤ) → Lies least' greatest' x ↔ (Lies least greatest x × P x)
 narrowed_same least greatest least' greatest' P Q is same x = (
-    λ h. let k = (is x).0 h in (k.0, (same x).1 k.1),
-    λ h. (is x).1 (h.0, (same x).0 h.1),
-  )
+  λ h. let k = (is x).0 h in (k.0, (same x).1 k.1),
+  λ h. (is x).1 (h.0, (same x).0 h.1),
+)
 
 pub narrowed_below : (least greatest least' greatest' : Option ℤ) (c rest l q : ℤ) → pos 0 <ℤ c → q ≡ int_div_euclid rest c → l ≡ neg_ℤ q → ((x : ℤ) → Lies least' greatest' x ↔ (Lies least greatest x × (l ≤ℤ x))) → (x : ℤ) → Lies least' greatest' x ↔ (Lies least greatest x × (pos 0 ≤ℤ (rest +ℤ c *ℤ x)))
 narrowed_below least greatest least' greatest' c rest l q some e f is =
     narrowed_same least greatest least' greatest' (λ x. pos 0 ≤ℤ (rest +ℤ c *ℤ x)) (λ x. l ≤ℤ x) is
-      (λ x. rw (f, e) (bounded_below c rest x some))
+    (λ x. rw (f, e) (bounded_below c rest x some))
 
 pub narrowed_above : (least greatest least' greatest' : Option ℤ) (c rest g d : ℤ) → c <ℤ pos 0 → d ≡ neg_ℤ c → g ≡ int_div_euclid rest d → ((x : ℤ) → Lies least' greatest' x ↔ (Lies least greatest x × (x ≤ℤ g))) → (x : ℤ) → Lies least' greatest' x ↔ (Lies least greatest x × (pos 0 ≤ℤ (rest +ℤ c *ℤ x)))
 narrowed_above least greatest least' greatest' c rest g d some e f is =
     narrowed_same least greatest least' greatest' (λ x. pos 0 ≤ℤ (rest +ℤ c *ℤ x)) (λ x. x ≤ℤ g) is
-      (λ x. rw (f, e) (bounded_above c rest x some))
+    (λ x. rw (f, e) (bounded_above c rest x some))

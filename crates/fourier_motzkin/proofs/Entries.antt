@@ -1,10 +1,9 @@
 -- A tidied set as the entries of a map, from coefficients to constants.
-use Rattle.std.proofs.Common.{◌≡◌, ℤ, Bool, true, false, cond, List, [], ◌∷◌, map, refl, sym, ap, ap₂, ◌∙◌, Ordering, Less, Equal, Greater, Option, Some, None, int_cmp, is_eq, ◌≤ℤ◌, ◌<ℤ◌, int_lt, arith}
+use Rattle.std.proofs.Common.{◌≡◌, ℤ, true, false, cond, List, [], ◌∷◌, map, refl, sym, ap, Ordering, Less, Equal, Greater, Some, None, int_cmp, is_eq, ◌≤ℤ◌, ◌<ℤ◌, int_lt, arith}
 use Rattle.std.specs.Prelude.{if◌then◌else◌}
 use Rattle.std.specs.Ordering.{match_ordering}
 use Rattle.std.specs.BTreeMap.{insert_entry, is_at}
 use Rattle.std.specs.Map.{keys_of, lookup}
-use Rattle.std.specs.List.{AllByRecursion}
 use Rattle.std.specs.List.Sorted.{IsStrictlySortedBy}
 use Rattle.std.specs.Cmp.{IsTotalOrder}
 use Rattle.std.specs.Cmp.Lexicographic.{slice_cmp}
@@ -14,7 +13,7 @@ use Rattle.std.proofs.lemmas.Map.Entries.{none_below_head}
 use Rattle.std.proofs.lemmas.Int.{ints}
 use Rattle.arrayvec.specs.ArrayVec.{ArrayVec}
 use Rattle.affine.specs.declared.row.Row.{Row}
-use Rattle.fourier_motzkin.specs.RowSets.{compare, kept}
+use Rattle.fourier_motzkin.specs.RowSets.{kept}
 use Rattle.fourier_motzkin.proofs.Sets.{tied_lists}
 
 -- coefficients by their places

@@ -9,3 +9,4 @@ pub mod Orders
 pub mod Runs
 pub mod Ends
 pub mod Ranges
+pub mod Levels

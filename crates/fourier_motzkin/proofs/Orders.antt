@@ -1,12 +1,11 @@
 -- The tidied set in its own words, and that the order of the rows is no matter.
-use Rattle.std.proofs.Common.{◌≡◌, ℕ, zero, suc, ℤ, pos, ◌≤ℤ◌, ◌<ℤ◌, int_lt, Bool, true, false, not, ◌&&◌, List, [], ◌∷◌, ◌++◌, map, filter, refl, sym, ap, ◌∙◌, subst, inl, inr, ⊎_elim, Equal, arith}
-use Rattle.std.specs.Prelude.{◌↔◌}
+use Rattle.std.proofs.Common.{◌≡◌, ℕ, ℤ, pos, ◌≤ℤ◌, int_lt, Bool, true, false, not, ◌&&◌, List, map, filter, refl, sym, ap, ◌∙◌, subst, arith}
 use Rattle.std.specs.Ordering.{int_eq}
-use Rattle.std.specs.List.{Any, Contains, flat_map, list_all}
+use Rattle.std.specs.List.{flat_map, list_all}
 use Rattle.std.proofs.lemmas.Int.{ints}
 use Rattle.affine.specs.declared.row.Row.{Row}
-use Rattle.affine.specs.Rows.{coefficient, normal}
-use Rattle.fourier_motzkin.specs.RowSets.{IsKept, IsNormalOf, IsTidied, Rises, compare, is_constant, says_nothing, told, tidied}
+use Rattle.affine.specs.Rows.{normal}
+use Rattle.fourier_motzkin.specs.RowSets.{IsKept, IsTidied, is_constant, says_nothing, told, tidied}
 use Rattle.fourier_motzkin.specs.Elimination.{bounds_above, bounds_below, crossed, eliminated, is_without, judged, projected}
 use Rattle.fourier_motzkin.specs.Verdicts.{Bounds, bounds_of, levels, ruling, verdict_of}
 use Rattle.fourier_motzkin.specs.Laws.{OrderIsNoMatter, SameRows, TidiedIsKept}
@@ -57,8 +56,10 @@ kept_is_least rows row is = record {
 is_tidied : (rows : List Row) → IsTidied rows (tidied rows)
 is_tidied rows = record {
   rises = tidied_rises rows;
-  has = λ row. (λ h. least_is_kept rows row (tidied_has rows row (has_from_contains (tidied rows) row h)),
-    λ is. contains_from_has (tidied rows) row (has_tidied rows row (kept_is_least rows row is)));
+  has = λ row. (
+    λ h. least_is_kept rows row (tidied_has rows row (has_from_contains (tidied rows) row h)),
+    λ is. contains_from_has (tidied rows) row (has_tidied rows row (kept_is_least rows row is)),
+  );
 }
 
 tidied_unique : (rows set : List Row) → IsTidied rows set → set ≡ tidied rows
@@ -109,9 +110,9 @@ has_projected_crossed : (variable : ℕ) (rows : List Row) (below above : Row) �
 unfolding projected
 has_projected_crossed variable rows below above h k p q =
     has_right (filter (is_without variable) rows) (flat_map (λ P. map (crossed variable P) (filter (bounds_above variable) rows)) (filter (bounds_below variable) rows)) (crossed variable below above)
-      (has_flat_map (λ P. map (crossed variable P) (filter (bounds_above variable) rows)) (filter (bounds_below variable) rows) below (crossed variable below above)
-        (has_filter (bounds_below variable) rows below h p)
-        (has_map (crossed variable below) (filter (bounds_above variable) rows) above (has_filter (bounds_above variable) rows above k q)))
+    (has_flat_map (λ P. map (crossed variable P) (filter (bounds_above variable) rows)) (filter (bounds_below variable) rows) below (crossed variable below above)
+    (has_filter (bounds_below variable) rows below h p)
+    (has_map (crossed variable below) (filter (bounds_above variable) rows) above (has_filter (bounds_above variable) rows above k q)))
 
 projected_there : (variable : ℕ) (rows others : List Row) → ((row : Row) → Has rows row → Has others row) → (row : Row) → Has (projected variable rows) row → Has (projected variable others) row
 projected_there variable rows others there = projected_from variable rows (Has (projected variable others))

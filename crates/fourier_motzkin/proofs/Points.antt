@@ -1,13 +1,13 @@
 -- The points that meet rows meet what tidying and eliminating make of them.
-use Rattle.std.proofs.Common.{◌≡◌, ℕ, zero, suc, ℤ, pos, neg_ℤ, ◌+ℤ◌, ◌*ℤ◌, ◌≤ℤ◌, ◌<ℤ◌, int_lt, Bool, true, false, cond, not, ◌&&◌, ◌||◌, List, [], ◌∷◌, ◌++◌, map, filter, length, refl, sym, ap, ◌∙◌, subst, inl, inr, ⊎_elim, Equal, arith}
-use Rattle.std.specs.Prelude.{if◌then◌else◌, ◌↔◌, nat_lt}
+use Rattle.std.proofs.Common.{◌≡◌, ℕ, zero, suc, ℤ, pos, neg_ℤ, ◌≤ℤ◌, ◌<ℤ◌, int_lt, Bool, true, false, not, ◌&&◌, ◌||◌, List, [], ◌∷◌, map, filter, length, refl, sym, ap, ◌∙◌, subst, ⊎_elim, Equal, arith}
+use Rattle.std.specs.Prelude.{if◌then◌else◌, nat_lt}
 use Rattle.std.specs.Ordering.{int_eq}
 use Rattle.std.specs.List.{All, flat_map, list_all, list_any}
 use Rattle.std.proofs.lemmas.Int.{ints}
 use Rattle.std.proofs.lemmas.Bool.Decides.{Decides-int_eq}
 use Rattle.affine.specs.declared.row.Row.{Row}
 use Rattle.affine.specs.Sums.{dot}
-use Rattle.affine.specs.Rows.{Meets, coefficient, combination, normal, sum_at, variables}
+use Rattle.affine.specs.Rows.{Meets, coefficient, normal, variables}
 use Rattle.affine.proofs.NormalLemmas.{Meets-normal, variables-normal}
 use Rattle.affine.proofs.RowLemmas.{Meets-combination, variables-combination}
 use Rattle.fourier_motzkin.specs.RowSets.{compare, is_constant, is_false, is_wide, says_nothing, told, tidied}
@@ -15,9 +15,9 @@ use Rattle.fourier_motzkin.specs.Elimination.{AllOver, MeetsSaid, bounds_above, 
 use Rattle.fourier_motzkin.specs.declared.elimination.Eliminated.{Eliminated}
 use Rattle.fourier_motzkin.specs.declared.elimination.Eliminated.TheVariants as set
 use Rattle.fourier_motzkin.specs.Verdicts.{next, ruled, ruling, verdict_of}
-use Rattle.fourier_motzkin.specs.declared.verdicts.Ruling.TheVariants.{Empty, Maybe, Wide}
-use Rattle.fourier_motzkin.proofs.Members.{Has, All_from, All_has, has_filter, filter_has, has_map, map_has, has_cases, flat_map_has, list_any_has, list_all_has}
-use Rattle.fourier_motzkin.proofs.Sets.{IsLeast, least_tidied, tied_coefficients}
+use Rattle.fourier_motzkin.specs.declared.verdicts.Ruling.TheVariants.{Empty}
+use Rattle.fourier_motzkin.proofs.Members.{Has, All_from, All_has, has_filter, filter_has, has_map, map_has, has_cases, flat_map_has, list_any_has}
+use Rattle.fourier_motzkin.proofs.Sets.{least_tidied, tied_coefficients}
 
 pub both_first : (a b : Bool) → (a && b) ≡ true → a ≡ true
 both_first true b h = refl
@@ -100,14 +100,14 @@ pub projected_from : (variable : ℕ) (rows : List Row) (P : Row → Type 0) →
 unfolding projected
 projected_from variable rows P stay cross row h =
     ⊎_elim
-      (λ k. let (has, is) = filter_has (is_without variable) rows row k in stay row has is)
-      (λ k.
-        let (below, has, pair) = flat_map_has (λ P. map (crossed variable P) (filter (bounds_above variable) rows)) (filter (bounds_below variable) rows) row k in
-        let (above, also, is) = map_has (crossed variable below) (filter (bounds_above variable) rows) row pair in
-        let (first, positive) = filter_has (bounds_below variable) rows below has in
-        let (second, negative) = filter_has (bounds_above variable) rows above also in
-        subst P (sym is) (cross below above first second positive negative))
-      (has_cases (filter (is_without variable) rows) (flat_map (λ P. map (crossed variable P) (filter (bounds_above variable) rows)) (filter (bounds_below variable) rows)) row h)
+    (λ k. let (has, is) = filter_has (is_without variable) rows row k in stay row has is)
+    (λ k.
+    let (below, has, pair) = flat_map_has (λ P. map (crossed variable P) (filter (bounds_above variable) rows)) (filter (bounds_below variable) rows) row k in
+    let (above, also, is) = map_has (crossed variable below) (filter (bounds_above variable) rows) row pair in
+    let (first, positive) = filter_has (bounds_below variable) rows below has in
+    let (second, negative) = filter_has (bounds_above variable) rows above also in
+    subst P (sym is) (cross below above first second positive negative))
+    (has_cases (filter (is_without variable) rows) (flat_map (λ P. map (crossed variable P) (filter (bounds_above variable) rows)) (filter (bounds_below variable) rows)) row h)
 
 positive_number : (z : ℤ) → int_lt (pos 0) z ≡ true → pos 0 ≤ℤ z
 positive_number z h = grind (arith, ints)
@@ -122,16 +122,16 @@ pub projected_met : (n variable : ℕ) (rows : List Row) (point : List ℤ) → 
 projected_met n variable rows point over met = All_from (Meets point) (projected variable rows) (projected_from variable rows (Meets point)
     (λ row h is. All_has (Meets point) rows row met h)
     (λ below above h k p q. Meets-combination (neg_ℤ (coefficient above variable)) below (coefficient below variable) above point
-      (same_variables n rows below above over h k)
-      (negative_number (coefficient above variable) q) (positive_number (coefficient below variable) p)
-      (All_has (Meets point) rows below met h) (All_has (Meets point) rows above met k)))
+    (same_variables n rows below above over h k)
+    (negative_number (coefficient above variable) q) (positive_number (coefficient below variable) p)
+    (All_has (Meets point) rows below met h) (All_has (Meets point) rows above met k)))
 
 pub projected_over : (n variable : ℕ) (rows : List Row) → AllOver n rows → AllOver n (projected variable rows)
 projected_over n variable rows over = All_from (λ row. variables row ≡ n) (projected variable rows) (projected_from variable rows (λ row. variables row ≡ n)
     (λ row h is. All_has (λ row. variables row ≡ n) rows row over h)
     (λ below above h k p q.
-      variables-combination (neg_ℤ (coefficient above variable)) below (coefficient below variable) above (same_variables n rows below above over h k)
-      ∙ All_has (λ row. variables row ≡ n) rows below over h))
+    variables-combination (neg_ℤ (coefficient above variable)) below (coefficient below variable) above (same_variables n rows below above over h k)
+    ∙ All_has (λ row. variables row ≡ n) rows below over h))
 
 -- judging
 

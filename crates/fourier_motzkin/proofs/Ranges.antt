@@ -1,7 +1,7 @@
 -- The ends after every row are the range.
-use Rattle.std.proofs.Common.{◌≡◌, ℕ, suc, ◌+◌, ◌<◌, ◌≤◌, ℤ, pos, ◌+ℤ◌, ◌*ℤ◌, ◌≤ℤ◌, ◌<ℤ◌, int_lt, Bool, true, false, ◌||◌, Option, Some, None, List, [], ◌∷◌, ◌++◌, length, take, get_or, refl, sym, ap, ◌∙◌, subst, inl, inr, ⊎_elim, arith}
+use Rattle.std.proofs.Common.{◌≡◌, ℕ, ◌+◌, ◌<◌, ◌≤◌, ℤ, pos, ◌+ℤ◌, ◌*ℤ◌, ◌≤ℤ◌, ◌<ℤ◌, int_lt, Bool, true, false, ◌||◌, Option, Some, None, List, [], ◌∷◌, ◌++◌, length, take, get_or, refl, sym, ap, ◌∙◌, subst, inl, inr, ⊎_elim, arith}
 use Rattle.std.specs.Prelude.{◌↔◌, ◌⊎◌, IfSome, IsNone, is_some}
-use Rattle.std.specs.List.{All, list_any}
+use Rattle.std.specs.List.{list_any}
 use Rattle.std.proofs.lemmas.Int.{ints}
 use Rattle.std.proofs.lemmas.List.{take_more, take_all}
 use Rattle.affine.specs.declared.row.Row.{Row}
@@ -9,7 +9,7 @@ use Rattle.affine.specs.Rows.{Meets, coefficient, sum_at}
 use Rattle.affine.proofs.RowLemmas.{sum_at-push}
 use Rattle.fourier_motzkin.specs.Elimination.{bounds_above, bounds_below}
 use Rattle.fourier_motzkin.specs.Ranges.{Allowed, IsOpen, IsRange, Lies}
-use Rattle.fourier_motzkin.proofs.Members.{Has, All_from, All_has, has_cases, has_left, has_right, list_any_has, list_any_none}
+use Rattle.fourier_motzkin.proofs.Members.{All_from, All_has, has_cases, has_left, has_right, list_any_has, list_any_none}
 
 -- a row at the point with one value more
 
@@ -33,15 +33,15 @@ lies_more rows outer variable i row c rest least greatest least' greatest' long 
     let both = meets-push row outer variable c rest value long f g in
     let P = Meets (outer ++ value ∷ []) in (
       λ h. let k = (new value).0 h in
-        rw (taken_more rows i row inside is) (All_from P (take i rows ++ row ∷ []) (λ r m. ⊎_elim
+          rw (taken_more rows i row inside is) (All_from P (take i rows ++ row ∷ []) (λ r m. ⊎_elim
           (λ n. All_has P (take i rows) r ((old value).0 k.0) n)
           (λ n. ⊎_elim (λ e. subst P (sym e) (both.1 k.1)) (λ none. absurd none) n)
           (has_cases (take i rows) (row ∷ []) r m))),
       λ h. let all = rw (taken_more rows i row inside is) at h in
-        (new value).1 (
-          (old value).1 (All_from P (take i rows) (λ r m. All_has P (take i rows ++ row ∷ []) r all (has_left (take i rows) (row ∷ []) r m))),
-          both.0 (All_has P (take i rows ++ row ∷ []) row all (has_right (take i rows) (row ∷ []) row (inl refl))),
-        ),
+          (new value).1 (
+            (old value).1 (All_from P (take i rows) (λ r m. All_has P (take i rows ++ row ∷ []) r all (has_left (take i rows) (row ∷ []) r m))),
+            both.0 (All_has P (take i rows ++ row ∷ []) row all (has_right (take i rows) (row ∷ []) row (inl refl))),
+          ),
     )
 
 or_false : (b : Bool) → (b || false) ≡ b
@@ -135,8 +135,8 @@ pub range_none : (variable : ℕ) (rows : List Row) (outer : List ℤ) (least gr
     → IsNone result ↔ (((value : ℤ) → Allowed rows outer value → ⊥) ⊎ IsOpen variable rows)
 range_none variable rows outer least greatest None lies below above found cross = (λ none. none_there variable rows outer least greatest lies below above (cross none), λ h. refl)
 range_none variable rows outer least greatest (Some ends) lies below above found cross = (
-    λ none. absurd (let e = none in cc),
-    λ h. absurd (⊎_elim
+  λ none. absurd (let e = none in cc),
+  λ h. absurd (⊎_elim
       (λ none. none ends.0 (ends_are_range (Allowed rows outer) least greatest ends.0 ends.1 found.0 found.1 found.2 lies).least_allowed)
       (λ open_side. closed variable rows (sym below ∙ ap is_some found.0) (sym above ∙ ap is_some found.1) open_side) h),
-  )
+)

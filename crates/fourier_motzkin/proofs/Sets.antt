@@ -1,16 +1,15 @@
 -- Tidied sets of rows: what they hold, and that there is one.
-use Rattle.std.proofs.Common.{◌≡◌, ℤ, pos, Bool, true, false, cond, not, ◌&&◌, List, [], ◌∷◌, ◌++◌, map, filter, refl, sym, ap, ap₂, ◌∙◌, subst, inl, inr, ⊎_elim, ◌⊎◌, Ordering, Less, Equal, Greater, int_cmp, is_eq, arith, ◌≤ℤ◌, ◌<ℤ◌, int_lt, append_assoc, append-nil}
+use Rattle.std.proofs.Common.{◌≡◌, ℤ, Bool, true, false, cond, not, ◌&&◌, List, [], ◌∷◌, ◌++◌, filter, refl, sym, ap, ap₂, ◌∙◌, subst, inl, inr, ⊎_elim, ◌⊎◌, Ordering, Less, Equal, Greater, int_cmp, is_eq, arith, ◌≤ℤ◌, ◌<ℤ◌, int_lt, append_assoc, append-nil}
 use Rattle.std.specs.Prelude.{if◌then◌else◌}
-use Rattle.std.specs.Ordering.{ordering_reverse, match_ordering, int_eq, MatchOrdering, ordering_then}
-use Rattle.std.specs.List.{AllByRecursion, Contains, fold, list_all}
+use Rattle.std.specs.Ordering.{ordering_reverse, match_ordering, MatchOrdering, ordering_then}
 use Rattle.std.specs.Cmp.{IsTotalOrder}
 use Rattle.std.specs.Cmp.Lexicographic.{slice_cmp}
-use Rattle.std.proofs.lemmas.Cmp.{tied_itself, tied_back, lists_total, int_cmp_total, on_total, by_ranked, int_ranked}
+use Rattle.std.proofs.lemmas.Cmp.{tied_itself, tied_back, lists_total, int_cmp_total, on_total, int_ranked}
 use Rattle.std.proofs.lemmas.Int.{ints}
 use Rattle.affine.specs.declared.row.Row.{Row}
 use Rattle.affine.specs.Rows.{normal}
 use Rattle.fourier_motzkin.specs.RowSets.{compare, says_nothing, is_least_of, placed, rising, told, tidied, Rises, kept, with_row, with_rows}
-use Rattle.fourier_motzkin.proofs.Members.{Has, all_has, all_from, has_left, has_right, has_cases, has_filter, filter_has, list_all_has, list_all_from, has_map, map_has}
+use Rattle.fourier_motzkin.proofs.Members.{Has, all_has, all_from, has_left, has_right, has_cases, has_filter, filter_has, list_all_has, list_all_from}
 
 -- the order of rows by their coefficients
 
@@ -59,8 +58,8 @@ rising_unique (x ∷ xs) [] up down there back = absurd (there x (inl refl))
 rising_unique (x ∷ xs) (y ∷ ys) up down there back =
     let heads = at_heads (there x (inl refl)) (back y (inl refl)) in
     ap₂ (λ z zs. z ∷ zs) heads (rising_unique xs ys up.1 down.1
-      (λ r h. tail_there heads r h (there r (inr h)))
-      (λ r h. tail_back heads r h (back r (inr h))))
+    (λ r h. tail_there heads r h (there r (inr h)))
+    (λ r h. tail_back heads r h (back r (inr h))))
   where
     at_heads : Has (y ∷ ys) x → Has (x ∷ xs) y → x ≡ y
     at_heads (inl e) k = e
@@ -275,9 +274,9 @@ least_kept rows set r is = record {
   rises = kept_rises r set is.rises;
   from = λ s h. ⊎_elim (λ e. has_right rows (r ∷ []) s (inl e)) (λ k. has_left rows (r ∷ []) s (is.from s k)) (kept_has r set s h);
   covers = λ s h. ⊎_elim
-    (λ k. let (u, m, e, below) = is.covers s k in covers_trans (kept r set) s u e below (kept_covers_others r set u m))
-    (λ k. ⊎_elim (λ e. subst (λ z. Covers (kept r set) z) (sym e) (kept_covers r set)) (λ none. absurd none) k)
-    (has_cases rows (r ∷ []) s h);
+      (λ k. let (u, m, e, below) = is.covers s k in covers_trans (kept r set) s u e below (kept_covers_others r set u m))
+      (λ k. ⊎_elim (λ e. subst (λ z. Covers (kept r set) z) (sym e) (kept_covers r set)) (λ none. absurd none) k)
+      (has_cases rows (r ∷ []) s h);
 }
 
 pub least_with_rows : (rows set given : List Row) → IsLeast rows set → IsLeast (rows ++ told given) (with_rows set given)

@@ -1,6 +1,6 @@
 -- What the code of an elimination makes is the elimination.
 use Rattle.std.proofs.Common.{◌≡◌, ℕ, List, [], ◌∷◌, ◌++◌, map, filter, refl, sym, ap, ◌∙◌}
-use Rattle.std.specs.List.{fold, flat_map}
+use Rattle.std.specs.List.{flat_map}
 use Rattle.affine.specs.declared.row.Row.{Row}
 use Rattle.fourier_motzkin.specs.RowSets.{tidied, with_row, with_rows}
 use Rattle.fourier_motzkin.specs.Elimination.{judged, is_without, bounds_above, bounds_below, crossed, projected, eliminated}

@@ -1,5 +1,5 @@
 -- Eliminating a variable from a tidied set of rows.
-use Rattle.std.specs.Prelude.{◌≡◌, ◌^◌, ℕ, ℤ, pos, neg_ℤ, Bool, ◌||◌, nat_lt, int_lt, List, [], ◌∷◌, ◌++◌, map, filter, length, if◌then◌else◌}
+use Rattle.std.specs.Prelude.{◌≡◌, ◌^◌, ℕ, ℤ, pos, neg_ℤ, Bool, ◌||◌, nat_lt, int_lt, List, ◌++◌, map, filter, length, if◌then◌else◌}
 use Rattle.std.specs.Ordering.{int_eq}
 use Rattle.std.specs.List.{All, flat_map, list_any}
 use Rattle.affine.specs.declared.row.Row.{Row}

@@ -1,10 +1,11 @@
 -- The laws of elimination, each in one statement.
-use Rattle.std.specs.Prelude.{◌≡◌, ℕ, ℤ, List, ◌↔◌}
+use Rattle.std.specs.Prelude.{◌≡◌, ◌<◌, ℕ, ℤ, pos, List, [], ◌↔◌, length, slice_index_or, take}
 use Rattle.std.specs.List.{All, Contains}
 use Rattle.affine.specs.declared.row.Row.{Row}
-use Rattle.affine.specs.Rows.{Meets}
+use Rattle.affine.specs.Rows.{Meets, coefficient}
 use Rattle.fourier_motzkin.specs.RowSets.{IsTidied, tidied}
 use Rattle.fourier_motzkin.specs.Elimination.{AllOver, MeetsSaid, eliminated}
+use Rattle.fourier_motzkin.specs.Ranges.{Allowed}
 use Rattle.fourier_motzkin.specs.Verdicts.{verdict_of, bounds_of}
 use Rattle.fourier_motzkin.specs.declared.verdicts.Ruling.TheVariants.{Empty}
 
@@ -34,3 +35,13 @@ pub record OrderIsNoMatter : Type 0 where
   pub eliminated : (variable : ℕ) (rows others : List Row) → SameRows rows others → eliminated variable rows ≡ eliminated variable others
   pub verdict : (n : ℕ) (rows others : List Row) → SameRows rows others → verdict_of n rows ≡ verdict_of n others
   pub bounds : (n : ℕ) (rows others : List Row) → SameRows rows others → bounds_of n rows ≡ bounds_of n others
+
+-- level k of the bounds holds rows over the variables up to k
+abbrev pub LevelsReach : Type 0
+LevelsReach = (n : ℕ) (rows : List Row) (k j : ℕ) → AllOver n rows → k < n → k < j → All (λ row. coefficient row j ≡ pos 0) (slice_index_or (bounds_of n rows).levels k [])
+
+-- at each level a point that meets all rows has an allowed value after its outer values
+abbrev pub PointsLieInRanges : Type 0
+PointsLieInRanges =
+    (n : ℕ) (rows : List Row) (point : List ℤ) (k : ℕ) → AllOver n rows → All (Meets point) rows → length point ≡ n → k < n
+    → Allowed (slice_index_or (bounds_of n rows).levels k []) (take k point) (slice_index_or point k (pos 0))

@@ -1,5 +1,6 @@
 pub mod RowSets
 pub mod Elimination
+pub mod Examples
 pub mod Laws
 pub mod Verdicts
 pub mod Ranges

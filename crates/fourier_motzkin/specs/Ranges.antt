@@ -1,6 +1,6 @@
 -- The range of a variable, where the values of the outer variables are known.
-use Rattle.std.specs.Prelude.{◌≡◌, ◌≢◌, ℕ, ℤ, pos, ◌≤ℤ◌, ◌<ℤ◌, ◌↔◌, ◌⊎◌, List, [], ◌∷◌, ◌++◌, IfSome, Option}
-use Rattle.std.specs.List.{All, Any}
+use Rattle.std.specs.Prelude.{ℕ, ℤ, pos, ◌≤ℤ◌, ◌↔◌, ◌⊎◌, List, [], ◌∷◌, ◌++◌, IfSome, Option}
+use Rattle.std.specs.List.{All}
 use Rattle.affine.specs.declared.row.Row.{Row}
 use Rattle.affine.specs.Rows.{Meets, coefficient}
 

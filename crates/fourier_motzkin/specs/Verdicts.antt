@@ -1,5 +1,5 @@
 -- The verdict on a system of rows, and the rows before each elimination.
-use Rattle.std.specs.Prelude.{◌≡◌, ◌^◌, ℕ, zero, suc, List, [], ◌∷◌, ◌++◌, length}
+use Rattle.std.specs.Prelude.{◌^◌, ℕ, zero, suc, List, [], ◌∷◌, ◌++◌, length}
 use Rattle.std.specs.List.{All}
 use Rattle.affine.specs.declared.row.Row.{Row}
 use Rattle.fourier_motzkin.specs.RowSets.{IsWithin, tidied}

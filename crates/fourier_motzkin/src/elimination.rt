@@ -1,18 +1,18 @@
 //! One elimination of a variable.
 
-ghost use Rattle.std.specs.Prelude.{◌≡◌, ◌<◌, ◌≤◌, ◌^◌, ◌+ℤ◌, ◌*ℤ◌, ℕ, ℤ, [], length, pos, neg_ℤ, unsigned_abs, filter, map, IfOk, OnOk, slice_index_or};
+ghost use Rattle.std.specs.Prelude.{◌≡◌, ◌<◌, ◌≤◌, ◌^◌, ◌+ℤ◌, ◌*ℤ◌, ℕ, ℤ, List, [], length, pos, neg_ℤ, unsigned_abs, filter, map, IfOk, OnOk, slice_index_or};
 ghost use Rattle.std.specs.List.{All, flat_map, list_any};
-ghost use Rattle.affine.specs.Rows.{coefficient, variables};
+ghost use Rattle.affine.specs.Rows.{Meets, coefficient, variables};
 ghost use Rattle.affine.specs.Sums.{weighted};
 ghost use Rattle.fourier_motzkin.specs.RowSets.{IsWithin, is_false, is_wide, is_wide_number, tidied, with_rows};
-ghost use Rattle.fourier_motzkin.specs.Elimination.{AllOver, is_without, bounds_above, bounds_below, crossed, eliminated, judged};
+ghost use Rattle.fourier_motzkin.specs.Elimination.{AllOver, MeetsSaid, is_without, bounds_above, bounds_below, crossed, eliminated, judged};
 
 use crate::NoMemory;
-use std::alloc::Global;
 use crate::row_set::RowSet;
 use crate::tidying::{Tidying, is_constant};
 use affine::Row;
 use arrayvec::ArrayVec;
+use std::alloc::Global;
 
 /// The largest size of a number in a set of rows that stands.
 pub const WIDEST: u128 = 1 << 62;
@@ -31,11 +31,14 @@ pub enum Eliminated {
     Rows(RowSet),
 }
 
-/// The rows after a variable is eliminated, tidied and judged.
+/// One elimination of a variable: the rows without it, and for each row P with a coefficient p > 0 on it and each
+/// row N with -q < 0 the row q·P + p·N, tidied and judged (docs/DEFINITIONS.md, Elimination). The rows have numbers
+/// of at most 2^62 in size and one number of variables, above `variable`. A point that meets them meets what is said.
 pub fn eliminate(alloc: Global, rows: &[Row], variable: usize) -> Result<Eliminated, NoMemory>
     requires within { All (IsWithin (2 ^ 62)) rows.now }
     requires over { (n : ℕ) × (variable < n) × AllOver n rows.now }
-    ensures { IfOk result (λ judgement. judgement ≡ eliminated variable rows.now) }
+    ensures value { IfOk result (λ said. said ≡ eliminated variable rows.now) }
+    ensures points { IfOk result (λ said. (point : List ℤ) → All (Meets point) rows.now → MeetsSaid point said) }
 {
     let mut next = Tidying::new(alloc);
     add_without(&mut next, rows, variable)?;
@@ -43,10 +46,10 @@ pub fn eliminate(alloc: Global, rows: &[Row], variable: usize) -> Result<Elimina
     Ok(judged(next.into_rows(alloc)?))
 }
 
-/// The rows, tidied and judged.
+/// The rows, tidied and judged (docs/DEFINITIONS.md, Tidying). Numbers are at most 2^126 in size.
 pub fn tidy(alloc: Global, rows: &[Row]) -> Result<Eliminated, NoMemory>
     requires { All (IsWithin (2 ^ 126)) rows.now }
-    ensures { IfOk result (λ judgement. judgement ≡ judged (tidied rows.now)) }
+    ensures { IfOk result (λ said. said ≡ judged (tidied rows.now)) }
 {
     let mut set = Tidying::new(alloc);
     for row in rows {
@@ -111,7 +114,12 @@ fn add_crossed(next: &mut Tidying, rows: &[Row], variable: usize) -> Result<(), 
 }
 
 /// Adds the combinations of one row with those that bound the variable above.
-fn add_crossed_with(next: &mut Tidying, below: &Row, rows: &[Row], variable: usize) -> Result<(), NoMemory>
+fn add_crossed_with(
+    next: &mut Tidying,
+    below: &Row,
+    rows: &[Row],
+    variable: usize,
+) -> Result<(), NoMemory>
     requires below { IsWithin (2 ^ 62) below.now }
     requires has { variable < variables below.now }
     requires within { All (IsWithin (2 ^ 62)) rows.now }

@@ -98,7 +98,11 @@ impl Ends {
     {
         let least = self.least?;
         let greatest = self.greatest?;
-        if least <= greatest { Some((least, greatest)) } else { None }
+        if least <= greatest {
+            Some((least, greatest))
+        } else {
+            None
+        }
     }
 }
 

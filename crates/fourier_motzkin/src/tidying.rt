@@ -8,9 +8,9 @@ ghost use Rattle.affine.specs.declared.row.Row.{Row};
 ghost use Rattle.fourier_motzkin.specs.RowSets.{IsWithin, is_constant, says_nothing, kept, with_row};
 
 use crate::NoMemory;
-use std::alloc::Global;
 use affine::Row;
 use arrayvec::ArrayVec;
+use std::alloc::Global;
 use std::collections::BTreeMap;
 use std::marker::Model;
 

@@ -5,7 +5,6 @@ ghost use Rattle.std.specs.List.{All};
 ghost use Rattle.affine.specs.Rows.{Meets};
 ghost use Rattle.fourier_motzkin.specs.RowSets.{IsWithin};
 ghost use Rattle.fourier_motzkin.specs.Elimination.{AllOver, IsSound};
-
 ghost use Rattle.fourier_motzkin.specs.Verdicts.{bounds_of, next, ruled, standing, verdict_of};
 
 use crate::NoMemory;

@@ -1,9 +1,6 @@
-use Rattle.std.proofs.Common.{◌≡◌, ◌+◌, ◌≤◌, ◌^◌, unsigned_abs, length, FitsSigned, lit<, arith, rules, ap}
+use Rattle.std.proofs.Common.{FitsSigned, lit<, rules}
 use Rattle.std.specs.Int.{w128}
-use Rattle.std.specs.Iterator.Adapters.{zip_first, zip_second}
-use Rattle.std.specs.Slice.Iter.{iter_rest}
 use Rattle.std.proofs.lemmas.Int.{to_z-of_z}
-use Rattle.std.proofs.lemmas.List.Elements.{All-push}
 use Rattle.std.proofs.lemmas.Slice.Zip.{Zip-more, either_empty_from_Zip}
 use Rattle.fourier_motzkin.proofs.Combinations.{weighted_more, weighted_end, weighted_room, weighted_room_more, pushed_within}
 use Rattle.fourier_motzkin.proofs.elimination.weighted_sums.Goals as goal
@@ -26,7 +23,7 @@ loop-x-preserved c =
     record {
       value = simp to_z-of_z (weighted_more c.args.q c.args.p c.in-Some.x.now c.in-Some.y.now c.weighted_sum.result _ _ _ _ _ _ _ rest.0 rest.1 items value (simp to_z-of_z at c.loop-x.invariant.value));
       room = weighted_room_more _ _ _ _ _ _ _ rest.0 items c.loop-x.invariant.room;
-      size = pushed_within _ _ _ _ items c.weighted_sum.ensures.size c.loop-x.invariant.size
+      size = pushed_within _ _ _ _ items c.weighted_sum.ensures.size c.loop-x.invariant.size;
     }
 
 pub returns-clause-value : goal.returns-clause-value

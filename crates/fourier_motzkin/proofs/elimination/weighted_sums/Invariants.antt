@@ -9,5 +9,5 @@ abbrev pub invariant-loop-x : goal.invariant-loop-x
 invariant-loop-x l = record {
   value : l.sums.items ++ weighted l.q (iter_rest (zip_first l.x-iterator)) l.p (iter_rest (zip_second l.x-iterator)) ≡ weighted l.q l.xs l.p l.ys;
   room : length l.sums.items + length (iter_rest (zip_first l.x-iterator)) ≡ length l.xs;
-  size : All (λ number. unsigned_abs number ≤ 2 ^ 126) l.sums.items
+  size : All (λ number. unsigned_abs number ≤ 2 ^ 126) l.sums.items;
 }

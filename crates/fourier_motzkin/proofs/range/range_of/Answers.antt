@@ -1,4 +1,4 @@
-use Rattle.std.proofs.Common.{◌≡◌, FitsSigned, int_lt, pos, refl, inl, ap, ◌∙◌, rules}
+use Rattle.std.proofs.Common.{FitsSigned, int_lt, pos, refl, inl, ap, rules}
 use Rattle.std.specs.Int.{w128}
 use Rattle.std.specs.Prelude.{is_some}
 use Rattle.std.proofs.lemmas.Int.{to_z-of_z}
@@ -13,7 +13,7 @@ returns-in_err-ends-clause-none c =
     let coefficient : FitsSigned w128 c.coefficient.result = search rules in
     let none = simp to_z-of_z at c.in_err-ends.ensures.none in (
       λ _. inl (none_at_row c.args.rows.now c.args.outer.now c.args.variable c.loop-row.row-index c.row-item.result c.coefficient.result c.rest_at-rest.result
-        c.requires.outer c.loop-row-test.true c.row-item.is c.coefficient.ensures c.rest_at-rest.ensures.value (none refl)),
+          c.requires.outer c.loop-row-test.true c.row-item.is c.coefficient.ensures c.rest_at-rest.ensures.value (none refl)),
       λ _. ap is_some c.from_residual.ensures,
     )
 
@@ -26,24 +26,24 @@ loop-row-preserved c =
     let above = simp to_z-of_z at c.in_ok-ends.ensures.greatest in
     record {
       lies = lies_more c.args.rows.now c.args.outer.now c.args.variable c.loop-row.row-index c.row-item.result c.coefficient.result c.rest_at-rest.result
-        c.loop-row.ends.least c.loop-row.ends.greatest c.in_ok-ends.ends.least c.in_ok-ends.ends.greatest
-        c.requires.outer c.loop-row-test.true c.row-item.is c.coefficient.ensures c.rest_at-rest.ensures.value c.loop-row.invariant.lies lies;
+          c.loop-row.ends.least c.loop-row.ends.greatest c.in_ok-ends.ends.least c.in_ok-ends.ends.greatest
+          c.requires.outer c.loop-row-test.true c.row-item.is c.coefficient.ensures c.rest_at-rest.ensures.value c.loop-row.invariant.lies lies;
       below = side_more (bounds_below c.args.variable) c.args.rows.now c.loop-row.row-index c.row-item.result _ _ _
-        c.loop-row-test.true c.row-item.is (ap (int_lt (pos 0)) c.coefficient.ensures) below c.loop-row.invariant.below;
+          c.loop-row-test.true c.row-item.is (ap (int_lt (pos 0)) c.coefficient.ensures) below c.loop-row.invariant.below;
       above = side_more (bounds_above c.args.variable) c.args.rows.now c.loop-row.row-index c.row-item.result _ _ _
-        c.loop-row-test.true c.row-item.is (ap (λ z. int_lt z (pos 0)) c.coefficient.ensures) above c.loop-row.invariant.above;
+          c.loop-row-test.true c.row-item.is (ap (λ z. int_lt z (pos 0)) c.coefficient.ensures) above c.loop-row.invariant.above;
     }
 
 pub returns-clause-some : goal.returns-clause-some
 returns-clause-some c =
     range_some (Allowed c.args.rows.now c.args.outer.now) c.loop-row.ends.least c.loop-row.ends.greatest c.range.result
-      (lies_all c.args.rows.now c.args.outer.now c.loop-row.row-index c.loop-row.ends.least c.loop-row.ends.greatest c.loop-row-test.false c.loop-row.invariant.lies)
-      c.range.ensures.some
+    (lies_all c.args.rows.now c.args.outer.now c.loop-row.row-index c.loop-row.ends.least c.loop-row.ends.greatest c.loop-row-test.false c.loop-row.invariant.lies)
+    c.range.ensures.some
 
 pub returns-clause-none : goal.returns-clause-none
 returns-clause-none c =
     range_none c.args.variable c.args.rows.now c.args.outer.now c.loop-row.ends.least c.loop-row.ends.greatest c.range.result
-      (lies_all c.args.rows.now c.args.outer.now c.loop-row.row-index c.loop-row.ends.least c.loop-row.ends.greatest c.loop-row-test.false c.loop-row.invariant.lies)
-      (side_all (bounds_below c.args.variable) c.args.rows.now c.loop-row.row-index _ c.loop-row-test.false c.loop-row.invariant.below)
-      (side_all (bounds_above c.args.variable) c.args.rows.now c.loop-row.row-index _ c.loop-row-test.false c.loop-row.invariant.above)
-      c.range.ensures.some c.range.ensures.none
+    (lies_all c.args.rows.now c.args.outer.now c.loop-row.row-index c.loop-row.ends.least c.loop-row.ends.greatest c.loop-row-test.false c.loop-row.invariant.lies)
+    (side_all (bounds_below c.args.variable) c.args.rows.now c.loop-row.row-index _ c.loop-row-test.false c.loop-row.invariant.below)
+    (side_all (bounds_above c.args.variable) c.args.rows.now c.loop-row.row-index _ c.loop-row-test.false c.loop-row.invariant.above)
+    c.range.ensures.some c.range.ensures.none

@@ -9,5 +9,5 @@ abbrev pub invariant-loop-row : goal.invariant-loop-row
 invariant-loop-row l = record {
   lies : (value : ℤ) → Lies l.ends.least l.ends.greatest value ↔ Allowed (take l.row-index l.rows) l.outer value;
   below : is_some l.ends.least ≡ list_any (bounds_below l.variable) (take l.row-index l.rows);
-  above : is_some l.ends.greatest ≡ list_any (bounds_above l.variable) (take l.row-index l.rows)
+  above : is_some l.ends.greatest ≡ list_any (bounds_above l.variable) (take l.row-index l.rows);
 }

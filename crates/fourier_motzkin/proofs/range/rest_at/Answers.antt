@@ -1,11 +1,7 @@
-use Rattle.std.proofs.Common.{◌≡◌, ◌+◌, ◌*◌, ◌≤◌, ◌^◌, ◌+ℤ◌, unsigned_abs, length, FitsSigned, to_z, arith, rules}
+use Rattle.std.proofs.Common.{◌≤◌, ◌^◌, unsigned_abs, FitsSigned, to_z, rules}
 use Rattle.std.specs.Int.{w64, w128}
-use Rattle.std.specs.Iterator.Adapters.{zip_first, zip_second}
-use Rattle.std.specs.Slice.Iter.{iter_rest}
 use Rattle.std.proofs.lemmas.Int.{to_z-of_z}
-use Rattle.std.proofs.lemmas.Slice.Zip.{Zip-more, either_empty_from_Zip, zip_turn}
-use Rattle.affine.specs.Sums.{dot}
-use Rattle.affine.specs.Rows.{sum_at}
+use Rattle.std.proofs.lemmas.Slice.Zip.{Zip-more, either_empty_from_Zip}
 use Rattle.fourier_motzkin.proofs.Combinations.{dot_more, dot_end, long_more, size_more, within_head, within_tail}
 use Rattle.fourier_motzkin.proofs.range.rest_at.Goals as goal
 

@@ -12,5 +12,5 @@ invariant-loop-number l = record {
   long : length l.yielded + length (iter_rest (zip_second l.number-iterator)) ≡ length l.outer;
   numbers : All (λ number. unsigned_abs number ≤ 2 ^ 62) (iter_rest (zip_first l.number-iterator));
   values : All (λ value. unsigned_abs value ≤ 2 ^ 60) (iter_rest (zip_second l.number-iterator));
-  size : unsigned_abs l.sum ≤ 2 ^ 62 + length l.yielded * (2 ^ 62 * 2 ^ 60)
+  size : unsigned_abs l.sum ≤ 2 ^ 62 + length l.yielded * (2 ^ 62 * 2 ^ 60);
 }

@@ -11,5 +11,5 @@ computed s x y b e wy fs fx fy product sum = rw e (simp to_z-of_z)
 pub returns : goal.returns
 returns c =
     computed _ _ _ _ c.from.ensures c.ranges.value c.ranges.sum c.ranges.number (sfits_widen tt c.ranges.value)
-      (product_fits c.args.number c.args.value c.requires.number c.requires.value)
-      (sum_fits c.args.sum c.args.number c.args.value c.requires.sum c.requires.number c.requires.value)
+    (product_fits c.args.number c.args.value c.requires.number c.requires.value)
+    (sum_fits c.args.sum c.args.number c.args.value c.requires.sum c.requires.number c.requires.value)

@@ -1,8 +1,8 @@
-use Rattle.std.proofs.Common.{◌≡◌, ◌<◌, ◌-◌, ◌++◌, List, reverse, ap, sym, subst, ◌∙◌, append-nil, arith, rules}
+use Rattle.std.proofs.Common.{◌-◌, List, ap, sym, subst, ◌∙◌, arith}
 use Rattle.affine.specs.declared.row.Row.{Row}
 use Rattle.fourier_motzkin.specs.RowSets.{tidied}
 use Rattle.fourier_motzkin.specs.Elimination.{IsSound, judged}
-use Rattle.fourier_motzkin.specs.Verdicts.{levels, next, ruling, standing}
+use Rattle.fourier_motzkin.specs.Verdicts.{ruling}
 use Rattle.fourier_motzkin.specs.declared.elimination.Eliminated.{Eliminated}
 use Rattle.fourier_motzkin.proofs.Runs.{are_levels, bounds-is, levels_all, levels_more, levels_none, next_sound, ruling_all, ruling_more, tidied_sound}
 use Rattle.fourier_motzkin.proofs.verdicts.bounds.Goals as goal
@@ -30,10 +30,10 @@ loop-variable-preserved c =
 pub new-requires : goal.new-requires
 new-requires c =
     are_levels c.args.variables (judged (tidied c.args.rows.now)) c.reverse.new.self.items (tidied_sound c.args.variables c.args.rows.now c.requires.over)
-      (c.reverse.ensures.items ∙ levels_all c.loop-variable.variable c.loop-variable.said c.loop-variable.levels.items _ c.loop-variable-test.false c.loop-variable.invariant.levels)
+    (c.reverse.ensures.items ∙ levels_all c.loop-variable.variable c.loop-variable.said c.loop-variable.levels.items _ c.loop-variable-test.false c.loop-variable.invariant.levels)
 
 pub returns : goal.returns
 returns c =
     c.new.ensures ∙ bounds-is c.args.variables c.args.rows.now c.reverse.new.self.items c.ruling.result
-      (c.reverse.ensures.items ∙ levels_all c.loop-variable.variable c.loop-variable.said c.loop-variable.levels.items _ c.loop-variable-test.false c.loop-variable.invariant.levels)
-      (c.ruling.ensures ∙ ruling_all c.loop-variable.variable c.loop-variable.said _ c.loop-variable-test.false c.loop-variable.invariant.ruling)
+    (c.reverse.ensures.items ∙ levels_all c.loop-variable.variable c.loop-variable.said c.loop-variable.levels.items _ c.loop-variable-test.false c.loop-variable.invariant.levels)
+    (c.ruling.ensures ∙ ruling_all c.loop-variable.variable c.loop-variable.said _ c.loop-variable-test.false c.loop-variable.invariant.ruling)

@@ -8,5 +8,5 @@ abbrev pub invariant-loop-variable : goal.invariant-loop-variable
 invariant-loop-variable l = record {
   levels : levels l.variable l.said ++ reverse l.levels.items ≡ levels l.variables (judged (tidied l.rows));
   ruling : ruling l.variable l.said ≡ ruling l.variables (judged (tidied l.rows));
-  sound : IsSound l.variables l.said
+  sound : IsSound l.variables l.said;
 }

@@ -1,10 +1,9 @@
-use Rattle.std.proofs.Common.{◌≡◌, ℤ, Option, Some, None, ◌≤ℤ◌, ◌<ℤ◌, FitsSigned, List, map, sym, ap, ◌∙◌, arith, rules}
+use Rattle.std.proofs.Common.{◌≡◌, ℤ, Option, Some, None, ◌≤ℤ◌, ◌<ℤ◌, FitsSigned, sym, ap, arith, rules}
 use Rattle.std.specs.Int.{w128}
 use Rattle.std.proofs.lemmas.Int.{to_z-of_z, ints}
 use Rattle.std.specs.BTreeMap.{is_at}
 use Rattle.std.specs.Map.{lookup}
-use Rattle.fourier_motzkin.specs.RowSets.{kept}
-use Rattle.fourier_motzkin.proofs.Entries.{by_places, row_at, kept_stays, kept_inserted}
+use Rattle.fourier_motzkin.proofs.Entries.{by_places, kept_stays, kept_inserted}
 use Rattle.fourier_motzkin.proofs.tidying.Tidying.place.Goals as goal
 use Rattle.fourier_motzkin.proofs.tidying.Tidying.place.Goals.{in-Some+else-least-cst, in_default}
 
@@ -26,14 +25,14 @@ pub returns : goal.returns
 returns c =
     let cst : FitsSigned w128 c.args.row.cst = search rules in
     let inside : c.match-get.self-inside.least.entries ≡ c.self.inside.least.entries =
-      elim c.match-get.branch [ in-Some+else-least-cst w ↦ ap (λ i. i.least.entries) w.self-inside-is | in_default w ↦ ap (λ i. i.least.entries) w.self-inside-is ] in
+    elim c.match-get.branch [ in-Some+else-least-cst w ↦ ap (λ i. i.least.entries) w.self-inside-is | in_default w ↦ ap (λ i. i.least.entries) w.self-inside-is ] in
     let above : (v : ℤ) → lookup (is_at (by_places c.args.row.coef)) c.self.inside.least.entries ≡ Some v → c.args.row.cst <ℤ v =
-      elim c.match-get.branch [
-        in-Some+else-least-cst w ↦ (
+    elim c.match-get.branch [
+      | in-Some+else-least-cst w ↦ (
           let least : FitsSigned w128 w.in-Some.least.now = search rules in
           let test = simp to_z-of_z at w.if-least-cst.false in
           let below : c.args.row.cst <ℤ w.in-Some.least.now = grind (arith, ints) in
           λ v found. below_found v w.in-Some.least.now c.args.row.cst below w.in-Some.ensures.value found)
-        | in_default w ↦ λ v found. none_found v w.in_default.ensures.value found
-      ] in
+      | in_default w ↦ λ v found. none_found v w.in_default.ensures.value found
+    ] in
     kept_inserted c.args.row.coef c.args.row.cst _ c.self.inside.least.entries c.match-get.self-inside.least.entries c.insert.new.self.entries c.args.self.now c.in_ok-insert.ensures.entries (to_z-of_z w128 c.args.row.cst cst) inside c.self.view_is above
