@@ -22,8 +22,7 @@ pub fn answer(alloc: Global, line: &str) -> Result<String, AllocError> {
 
 /// `maybe`, and the range of each variable after the least values of those before it. It ends with `none` at the
 /// first variable without a range, and with `far` after a least value above 2^60 in size.
-fn ranges(alloc: Global, scan: &Scan) -> Result<String, AllocError>
-{
+fn ranges(alloc: Global, scan: &Scan) -> Result<String, AllocError> {
     let mut text = String::from_str(alloc, "maybe")?;
     let mut point = Vec::new(alloc);
     for level in 0..scan.variables() {

@@ -81,7 +81,11 @@ fn rows(alloc: Global, numbers: &[i128], variables: usize) -> Result<Option<Vec<
         rows.push(row_of(row))?;
         rest = next;
     }
-    if rest.is_empty() { Ok(Some(rows)) } else { Ok(None) }
+    if rest.is_empty() {
+        Ok(Some(rows))
+    } else {
+        Ok(None)
+    }
 }
 
 /// The row whose last number is the constant.

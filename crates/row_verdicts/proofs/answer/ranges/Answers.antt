@@ -1,4 +1,4 @@
-use Rattle.std.proofs.Common.{◌≡◌, ◌≤◌, ◌+◌, ◌^◌, ℕ, ℤ, List, [], ◌∷◌, ◌++◌, length, unsigned_abs, FitsSigned, to_z, of_z, w64, ap, subst, sym, ◌∙◌, length-append, arith, rules}
+use Rattle.std.proofs.Common.{◌≡◌, ◌≤◌, ◌^◌, ℕ, ℤ, length, unsigned_abs, FitsSigned, to_z, of_z, w64, ap, subst, sym, length-append, arith, rules}
 use Rattle.std.specs.Int.{w128}
 use Rattle.std.specs.List.{All}
 use Rattle.std.proofs.lemmas.Int.{to_z-of_z, fits_signed_from_abs}
@@ -19,5 +19,5 @@ loop-level-preserved c =
     let small = same_value c.in-Some.least c.unsigned_abs.result wide c.unsigned_abs.ensures.value c.if-unsigned_abs-gt-FAR.false in
     record {
       long = omega (arith, simp length-append at (ap length pushed));
-      small = subst (All (λ value. unsigned_abs value ≤ 2 ^ 60)) (sym pushed) (All-push (λ value. unsigned_abs value ≤ 2 ^ 60) c.loop-level.point.items _ c.loop-level.invariant.small small)
+      small = subst (All (λ value. unsigned_abs value ≤ 2 ^ 60)) (sym pushed) (All-push (λ value. unsigned_abs value ≤ 2 ^ 60) c.loop-level.point.items _ c.loop-level.invariant.small small);
     }

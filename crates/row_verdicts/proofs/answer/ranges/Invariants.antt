@@ -5,5 +5,5 @@ use Rattle.row_verdicts.proofs.answer.ranges.Given as goal
 abbrev pub invariant-loop-level : goal.invariant-loop-level
 invariant-loop-level l = record {
   long : length l.point.items ≡ l.level;
-  small : All (λ value. unsigned_abs value ≤ 2 ^ 60) l.point.items
+  small : All (λ value. unsigned_abs value ≤ 2 ^ 60) l.point.items;
 }

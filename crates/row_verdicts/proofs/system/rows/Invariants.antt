@@ -8,7 +8,7 @@ abbrev pub invariant-loop-rest : goal.invariant-loop-rest
 invariant-loop-rest l = record {
   small : All (λ number. unsigned_abs number ≤ 2 ^ 100) l.rest;
   within : All (IsWithin (2 ^ 100)) l.rows.items;
-  over : AllOver l.variables l.rows.items
+  over : AllOver l.variables l.rows.items;
 }
 
 abbrev pub decreases-loop-rest : goal.decreases-loop-rest

@@ -1,4 +1,4 @@
-use Rattle.std.proofs.Common.{◌≡◌, ◌≤◌, ◌^◌, ◌∷◌, sym, ◌∙◌, unsigned_abs}
+use Rattle.std.proofs.Common.{◌≤◌, ◌^◌, sym, ◌∙◌, unsigned_abs}
 use Rattle.std.proofs.lemmas.List.Elements.{All-rest}
 use Rattle.row_verdicts.proofs.system.System.read.Goals as goal
 
