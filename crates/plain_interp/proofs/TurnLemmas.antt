@@ -146,8 +146,8 @@ done-steps t s s' left used left' used' e some run is =
     let fewer : left' ≡ left - length t.entries = ap (λ (c : Cut). c.left) run in
     let ending : e ≡ (cut t s left used).ending = ap (λ (c : Cut). c.ending) run in
     elim (nat_le (length t.entries) left) as (λ b. nat_le (length t.entries) left ≡ b → left' < left) [
-      true ↦ λ h. let room : length t.entries ≤ left = grind arith in omega arith
-    | false ↦ λ h. absurd (limited h (sym is ∙ ending))
+      | true ↦ λ h. let room : length t.entries ≤ left = grind arith in omega arith
+      | false ↦ λ h. absurd (limited h (sym is ∙ ending))
     ] refl
   where
     limited : nat_le (length t.entries) left ≡ false → Done ≡ (cut t s left used).ending → ⊥
@@ -174,7 +174,7 @@ pub instance-some : (f : Frame) (block : List Stmt) (s : Store) → 0 < length b
 instance-some f [] s some = absurd (omega arith)
 instance-some f (x ∷ xs) s some =
     entries-some (instance_trace f (x ∷ xs) s).entries (instance_trace f (x ∷ xs) s).halt (started s)
-      (cut-instance f (x ∷ xs) s (started s) 0 0 ∙ block-cons f x xs (started s) 0 0 ∙ ap (λ (c : Cut). resumed c (block_trace f xs)) (statement-due f x (started s) 0 0 refl))
+    (cut-instance f (x ∷ xs) s (started s) 0 0 ∙ block-cons f x xs (started s) 0 0 ∙ ap (λ (c : Cut). resumed c (block_trace f xs)) (statement-due f x (started s) 0 0 refl))
 
 pub instance-steps : (f : Frame) (block : List Stmt) (s s' : Store) (left used left' used' : ℕ) (e : Finish) → cut_of s' left' used' e ≡ cut (instance_trace f block s) s left used → 0 < length block → e ≡ Done → left' < left
 instance-steps f block s s' left used left' used' e run some is = done-steps (instance_trace f block s) s s' left used left' used' e (instance-some f block s some) run is
@@ -202,5 +202,5 @@ nest-ran nest l first m scalars start t n left used e e' alone found view run en
     let same : first ≡ l = cc in
     let alike : nest ≡ record { loops = first ∷ [] } = alone ∙ ap (λ (x : Loop). record { loops = x ∷ [] }) (sym same) in
     let from : cut_of t left used e ≡ cut (loops_trace plain (n + 1) 1 (first ∷ []) outside start) start n 0 =
-        run ∙ ap (λ (s : Store). cut (loops_trace plain (n + 1) 1 (first ∷ []) outside s) s n 0) view in
+    run ∙ ap (λ (s : Store). cut (loops_trace plain (n + 1) 1 (first ∷ []) outside s) s n 0) view in
     rw ends_so (run-is nest first start t n left used e alike from)

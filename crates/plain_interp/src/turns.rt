@@ -29,11 +29,9 @@ pub fn run_turns(
     requires scalars { length scalars.old ≤ 256 }
     requires turns { (t : ℕ) → t < trip → FitsSigned w64 (turn_value lower stride t) }
     requires block { 0 < length block.now }
-    ensures run {
-        cut_of (store_of memory.new scalars.new []) steps.new.left steps.new.used (finish_by result)
-            ≡ cut (turns_from trip 0 (λ t. instance_trace (frame_of plain part.Pre 1 (inward outside t (turn_value lower stride t))) block.now) (store_of memory.old scalars.old []))
-                (store_of memory.old scalars.old []) steps.old.left steps.old.used
-    }
+    ensures run { cut_of (store_of memory.new scalars.new []) steps.new.left steps.new.used (finish_by result)
+        ≡ cut (turns_from trip 0 (λ t. instance_trace (frame_of plain part.Pre 1 (inward outside t (turn_value lower stride t))) block.now) (store_of memory.old scalars.old []))
+        (store_of memory.old scalars.old []) steps.old.left steps.old.used }
     ensures quiet { IsUnstopped result }
 {
     for turn in 0..trip {
@@ -58,19 +56,29 @@ fn run_instance(
     requires steps { steps.old.left + steps.old.used ≤ 2 ^ 32 }
     requires scalars { length scalars.old ≤ 256 }
     requires block { 0 < length block.now }
-    ensures run {
-        let at : Frame = record { at = record { block = record { part = part.Pre; level = 1 }; counters = turn ∷ [] }; values = value ∷ []; expects = plain } in
+    ensures run { let at : Frame = record { at = record { block = record { part = part.Pre; level = 1 }; counters = turn ∷ [] }; values = value ∷ []; expects = plain } in
         cut_of (store_of memory.new scalars.new []) steps.new.left steps.new.used (finish_by result)
-            ≡ cut (instance_trace at block.now (store_of memory.old scalars.old [])) (store_of memory.old scalars.old []) steps.old.left steps.old.used
-    }
+        ≡ cut (instance_trace at block.now (store_of memory.old scalars.old [])) (store_of memory.old scalars.old []) steps.old.left steps.old.used }
     ensures quiet { IsUnstopped result }
     ensures stepped { result ≡ BlockEnd.Ended → steps.new.left < steps.old.left }
     ensures kept { steps.new.left + steps.new.used ≡ steps.old.left + steps.old.used }
     ensures scalars { length scalars.new ≡ length scalars.old }
 {
-    let at = BlockRef { part: Part::Pre, level: 1 };
+    let at = BlockRef {
+        part: Part::Pre,
+        level: 1,
+    };
     let mut port = MemoryPort::new(memory);
-    exec_block(at, block, scalars, &[value], &[turn], &mut port, steps, &mut Blind)
+    exec_block(
+        at,
+        block,
+        scalars,
+        &[value],
+        &[turn],
+        &mut port,
+        steps,
+        &mut Blind,
+    )
 }
 
 /// The value of a loop's name in a turn.

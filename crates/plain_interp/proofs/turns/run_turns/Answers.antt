@@ -15,7 +15,7 @@ loop-turn-preserved c =
       few = omega (arith, stepped, c.loop-turn.invariant.few);
       kept = c.run_instance.ensures.kept ∙ c.loop-turn.invariant.kept;
       scalars = c.run_instance.ensures.scalars ∙ c.loop-turn.invariant.scalars;
-      rest = turns-next c.args.trip c.loop-turn.turn (for_block c.args.block.now (to_z w64 (of_z w64 c.args.stride)) (to_z w64 (of_z w64 c.args.lower))) _ _ _ _ _ _ _ _ run (ap finish_by c.in-Ended.is) c.loop-turn-test.true c.loop-turn.invariant.rest
+      rest = turns-next c.args.trip c.loop-turn.turn (for_block c.args.block.now (to_z w64 (of_z w64 c.args.stride)) (to_z w64 (of_z w64 c.args.lower))) _ _ _ _ _ _ _ _ run (ap finish_by c.in-Ended.is) c.loop-turn-test.true c.loop-turn.invariant.rest;
     }
 
 pub returns-in_default : goal.returns-in_default
@@ -28,7 +28,7 @@ returns-in_default c =
     let run = rw (number, same, c.value_of_turn-value.ensures) at c.run_instance.ensures.run in
     record {
       run = simp to_z-of_z at (turns-out c.args.trip c.loop-turn.turn (for_block c.args.block.now (to_z w64 (of_z w64 c.args.stride)) (to_z w64 (of_z w64 c.args.lower))) _ _ _ _ _ _ _ _ run (λ done. c.in_default.not-Ended (finish_by-done _ done)) c.loop-turn-test.true c.loop-turn.invariant.rest);
-      quiet = c.run_instance.ensures.quiet
+      quiet = c.run_instance.ensures.quiet;
     }
 
 pub returns-clause-run : goal.returns-clause-run

@@ -11,5 +11,5 @@ invariant-loop-turn l = record {
   kept : l.steps.left + l.steps.used ≡ l.fn.steps.left + l.fn.steps.used;
   scalars : length l.scalars ≡ length l.fn.scalars;
   rest : cut (turns_from (l.trip - l.turn) l.turn (for_block l.block l.stride l.lower) (store_of l.memory l.scalars [])) (store_of l.memory l.scalars []) l.steps.left l.steps.used
-    ≡ cut (turns_from l.trip 0 (for_block l.block l.stride l.lower) (store_of l.fn.memory l.fn.scalars [])) (store_of l.fn.memory l.fn.scalars []) l.fn.steps.left l.fn.steps.used;
+      ≡ cut (turns_from l.trip 0 (for_block l.block l.stride l.lower) (store_of l.fn.memory l.fn.scalars [])) (store_of l.fn.memory l.fn.scalars []) l.fn.steps.left l.fn.steps.used;
 }
