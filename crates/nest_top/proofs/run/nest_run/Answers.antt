@@ -1,0 +1,11 @@
+use Rattle.std.proofs.Common.{◌≡◌, rules}
+use Rattle.nest_top.proofs.AnswerLemmas.{causes, answer-no_sink_fault}
+use Rattle.nest_top.proofs.run.nest_run.Goals as goal
+
+pub returns-in-Ok-write_all-clause-causes : goal.returns-in-Ok-write_all-clause-causes
+returns-in-Ok-write_all-clause-causes g c = λ answered.
+    let a = c.in-Ok.ensures.answer in
+    (a.text, a.taken, causes _ a.text _ _ a.answer)
+
+pub returns-in-Ok-write_all-clause-sink_fault : goal.returns-in-Ok-write_all-clause-sink_fault
+returns-in-Ok-write_all-clause-sink_fault g c = λ e. absurd (answer-no_sink_fault _ _ _ _ c.in-Ok.ensures.answer.answer e)
