@@ -139,14 +139,14 @@ causes words text bytes status (usage n) =
       usage = (λ e. n, λ e. refl);
       refused = (λ e. absurd (cc), λ p. absurd (n p.0));
       trapped = (λ e. absurd (cc), λ p. absurd (n p.0));
-      limited = (λ e. absurd (cc), λ p. absurd (n p.0))
+      limited = (λ e. absurd (cc), λ p. absurd (n p.0));
     }
 causes words text bytes status (refused c none) =
     record {
       usage = (λ e. absurd (cc), λ n. absurd (n c));
       refused = (λ e. (c, none), λ p. refl);
       trapped = (λ e. absurd (cc), λ p. absurd (none p.1.0 p.1.1));
-      limited = (λ e. absurd (cc), λ p. absurd (none p.1.0 p.1.1))
+      limited = (λ e. absurd (cc), λ p. absurd (none p.1.0 p.1.1));
     }
 causes words text bytes status (outcome c f reads b s o) =
     record {
@@ -155,13 +155,13 @@ causes words text bytes status (outcome c f reads b s o) =
       trapped = (
         λ e. let t = is-trapped o.ending (sym o.answered ∙ e) in (c, (f, reads, (t.0, sym o.ended ∙ t.1))),
         λ p. let same : f ≡ p.1.0 = at_most_one text f p.1.0 reads p.1.1 in
-             o.answered ∙ from-trapped o.ending p.1.2.0 (o.ended ∙ ap (λ (x : File). (run_of_file x).ending) same ∙ p.1.2.1)
+            o.answered ∙ from-trapped o.ending p.1.2.0 (o.ended ∙ ap (λ (x : File). (run_of_file x).ending) same ∙ p.1.2.1),
       );
       limited = (
         λ e. (c, (f, reads, sym o.ended ∙ is-limited o.ending (sym o.answered ∙ e))),
         λ p. let same : f ≡ p.1.0 = at_most_one text f p.1.0 reads p.1.1 in
-             o.answered ∙ from-limited o.ending (o.ended ∙ ap (λ (x : File). (run_of_file x).ending) same ∙ p.1.2)
-      )
+            o.answered ∙ from-limited o.ending (o.ended ∙ ap (λ (x : File). (run_of_file x).ending) same ∙ p.1.2),
+      );
     }
 
 -- one outcome has one text
@@ -169,12 +169,13 @@ one-outcome : (f : File) (bytes bytes' : List ℕ) (status status' : Status) →
 one-outcome f bytes bytes' status status' o p =
     let run = run_of_file f in
     let e : o.ending ≡ p.ending = same-ending o.ending p.ending (o.ended ∙ sym p.ended) in
-    let runs : o.written.0 ≡ p.written.0 = same_runs run.store.memory o.written.0 p.written.0 o.written.1 p.written.1 in
-    (o.written.2
-        ∙ ap (λ (rs : List WordRun). outcome_lines [] run.store.scalars rs o.ending run.steps) runs
-        ∙ ap (λ (x : Ending). outcome_lines [] run.store.scalars p.written.0 x run.steps) e
-        ∙ sym p.written.2,
-     o.answered ∙ ap status_of e ∙ sym p.answered)
+    let runs : o.written.0 ≡ p.written.0 = same_runs run.store.memory o.written.0 p.written.0 o.written.1 p.written.1 in (
+      o.written.2
+          ∙ ap (λ (rs : List WordRun). outcome_lines [] run.store.scalars rs o.ending run.steps) runs
+          ∙ ap (λ (x : Ending). outcome_lines [] run.store.scalars p.written.0 x run.steps) e
+          ∙ sym p.written.2,
+      o.answered ∙ ap status_of e ∙ sym p.answered,
+    )
 
 -- words and a text have at most one answer
 pub at_most_one_answer : OneAnswer
@@ -203,7 +204,7 @@ usage-prepared words left bytes status n is =
     record {
       text = t.0;
       taken = t.1;
-      answer = subst (λ (b : List ℕ). IsAnswer words t.0 b status) (sym is.0) (subst (λ (s : Status). IsAnswer words t.0 usage_line s) (sym is.1) at)
+      answer = subst (λ (b : List ℕ). IsAnswer words t.0 b status) (sym is.0) (subst (λ (s : Status). IsAnswer words t.0 usage_line s) (sym is.1) at);
     }
 
 -- a text without a reading has its answer

@@ -5,18 +5,18 @@ ghost use Rattle.nest_top.specs.Commands.{IsCommand, usage_line};
 ghost use Rattle.nest_top.specs.Answers as answers;
 ghost use Rattle.nest_top.specs.Answers.{IsAnswer, IsRunnable, IsOutcomeOf};
 
+use crate::status::Status;
 use nest_lang::Ending;
 use nest_text::{NestFile, ReadRefusal, read_nest};
 use plain_interp::run_plain;
 use report::outcome_text;
 use std::alloc::{AllocError, Global};
 
-use crate::status::Status;
-
 /// The steps of a run where the words give no other number.
 const DEFAULT_STEPS: u64 = 1_000_000;
 
-const USAGE: &str = "usage: nestrun plain|run|check|deps|gen [SEED KIND SIZE] [--workers N] [--chunk N] [--sample N] [--steps N]\n";
+const USAGE: &str =
+    "usage: nestrun plain|run|check|deps|gen [SEED KIND SIZE] [--workers N] [--chunk N] [--sample N] [--steps N]\n";
 
 /// Bytes to be put into the sink, and the status that is answered once they are.
 #[derive(Debug, Drop)]

@@ -5,11 +5,9 @@ ghost use Rattle.nest_top.specs.Laws.{OneAnswer, EachHasItsCause};
 /// Words and a text have at most one answer.
 pub fn one_answer()
     ensures { OneAnswer }
-{
-}
+{}
 
 /// Usage, Refused, Trapped and Limited are the answer's status exactly where their causes hold.
 pub fn each_has_its_cause()
     ensures { EachHasItsCause }
-{
-}
+{}

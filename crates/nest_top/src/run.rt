@@ -6,11 +6,10 @@ ghost use Rattle.nest_io.specs.Bytes.{Appends, AppendsFront};
 ghost use Rattle.nest_top.specs.Commands.{IsCommand};
 ghost use Rattle.nest_top.specs.Answers.{IsAnswer, Answered, Causes, IsTextOf, IsRead, Reading, Prepared};
 
-use nest_io::{ReadEnd, Sink, Source, read_all, write_all};
-use std::alloc::Global;
-
 use crate::answer::{Answer, answer_text, is_command, usage};
 use crate::status::Status;
+use nest_io::{ReadEnd, Sink, Source, read_all, write_all};
+use std::alloc::Global;
 
 /// A text of more bytes is too long.
 const MOST_BYTES: usize = 1_048_576;
@@ -51,9 +50,9 @@ pub fn nest_run<S: Source, K: Sink>(
     ensures sink_fault { result ≡ Status.SinkFault →
         Rose (K.faults sink.old) (K.faults sink.new)
         × ((text : List ℕ) × (bytes : List ℕ) × (status : Status)
-            × IsTextOf (S.left source.old) text
-            × IsAnswer (map string_bytes words.now) text bytes status
-            × AppendsFront (K.held sink.old) (K.held sink.new) bytes) }
+        × IsTextOf (S.left source.old) text
+        × IsAnswer (map string_bytes words.now) text bytes status
+        × AppendsFront (K.held sink.old) (K.held sink.new) bytes) }
     ensures no_memory { result ≡ Status.NoMemory → sink.new ≡ sink.old }
 
     // Words that are no command read nothing; a command reads to the end, or one byte more than a text
@@ -77,11 +76,7 @@ pub fn nest_run<S: Source, K: Sink>(
 }
 
 /// Makes the answer.
-fn prepare<S: Source>(
-    alloc: Global,
-    words: &[String],
-    source: &mut S,
-) -> Result<Answer, Unanswered>
+fn prepare<S: Source>(alloc: Global, words: &[String], source: &mut S) -> Result<Answer, Unanswered>
     ensures answer { IfOk result (λ answer. Prepared (map string_bytes words.now) (S.left source.old) answer.bytes.items answer.status) }
     ensures fault { IsErrOf result Unanswered.SourceFault → Rose (S.faults source.old) (S.faults source.new) }
     ensures unread { (IsCommand (map string_bytes words.now) → ⊥) → (source.new ≡ source.old) × (IsErrOf result Unanswered.SourceFault → ⊥) }

@@ -4,7 +4,9 @@ use std::alloc::Global;
 use std::test::Fail;
 
 const COPY: &[u8] = b"nest 1 memory 300 for i = 0 below 100 { [200 + i] = [i] + 1 }";
+
 const COPIED: &[u8] = b"ended\nwords 200 299 1\nsteps 101\n";
+
 const EMPTY: &[u8] = b"nest 1 memory 4 for i = 0 below 0 { [i] = 1 }";
 
 // A run of the program over memory: its status, and what the sink holds.
