@@ -1,3 +1,5 @@
+ghost use Rattle.std.specs.Prelude.{◌≤◌};
+
 use super::*;
 use nest_io::{MemSink, MemSource};
 use std::alloc::Global;
@@ -7,10 +9,14 @@ const COPY: &[u8] = b"nest 1 memory 300 for i = 0 below 100 { [200 + i] = [i] + 
 
 const COPIED: &[u8] = b"ended\nwords 200 299 1\nsteps 101\n";
 
+const USAGE: &[u8] =
+    b"usage: nestrun plain|run|check|deps|gen [SEED KIND SIZE] [--workers N] [--chunk N] [--sample N] [--steps N]\n";
+
 const EMPTY: &[u8] = b"nest 1 memory 4 for i = 0 below 0 { [i] = 1 }";
 
 // A run of the program over memory: its status, and what the sink holds.
-struct Run {
+#[derive(Drop)]
+struct Ran {
     status: Status,
     sink: MemSink,
 }
@@ -22,9 +28,11 @@ fn run(
     most: usize,
     failing_read: Option<u64>,
     failing_write: Option<u64>,
-) -> Result<Run, Fail> {
+) -> Result<Ran, Fail>
+    requires { 1 ≤ most }
+{
     let mut words = Vec::new(alloc);
-    words.push(String::from_str_in(alloc, word)?)?;
+    words.push(String::from_str(alloc, word)?)?;
     let mut reads = Vec::new(alloc);
     if let Some(number) = failing_read {
         reads.push(number)?;
@@ -36,19 +44,90 @@ fn run(
     let mut source = MemSource::new(text.to_vec(alloc)?, most, reads);
     let mut sink = MemSink::new(alloc, 1000, most, writes)?;
     let status = nest_run(alloc, words.as_slice(), &mut source, &mut sink);
-    Ok(Run { status, sink })
+    Ok(Ran { status, sink })
 }
 
+// A word, a text, the status and the bytes.
+static ANSWERS: [(&str, &[u8], Status, &[u8]); 7] = [
+    ("plain", COPY, Status::Ended, COPIED),
+    ("plain", EMPTY, Status::Ended, b"ended\nsteps 1\n"),
+    (
+        "plain",
+        b"nest 1 memory 2 for i = 0 below 3 { [i] = 5 }",
+        Status::Trapped,
+        b"trapped outside 2\nwords 0 1 5\nsteps 4\n",
+    ),
+    (
+        "plain",
+        b"nest 1 memory 1 for i = 0 below 1000000 { [0] = i }",
+        Status::Limited,
+        b"limited\nwords 0 0 999998\nsteps 1000000\n",
+    ),
+    (
+        "plain",
+        b"nest 1 memory 4 while 0 { }",
+        Status::Refused,
+        b"refused form\n",
+    ),
+    ("run", COPY, Status::Usage, USAGE),
+    ("", COPY, Status::Usage, USAGE),
+];
+
 #[test]
-fn texts_give_their_answers(rt: HostRuntime) -> Result<(), Fail> {
+fn words_and_texts_give_their_answers(rt: HostRuntime) -> Result<(), Fail> {
     let alloc = rt.alloc();
-    for (text, status, bytes) in [
-        (COPY, Status::Ended, COPIED),
-        (EMPTY, Status::Ended, b"ended\nsteps 1\n".as_slice()),
-    ] {
-        let run = run(alloc, "plain", text, 1000, None, None)?;
+    for (word, text, status, bytes) in ANSWERS {
+        let run = run(alloc, word, text, 1000, None, None)?;
         assert_eq!(rt; run.status, status);
         assert_eq!(rt; run.sink.bytes(), bytes);
     }
+    Ok(())
+}
+
+#[test]
+fn pieces_of_any_size_give_the_same_answer(rt: HostRuntime) -> Result<(), Fail> {
+    let alloc = rt.alloc();
+    for most in 1..4 {
+        let run = run(alloc, "plain", COPY, most, None, None)?;
+        assert_eq!(rt; run.status, Status::Ended, "{most} bytes");
+        assert_eq!(rt; run.sink.bytes(), COPIED, "{most} bytes");
+    }
+    Ok(())
+}
+
+// The 61 bytes by 7 are nine reads, and a tenth that meets the end.
+#[test]
+fn a_source_that_fails_at_its_kth_read_leaves_the_sink_empty(rt: HostRuntime) -> Result<(), Fail> {
+    let alloc = rt.alloc();
+    for read in 1..11 {
+        let run = run(alloc, "plain", COPY, 7, Some(read), None)?;
+        assert_eq!(rt; run.status, Status::SourceFault, "read {read}");
+        assert!(rt; run.sink.bytes().is_empty(), "read {read}");
+    }
+    let whole = run(alloc, "plain", COPY, 7, Some(11), None)?;
+    assert_eq!(rt; whole.status, Status::Ended);
+    Ok(())
+}
+
+#[test]
+fn a_sink_that_fails_at_its_kth_write_has_a_front(rt: HostRuntime) -> Result<(), Fail> {
+    let alloc = rt.alloc();
+    for (index, _) in COPIED.iter().enumerate() {
+        let run = run(alloc, "plain", COPY, 1, None, Some(index as u64 + 1))?;
+        assert_eq!(rt; run.status, Status::SinkFault, "write {index}");
+        assert_eq!(rt; run.sink.bytes(), &COPIED[..index], "write {index}");
+    }
+    Ok(())
+}
+
+#[test]
+fn a_second_read_and_a_third_write_that_fail(rt: HostRuntime) -> Result<(), Fail> {
+    let alloc = rt.alloc();
+    let unread = run(alloc, "plain", EMPTY, 40, Some(2), None)?;
+    assert_eq!(rt; unread.status, Status::SourceFault);
+    assert!(rt; unread.sink.bytes().is_empty());
+    let unwritten = run(alloc, "plain", EMPTY, 5, None, Some(3))?;
+    assert_eq!(rt; unwritten.status, Status::SinkFault);
+    assert_eq!(rt; unwritten.sink.bytes(), b"ended\nstep".as_slice());
     Ok(())
 }
