@@ -1,5 +1,5 @@
 -- Answers: what a reading gives, and which status has which cause.
-use Rattle.std.proofs.Common.{◌≡◌, refl, ap, ◌∙◌, sym, subst, ℕ, ℤ, zero, suc, ◌<◌, ◌≤◌, ◌+◌, List, [], ◌∷◌, map, length, get_or, codes, pos, Option, Some, None, Result, Ok, Err, IfOk, IfSome, Bool, arith, rules}
+use Rattle.std.proofs.Common.{◌≡◌, refl, ap, ◌∙◌, sym, subst, ℕ, ◌<◌, ◌≤◌, List, [], ◌∷◌, map, length, get_or, codes, pos, Option, Some, None, Result, Ok, Err, IfOk, Bool, arith}
 use Rattle.std.specs.Prelude.{◌↔◌, IsTrue}
 use Rattle.std.specs.Bool.{Decides}
 use Rattle.std.specs.Str.{bytes_eq}
@@ -15,7 +15,7 @@ use Rattle.nest_lang.specs.Traces as traces
 use Rattle.nest_lang.specs.Traces.{Finish}
 use Rattle.nest_lang.specs.Runs.{Run, plain_run, finish_by}
 use Rattle.nest_lang.proofs.RunLemmas.{sizes-stay}
-use Rattle.plain_interp.specs.Forms.{IsFor, IsOneFor}
+use Rattle.plain_interp.specs.Forms.{IsFor}
 use Rattle.nest_text.specs.Sights.{Sight}
 use Rattle.nest_text.specs.Files.{File, first_store}
 use Rattle.nest_text.specs.Grammar.{IsLoop, Reads}
@@ -23,12 +23,12 @@ use Rattle.nest_text.specs.Grammar.IsLoop.{loop}
 use Rattle.nest_text.specs.Grammar.Reads.{file}
 use Rattle.nest_text.proofs.Main.{at_most_one}
 use Rattle.report.specs.declared.runs.WordRun.{WordRun}
-use Rattle.report.specs.Outcomes.{IsOutcome, outcome_lines}
+use Rattle.report.specs.Outcomes.{outcome_lines}
 use Rattle.report.proofs.OneList.{same_runs}
 use Rattle.nest_top.specs.declared.status.Status.{Status}
-use Rattle.nest_top.specs.declared.status.Status.TheVariants.{Ended, Trapped, Limited, Refused, Usage, SourceFault, SinkFault, NoMemory}
+use Rattle.nest_top.specs.declared.status.Status.TheVariants.{Trapped, Limited, Refused, Usage, SourceFault, SinkFault, NoMemory}
 use Rattle.nest_top.specs.Commands.{IsCommand, usage_line, text_taken}
-use Rattle.nest_top.specs.Answers.{IsAnswer, IsOutcomeOf, IsRunnable, HasNoReading, Causes, Prepared, IsTextOf, run_of_file, status_of}
+use Rattle.nest_top.specs.Answers.{IsAnswer, IsOutcomeOf, IsRunnable, HasNoReading, Prepared, IsTextOf, run_of_file, status_of}
 use Rattle.nest_top.specs.Answers.IsAnswer.{usage, refused, outcome}
 use Rattle.nest_top.specs.Laws.{OneAnswer, EachHasItsCause}
 

@@ -1,5 +1,5 @@
 -- Commands: which words are one.
-use Rattle.std.specs.Prelude.{◌≡◌, ℕ, List, [], ◌∷◌, ◌++◌, codes, take, ◌+◌}
+use Rattle.std.specs.Prelude.{◌≡◌, ℕ, List, [], ◌∷◌, codes, take, ◌+◌}
 
 -- the words are a command: so far the one word `plain`
 abbrev pub IsCommand : List (List ℕ) → Type 0

@@ -1,5 +1,4 @@
-use Rattle.std.proofs.Common.{◌≡◌, refl, rules, List, ℕ}
-use Rattle.nest_text.specs.Answers.{AnswersText}
+use Rattle.std.proofs.Common.{refl}
 use Rattle.nest_top.specs.Answers.IsAnswer.{outcome}
 use Rattle.nest_top.proofs.AnswerLemmas.{reads-runnable, ok-map, refused-answer}
 use Rattle.nest_top.proofs.answer.answer_text.Goals as goal

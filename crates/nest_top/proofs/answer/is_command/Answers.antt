@@ -1,4 +1,4 @@
-use Rattle.std.proofs.Common.{◌≡◌, rules, string_bytes, codes}
+use Rattle.std.proofs.Common.{string_bytes}
 use Rattle.nest_top.proofs.AnswerLemmas.{one-word}
 use Rattle.nest_top.proofs.answer.is_command.Goals as goal
 

@@ -1,4 +1,3 @@
-use Rattle.std.proofs.Common.{◌≡◌, rules}
 use Rattle.nest_top.proofs.AnswerLemmas.{causes, answer-no_sink_fault}
 use Rattle.nest_top.proofs.run.nest_run.Goals as goal
 

@@ -1,4 +1,4 @@
-use Rattle.std.proofs.Common.{◌≡◌, sym, ◌∙◌, true, false, rules}
+use Rattle.std.proofs.Common.{◌≡◌, sym, ◌∙◌, true, false}
 use Rattle.nest_top.proofs.AnswerLemmas.{usage-prepared}
 use Rattle.nest_top.proofs.run.prepare.Goals as goal
 
