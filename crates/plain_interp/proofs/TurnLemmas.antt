@@ -1,5 +1,5 @@
 -- Turns of a loop, one after another.
-use Rattle.std.proofs.Common.{◌≡◌, refl, ap, ◌∙◌, sym, subst, ℕ, ℤ, pos, ◌+ℤ◌, FitsSigned, w64, to_z, of_z, zero, suc, ◌<◌, ◌+◌, ◌-◌, ◌≤◌, min, List, [], ◌∷◌, length, Option, Some, None, slice_get, Result, Ok, Err, map, Bool, true, false, if◌then◌else◌, nat_le, arith, rules}
+use Rattle.std.proofs.Common.{◌≡◌, refl, ap, ◌∙◌, sym, subst, ℕ, ℤ, pos, ◌+ℤ◌, FitsSigned, w64, to_z, of_z, zero, suc, ◌<◌, ◌+◌, ◌-◌, ◌≤◌, min, List, [], ◌∷◌, length, Option, Some, None, slice_get, Result, Ok, Err, map, Bool, true, false, if◌then◌else◌, nat_le, arith}
 use Rattle.nest_lang.specs.declared.tree.Stmt.{Stmt}
 use Rattle.nest_lang.specs.declared.tree.Expr.{Expr}
 use Rattle.nest_lang.specs.declared.tree.Head.{Head}

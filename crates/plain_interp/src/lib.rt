@@ -10,6 +10,3 @@ mod plain;
 mod turns;
 
 pub use plain::run_plain;
-
-#[cfg(test)]
-mod tests;

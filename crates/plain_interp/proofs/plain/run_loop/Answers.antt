@@ -1,8 +1,6 @@
 use Rattle.std.proofs.lemmas.Int.{to_z-of_z}
-use Rattle.std.proofs.Common.{FitsSigned, w64, ◌≡◌, refl, ap, ◌∙◌, sym, ℕ, ℤ, [], rules, arith}
-use Rattle.nest_lang.specs.declared.tree.Stmt.{Stmt}
+use Rattle.std.proofs.Common.{FitsSigned, w64, ◌≡◌, ap, ◌∙◌, [], rules}
 use Rattle.nest_lang.specs.declared.tree.Loop.{Loop}
-use Rattle.nest_lang.specs.Stores.{store_of}
 use Rattle.nest_lang.specs.Traces.{Trapped}
 use Rattle.plain_interp.proofs.TurnLemmas.{for-yields, for-halts, for-limited, for-no_while}
 use Rattle.plain_interp.proofs.plain.run_loop.Goals as goal

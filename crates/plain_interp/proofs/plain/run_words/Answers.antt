@@ -1,4 +1,4 @@
-use Rattle.std.proofs.Common.{◌≡◌, refl, ◌+◌, rules}
+use Rattle.std.proofs.Common.{refl, ◌+◌}
 use Rattle.plain_interp.proofs.TurnLemmas.{nest-ran}
 use Rattle.plain_interp.proofs.plain.run_words.Goals as goal
 

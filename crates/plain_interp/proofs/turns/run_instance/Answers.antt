@@ -1,4 +1,4 @@
-use Rattle.std.proofs.Common.{◌≡◌, refl, ap, FitsSigned, w64, rules, arith}
+use Rattle.std.proofs.Common.{ap, FitsSigned, w64, rules}
 use Rattle.std.proofs.lemmas.Int.{to_z-of_z}
 use Rattle.block_exec.specs.Ends.{finish_by}
 use Rattle.plain_interp.proofs.TurnLemmas.{instance-run, instance-steps, left-words}
