@@ -1,0 +1,14 @@
+#!/usr/bin/env bash
+# Fails each allocation of the program in turn, on the copy of 100 words: either nothing is written, or
+# the whole answer is.
+set -u
+cd "$(dirname "$0")/../crates/nest_main"
+whole=$(cat stdout)
+for number in $(seq 1 "${1:-40}"); do
+  written=$(rt try --fail-alloc "$number" -- plain < stdin 2> /dev/null | grep -v '^rt: \|^run=\|^note' )
+  case "$written" in
+    "") echo "allocation $number: nothing written" ;;
+    "$whole") echo "allocation $number: the whole answer" ;;
+    *) echo "allocation $number: $written"; exit 1 ;;
+  esac
+done
