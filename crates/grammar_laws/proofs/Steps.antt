@@ -169,3 +169,20 @@ end-then {B} go s y h = by (stands s) refl h
     by : (t : Token) → stands s ≡ t → after (end_at t s) go ≡ Ok y → (stands s ≡ token.End) × (go tt s ≡ Ok y)
     by token.End e k = (e, k)
     by _ e k = absurd (cc)
+
+-- The same, where nothing is read behind it.
+
+last : {A : Type 0} (r : Result (A × Sight) TextFault) (x : A × Sight) → r ≡ Ok x → after r (λ a. gives a) ≡ Ok x
+last r x h = rw h refl
+
+pub number-ok : (rule : ℕ → Bool) (what : TextKind) (s : Sight) (x : ℕ × Sight) → number_where rule what s ≡ Ok x → SeesNumber x.0 s × (rule x.0 ≡ true) × (x.1 ≡ skip s)
+number-ok rule what s x h =
+    let f = number-then rule what (λ n. gives n) s x (last (number_where rule what s) x h) in
+    let q = given f.0 (skip s) x f.3 in
+    rw q (f.1, f.2, refl)
+
+pub signed-ok : (rule : ℤ → Bool) (what : TextKind) (s : Sight) (x : ℤ × Sight) → signed_where rule what s ≡ Ok x → IsSigned s x.0 x.1 × (rule x.0 ≡ true)
+signed-ok rule what s x h =
+    let f = signed-then rule what (λ v. gives v) s x (last (signed_where rule what s) x h) in
+    let q = given f.0 f.1 x f.4 in
+    rw q (f.2, f.3)
