@@ -3,3 +3,5 @@ pub mod Parts
 pub mod Expressions
 pub mod Statements
 pub mod Loops
+pub mod Tests
+pub mod Scripts
