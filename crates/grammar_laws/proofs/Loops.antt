@@ -75,7 +75,7 @@ unfolding loop_word
 heading-front (counting a b f c i d j e) = (word.For, ap loop_word a)
 heading-front (asking a i) = (word.While, ap loop_word a)
 
-loops-front : {d level : ℕ} {names : Names} {s t : Sight} {ls : List Loop} {ns : List LoopNames} → IsLoops d level names s ls ns t → (w : LoopWord) × (loop_word (stands s) ≡ Some w)
+pub loops-front : {d level : ℕ} {names : Names} {s t : Sight} {ls : List Loop} {ns : List LoopNames} → IsLoops d level names s ls ns t → (w : LoopWord) × (loop_word (stands s) ≡ Some w)
 loops-front (innermost h o b p c) = heading-front h
 loops-front (outer h o b l p c) = heading-front h
 
