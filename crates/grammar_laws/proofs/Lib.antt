@@ -1,0 +1,9 @@
+pub mod Steps
+pub mod Parts
+pub mod Tests
+pub mod Expressions
+pub mod Statements
+pub mod Loops
+pub mod Scripts
+pub mod Versions
+pub mod Contents

@@ -1,0 +1,4 @@
+pub mod Many
+pub mod Local
+pub mod Productions
+pub mod Chains
