@@ -2,3 +2,4 @@ pub mod Steps
 pub mod Parts
 pub mod Expressions
 pub mod Statements
+pub mod Early
