@@ -7,3 +7,4 @@ pub mod Loops
 pub mod Scripts
 pub mod Versions
 pub mod Contents
+pub mod Early
