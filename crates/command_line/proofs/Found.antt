@@ -66,12 +66,12 @@ some_that (Some y) x h = ap (λ z. Some z) h
 -- ---- words are at most one command
 
 -- the mode of a word
-mode_of : Text → Option Mode
+unfoldable pub mode_of : Text → Option Mode
 mode_of word = if bytes_eq word (codes "plain") then Some Plain
     else if bytes_eq word (codes "check") then Some Check
     else None
 
-mode_of-word_of : (mode : Mode) → mode_of (word_of mode) ≡ Some mode
+pub mode_of-word_of : (mode : Mode) → mode_of (word_of mode) ≡ Some mode
 unfolding mode_of
 mode_of-word_of Plain = refl
 mode_of-word_of Check = refl

@@ -1,6 +1,5 @@
 -- Lists of words, and what each is, computed from the definition.
-use Rattle.std.specs.Prelude.{ℕ, pos, List, [], ◌∷◌, codes}
-use Rattle.clap.specs.Words.{Text}
+use Rattle.std.specs.Prelude.{ℕ, pos, [], ◌∷◌, codes}
 use Rattle.command_line.specs.declared.command.Command.{Command}
 use Rattle.command_line.specs.declared.command.Mode.{Mode}
 use Rattle.command_line.specs.declared.command.Mode.TheVariants.{Plain, Check}

@@ -1,6 +1,6 @@
 use Rattle.std.proofs.Common.{◌≡◌, ◌∙◌, ap, map, refl, sym, subst, List, true}
 use Rattle.std.specs.Prelude.{string_bytes, []}
-use Rattle.clap.specs.Words.{App, Text, Row, fault_of, found_of, is_simple, is_simple_and_free, matches_of, rows_of, takes}
+use Rattle.clap.specs.Words.{App, Row, fault_of, found_of, is_simple, is_simple_and_free, matches_of, rows_of, takes}
 use Rattle.clap.specs.declared.error.kind.ErrorKind.TheVariants.{OutOfMemory}
 use Rattle.command_line.specs.Syntax.{syntax}
 use Rattle.command_line.specs.Commands.{IsFoundCommand}

@@ -2,7 +2,7 @@ use Rattle.std.proofs.Common.{rules, ◌≡◌, ◌∙◌, ap, ap₂, true, fals
 use Rattle.std.proofs.lemmas.Result.{IfOk-weaker}
 use Rattle.clap.specs.Lexer.{usize_max}
 use Rattle.clap.specs.Simple.{app_of_fields, on_top}
-use Rattle.clap.specs.Words.{App, Rule, app_of, rule_of, with_rule}
+use Rattle.clap.specs.Words.{App, Rule, rule_of, with_rule}
 use Rattle.command_line.specs.Syntax.{args_rule, mode_rule}
 use Rattle.command_line.proofs.Found.{some_that}
 use Rattle.command_line.proofs.syntax.syntax.Goals as goal
