@@ -1,9 +1,11 @@
 pub mod Agree
-pub mod Computed
 pub mod Cuts
 pub mod ExpressionLemmas
 pub mod HeadLemmas
+pub mod Known
 pub mod Present
 pub mod RunLemmas
+pub mod RunsComputed
 pub mod StatementLemmas
 pub mod Trips
+pub mod ValuesComputed

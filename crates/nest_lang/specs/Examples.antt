@@ -1,13 +1,14 @@
--- Examples of values and of plain runs, each computed.
-use Rattle.std.specs.Prelude.{◌≡◌, ℕ, ℤ, pos, negsuc, List, [], ◌∷◌, Ok, Err}
-use Rattle.nest_lang.specs.declared.tree.Op.TheVariants.{Add, Div, Rem}
+-- Examples of values and of plain runs, each worked by hand and proved by computing it.
+use Rattle.std.specs.Prelude.{◌≡◌, ℕ, ℤ, pos, negsuc, List, [], ◌∷◌, ◌++◌, Ok, Err}
+use Rattle.nest_lang.specs.declared.tree.Op.TheVariants.{Add, Sub, Div, Rem}
 use Rattle.nest_lang.specs.declared.tree.Trap.TheVariants.{Overflow, ZeroDivisor, Outside}
-use Rattle.nest_lang.specs.declared.tree.Place.TheVariants.{Scalar, Counter}
-use Rattle.nest_lang.specs.declared.tree.Expr.TheVariants.{Number, Var, Load, Two}
+use Rattle.nest_lang.specs.declared.tree.Place.TheVariants.{Scalar, Counter, Local}
+use Rattle.nest_lang.specs.declared.tree.Expr.TheVariants.{Number, Var, Load, Neg, Two}
 use Rattle.nest_lang.specs.declared.tree.Stmt.{Stmt}
 use Rattle.nest_lang.specs.declared.tree.Stmt.TheVariants as statement
 use Rattle.nest_lang.specs.declared.tree.Head.{Head}
 use Rattle.nest_lang.specs.declared.tree.Head.TheVariants.{For, While}
+use Rattle.nest_lang.specs.declared.tree.Loop.{Loop}
 use Rattle.nest_lang.specs.declared.tree.Nest.{Nest}
 use Rattle.nest_lang.specs.Values.{apply_of, negate_of, trip_count}
 use Rattle.nest_lang.specs.Stores.{store_of}
@@ -25,29 +26,44 @@ pub record ValueExamples : Type 0 where
   pub falling_trip : trip_count (pos 5) (pos 0) (negsuc 1) ≡ 3
   pub longest_trip : trip_count (negsuc 9223372036854775807) (pos 9223372036854775807) (pos 1) ≡ 18446744073709551615
 
--- a nest of one loop
-abbrev pub one_loop : Head → List Stmt → List Nest
-one_loop head body = record { loops = record { head = head; pre = body; post = [] } ∷ [] } ∷ []
+-- a loop, and one nest of loops
+abbrev pub loop_of : Head → List Stmt → List Stmt → Loop
+loop_of head pre post = record { head = head; pre = pre; post = post }
+
+abbrev pub nest_of : List Loop → List Nest
+nest_of loops = record { loops = loops } ∷ []
 
 abbrev pub run_gives : List ℤ → List ℤ → Finish → ℕ → Run
 run_gives memory scalars ending steps = record { store = store_of memory scalars []; ending = ending; steps = steps }
 
 -- for i = 5 below 0 step -2 { s = s + i }
 abbrev pub falling : List Nest
-falling = one_loop (For (Number (pos 5)) (Number (pos 0)) (negsuc 1)) (statement.Set 0 (Two Add (Var (Scalar 0)) (Var (Counter 0))) ∷ [])
+falling = nest_of (loop_of (For (Number (pos 5)) (Number (pos 0)) (negsuc 1)) (statement.Set 0 (Two Add (Var (Scalar 0)) (Var (Counter 0))) ∷ []) [] ∷ [])
 
 -- for i = 0 below 3 { [i] = 5 }
 abbrev pub filling : List Nest
-filling = one_loop (For (Number (pos 0)) (Number (pos 3)) (pos 1)) (statement.Store 1 (Var (Counter 0)) (Number (pos 5)) ∷ [])
+filling = nest_of (loop_of (For (Number (pos 0)) (Number (pos 3)) (pos 1)) (statement.Store 1 (Var (Counter 0)) (Number (pos 5)) ∷ []) [] ∷ [])
 
 -- while p { p = [p] }
 abbrev pub following : List Nest
-following = one_loop (While (Var (Scalar 0))) (statement.Set 0 (Load 1 (Var (Scalar 0))) ∷ [])
+following = nest_of (loop_of (While (Var (Scalar 0))) (statement.Set 0 (Load 1 (Var (Scalar 0))) ∷ []) [] ∷ [])
 
--- plain runs: a falling `for`; a store outside of the memory; the same with too few steps; and a list of
--- three nodes at the words 1, 3 and 2
+-- for i = 0 below 3 { let d = i - 1  if d { [i] = d } else { s = -i } }
+abbrev pub choosing : List Nest
+choosing = nest_of (loop_of (For (Number (pos 0)) (Number (pos 3)) (pos 1)) (statement.Let 0 (Two Sub (Var (Counter 0)) (Number (pos 1))) ∷ statement.If (Var (Local 0)) (statement.Store 1 (Var (Counter 0)) (Var (Local 0)) ∷ []) (statement.Set 0 (Neg (Var (Counter 0))) ∷ []) ∷ []) [] ∷ [])
+
+-- for i = 0 below 2 { s = 0  for j = 0 below 3 { s = s + j }  [i] = s }
+abbrev pub summing : List Nest
+summing = nest_of (loop_of (For (Number (pos 0)) (Number (pos 2)) (pos 1)) (statement.Set 0 (Number (pos 0)) ∷ []) (statement.Store 1 (Var (Counter 0)) (Var (Scalar 0)) ∷ []) ∷ loop_of (For (Number (pos 0)) (Number (pos 3)) (pos 1)) (statement.Set 0 (Two Add (Var (Scalar 0)) (Var (Counter 1))) ∷ []) [] ∷ [])
+
+-- plain runs: a falling `for`; a store outside of the memory; the same with too few steps; a list of three
+-- nodes at the words 1, 3 and 2; a local and both branches of an `if`; a loop inside a loop; and two nests,
+-- of which the second begins where the first ended
 pub record RunExamples : Type 0 where
   pub falling_for : plain_run falling (store_of [] (pos 0 ∷ []) []) 100 ≡ run_gives [] (pos 9 ∷ []) Done 4
   pub store_outside : plain_run filling (store_of (pos 0 ∷ pos 0 ∷ []) [] []) 100 ≡ run_gives (pos 5 ∷ pos 5 ∷ []) [] (Halted (Trapped (Outside (pos 2)))) 4
   pub limited : plain_run filling (store_of (pos 0 ∷ pos 0 ∷ []) [] []) 2 ≡ run_gives (pos 5 ∷ pos 0 ∷ []) [] Limited 2
   pub linked_list : plain_run following (store_of (pos 0 ∷ pos 3 ∷ pos 0 ∷ pos 2 ∷ []) (pos 1 ∷ []) []) 100 ≡ run_gives (pos 0 ∷ pos 3 ∷ pos 0 ∷ pos 2 ∷ []) (pos 0 ∷ []) Done 7
+  pub both_branches : plain_run choosing (store_of (pos 0 ∷ pos 0 ∷ pos 0 ∷ []) (pos 0 ∷ []) []) 100 ≡ run_gives (negsuc 0 ∷ pos 0 ∷ pos 1 ∷ []) (negsuc 0 ∷ []) Done 10
+  pub inner_loop : plain_run summing (store_of (pos 0 ∷ pos 0 ∷ []) (pos 0 ∷ []) []) 100 ≡ run_gives (pos 3 ∷ pos 3 ∷ []) (pos 3 ∷ []) Done 13
+  pub two_nests : plain_run (falling ++ filling) (store_of (pos 0 ∷ pos 0 ∷ []) (pos 0 ∷ []) []) 100 ≡ run_gives (pos 5 ∷ pos 5 ∷ []) (pos 9 ∷ []) (Halted (Trapped (Outside (pos 2)))) 8

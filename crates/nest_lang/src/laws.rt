@@ -1,6 +1,6 @@
 //! Laws of plain runs, each the contract of a function that does nothing.
 
-ghost use Rattle.nest_lang.specs.Examples.{ValueExamples};
+ghost use Rattle.nest_lang.specs.Examples.{ValueExamples, RunExamples};
 ghost use Rattle.nest_lang.specs.Laws.{LongerRunBegins, FinishedRunStays, SizesStay};
 
 /// The entries of a run within n steps begin the entries of every run within more steps.
@@ -18,7 +18,8 @@ pub fn sizes_stay()
     ensures { SizesStay }
 {}
 
-/// Values that were computed by hand.
+/// Values and plain runs that were computed by hand.
 pub fn examples()
-    ensures { ValueExamples }
+    ensures values { ValueExamples }
+    ensures runs { RunExamples }
 {}

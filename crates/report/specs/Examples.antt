@@ -1,4 +1,5 @@
--- Examples of longest runs and of outcomes, each computed.
+-- Examples of longest runs and of outcomes, each worked by hand. That these are the longest runs is proved by
+-- search, and the bytes of an outcome by computing them.
 use Rattle.std.specs.Prelude.{ℕ, ℤ, pos, negsuc, [], ◌∷◌, codes}
 use Rattle.nest_lang.specs.declared.budget.Ending.TheVariants.{Ended, Trapped, Limited}
 use Rattle.nest_lang.specs.declared.tree.Trap.TheVariants.{Outside}

@@ -1,5 +1,6 @@
-use Rattle.nest_lang.proofs.Computed.{values-computed}
+use Rattle.nest_lang.proofs.ValuesComputed.{values-computed}
+use Rattle.nest_lang.proofs.RunsComputed.{runs-computed}
 use Rattle.nest_lang.proofs.laws.examples.Goals as goal
 
 pub returns : goal.returns
-returns c = values-computed
+returns c = record { values = values-computed; runs = runs-computed }

@@ -1,4 +1,4 @@
--- The computed examples.
+-- The examples of values.
 use Rattle.std.proofs.Common.{refl}
 use Rattle.nest_lang.specs.Values.{apply_of, negate_of, trip_count}
 use Rattle.nest_lang.specs.Examples.{ValueExamples}
