@@ -1,5 +1,5 @@
 -- Answers: what a reading gives, and which status has which cause.
-use Rattle.std.proofs.Common.{◌≡◌, refl, ap, ◌∙◌, sym, subst, ℕ, ◌<◌, ◌≤◌, List, [], ◌∷◌, map, length, get_or, codes, pos, Option, Some, None, Result, Ok, Err, IfOk, Bool, arith}
+use Rattle.std.proofs.Common.{◌≡◌, refl, ap, ◌∙◌, sym, subst, ℕ, ◌<◌, ◌≤◌, List, [], ◌∷◌, map, length, get_or, codes, Option, Some, None, Result, Ok, Err, IfOk, Bool, true, arith}
 use Rattle.std.specs.Prelude.{◌↔◌, IsTrue}
 use Rattle.std.specs.Bool.{Decides}
 use Rattle.std.specs.Str.{bytes_eq}
@@ -7,15 +7,14 @@ use Rattle.std.proofs.lemmas.Slice.Eq.{bytes_eq-Decides}
 use Rattle.nest_lang.specs.declared.tree.Loop.{Loop}
 use Rattle.nest_lang.specs.declared.tree.Nest.{Nest}
 use Rattle.nest_lang.specs.declared.tree.Trap.{Trap}
-use Rattle.nest_lang.specs.declared.tree.Expr.TheVariants.{Number}
 use Rattle.nest_lang.specs.declared.budget.Ending.{Ending}
 use Rattle.nest_lang.specs.declared.budget.Ending.TheVariants as ending
+use Rattle.nest_lang.specs.Rules.{keeps_rules}
 use Rattle.nest_lang.specs.Stores.{Store}
 use Rattle.nest_lang.specs.Traces as traces
 use Rattle.nest_lang.specs.Traces.{Finish}
 use Rattle.nest_lang.specs.Runs.{Run, plain_run, finish_by}
 use Rattle.nest_lang.proofs.RunLemmas.{sizes-stay}
-use Rattle.plain_interp.specs.Forms.{IsFor}
 use Rattle.nest_text.specs.Sights.{Sight}
 use Rattle.nest_text.specs.Files.{File, first_store}
 use Rattle.nest_text.specs.Grammar.{IsLoop, Reads}
@@ -32,14 +31,14 @@ use Rattle.nest_top.specs.Answers.{IsAnswer, IsOutcomeOf, IsRunnable, HasNoReadi
 use Rattle.nest_top.specs.Answers.IsAnswer.{usage, refused, outcome}
 use Rattle.nest_top.specs.Laws.{OneAnswer, EachHasItsCause}
 
--- what a text reads as so far is one `for`
-loop-for : {s t : Sight} {l : Loop} → IsLoop s l t → IsFor l
-loop-for (loop {lower = lower} {upper = upper} {st = st} a b c d e f g h i j k m) =
-    record { lower = Number lower; upper = Number upper; stride = pos 1; moves = λ p. cc; first = st; others = []; shape = refl }
+-- what a text reads as so far is one `for`, which keeps the rules of nests
+loop-keeps_rules : {s t : Sight} {l : Loop} → IsLoop s l t → keeps_rules (l ∷ []) ≡ true
+unfolding keeps_rules
+loop-keeps_rules (loop {lower = lower} {upper = upper} {st = st} a b c d e f g h i j k m) = refl
 
 pub reads-runnable : (text : List ℕ) (f : File) → Reads text f → IsRunnable f
 reads-runnable text f (file {l = l} a b c d e g h i j) =
-    record { nest = record { loops = l ∷ [] }; alone = refl; form = record { loop = l; alone = refl; counted = loop-for i } }
+    record { nest = record { loops = l ∷ [] }; alone = refl; rules = loop-keeps_rules i }
 
 -- a result's value is also so
 pub ok-map : {A E : Type 0} (P Q : A → Type 0) → ((a : A) → P a → Q a) → (r : Result A E) → IfOk r P → IfOk r Q

@@ -1,12 +1,12 @@
 -- Answers: what words and a text give, as bytes and a status.
-use Rattle.std.specs.Prelude.{◌≡◌, ◌↔◌, ℕ, ◌+◌, List, [], ◌∷◌, codes, drop, Option, Some, IfSome}
+use Rattle.std.specs.Prelude.{◌≡◌, ◌↔◌, ℕ, ◌+◌, List, [], ◌∷◌, codes, drop, Option, Some, IfSome, true}
 use Rattle.nest_lang.specs.declared.budget.Ending.{Ending}
 use Rattle.nest_lang.specs.declared.budget.Ending.TheVariants as ending
 use Rattle.nest_lang.specs.declared.tree.Trap.{Trap}
 use Rattle.nest_lang.specs.Traces as traces
 use Rattle.nest_lang.specs.Runs.{Run, plain_run, finish_by}
 use Rattle.nest_lang.specs.declared.tree.Nest.{Nest}
-use Rattle.plain_interp.specs.Forms.{IsOneFor}
+use Rattle.nest_lang.specs.Rules.{keeps_rules}
 use Rattle.nest_text.specs.Files.{File, first_store}
 use Rattle.nest_text.specs.Grammar.{Reads}
 use Rattle.report.specs.Outcomes.{IsOutcome}
@@ -35,11 +35,11 @@ pub record IsOutcomeOf (file : File) (bytes : List ℕ) (status : Status) : Type
   pub written : IsOutcome [] (run_of_file file).store ending (run_of_file file).steps bytes
   pub answered : status ≡ status_of ending
 
--- a file that can be run so far: one nest of one `for`
+-- a file that can be run so far: one nest, which keeps the rules of nests
 pub record IsRunnable (file : File) : Type 0 where
   pub nest : Nest
   pub alone : file.nests ≡ nest ∷ []
-  pub form : IsOneFor nest
+  pub rules : keeps_rules nest.loops ≡ true
 
 -- The answer of words and a text: words that are no command give the usage line; of a command, a text
 -- without a reading gives one line, and a text with one the outcome of the plain run of what it reads as.

@@ -1,1 +1,5 @@
-pub mod TurnLemmas
+pub mod Blocks
+pub mod Keeps
+pub mod Nests
+pub mod Rans
+pub mod Turns

@@ -1,8 +1,37 @@
-use Rattle.std.proofs.Common.{refl, ◌+◌}
-use Rattle.plain_interp.proofs.TurnLemmas.{nest-ran}
+use Rattle.std.proofs.Common.{rules, arith, refl, sym, ap, ◌∙◌, ◌≡◌, ◌+◌, ◌<◌, ◌∷◌, [], length, true, ℕ}
+use Rattle.nest_lang.specs.Stores.{store_of}
+use Rattle.plain_interp.proofs.Nests.{keeps_rules-inner, keeps_rules-depth, keeps_rules-some, nest-ran, words-left}
 use Rattle.plain_interp.proofs.plain.run_words.Goals as goal
+
+pub unreachable-requires : goal.unreachable-requires
+unreachable-requires c =
+    let none : length c.args.nest.now.loops ≡ 0 = ap length (sym c.as_slice.ensures) ∙ search rules in
+    keeps_rules-some c.args.nest.now.loops none c.requires.rules
+
+pub run_loop-end-requires-clause-counters : goal.run_loop-end-requires-clause-counters
+run_loop-end-requires-clause-counters c =
+    let loops : c.args.nest.now.loops ≡ c.in-Some.first.now ∷ c.in-Some.rest.now = search rules in
+    omega (arith, keeps_rules-depth c.args.nest.now.loops c.in-Some.first.now c.in-Some.rest.now loops c.requires.rules)
+
+pub run_loop-end-requires-clause-values : goal.run_loop-end-requires-clause-values
+run_loop-end-requires-clause-values c =
+    let loops : c.args.nest.now.loops ≡ c.in-Some.first.now ∷ c.in-Some.rest.now = search rules in
+    omega (arith, keeps_rules-depth c.args.nest.now.loops c.in-Some.first.now c.in-Some.rest.now loops c.requires.rules)
+
+pub run_loop-end-requires-clause-levels : goal.run_loop-end-requires-clause-levels
+run_loop-end-requires-clause-levels c =
+    let loops : c.args.nest.now.loops ≡ c.in-Some.first.now ∷ c.in-Some.rest.now = search rules in
+    omega (arith, keeps_rules-depth c.args.nest.now.loops c.in-Some.first.now c.in-Some.rest.now loops c.requires.rules)
+
+pub run_loop-end-requires-clause-rules : goal.run_loop-end-requires-clause-rules
+run_loop-end-requires-clause-rules c =
+    let loops : c.args.nest.now.loops ≡ c.in-Some.first.now ∷ c.in-Some.rest.now = search rules in
+    keeps_rules-inner c.args.nest.now.loops c.in-Some.first.now c.in-Some.rest.now loops c.requires.rules
 
 pub returns : goal.returns
 returns c =
-    let found = rw c.in-Some.is at c.get.ensures.value in
-    nest-ran c.args.nest.now c.requires.form.loop c.in-Some.first.now _ _ _ _ c.args.limit _ _ _ _ c.requires.form.alone found refl (c.run_loop-end.ensures.run (c.args.limit + 1)) c.ending_of.ensures
+    let loops : c.args.nest.now.loops ≡ c.in-Some.first.now ∷ c.in-Some.rest.now = search rules in
+    let from : c.new-port.result.memory.now ≡ c.args.memory.now = search rules in
+    let ran = rw from at (c.run_loop-end.ensures.ran (c.args.limit + 1) (omega arith)) in
+    words-left _ c.run_loop-end.new.port.memory.now _ _ _ _ (search rules)
+    (nest-ran c.args.nest.now c.in-Some.first.now c.in-Some.rest.now _ _ c.args.limit _ _ _ _ loops ran.cut c.ending_of.ensures)
