@@ -1,0 +1,9 @@
+pub mod Limits
+pub mod Sights
+pub mod Readings
+pub mod Names
+pub mod Expressions
+pub mod Statements
+pub mod Loops
+pub mod Scripts
+pub mod Contents
