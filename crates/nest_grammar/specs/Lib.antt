@@ -7,3 +7,5 @@ pub mod Statements
 pub mod Loops
 pub mod Scripts
 pub mod Contents
+pub mod Grammar
+pub mod Files
