@@ -26,7 +26,7 @@ impl Mode {
     }
 }
 
-/// The numbers of the four options (docs/LANGUAGE.md, Options).
+/// The numbers of the four options (docs/LANGUAGE.md, The command line).
 #[derive(Clone, Copy, Debug, PartialEq, Eq)]
 pub struct Options {
     /// The workers, 1 to 64.
