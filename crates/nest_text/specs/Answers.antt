@@ -1,26 +1,37 @@
 -- Answers of the reader.
-use Rattle.std.specs.Prelude.{◌≡◌, ℕ, List, [], ◌∷◌, length, Result, Ok, Err, true}
-use Rattle.nest_lang.specs.declared.tree.Nest.{Nest}
-use Rattle.nest_lang.specs.Rules.{keeps_rules}
+use Rattle.std.specs.Prelude.{◌≡◌, ℕ, pos, List, Result, Ok, Err, Bool}
+use Rattle.nest_tokens.specs.declared.token.Token.TheVariants as token
+use Rattle.nest_grammar.specs.declared.fault.TextFault.{TextFault}
+use Rattle.nest_grammar.specs.declared.fault.TextKind.{TextKind}
+use Rattle.nest_grammar.specs.Sights.{Sight, stands}
+use Rattle.nest_grammar.specs.Readings.{Reading, after, ◌>>=◌, wrong, obeys, skipped}
 use Rattle.nest_text.specs.declared.refusal.ReadRefusal.{ReadRefusal}
-use Rattle.nest_text.specs.declared.refusal.ReadRefusal.TheVariants.{Form, NoMemory}
-use Rattle.nest_text.specs.Files.{File}
-use Rattle.nest_text.specs.Grammar.{Reads}
+use Rattle.nest_text.specs.declared.refusal.ReadRefusal.TheVariants.{Text, NoMemory}
 
--- The answer is the file that the text reads as, or Form where the text has no reading. NoMemory may
--- come in place of either.
-abbrev pub AnswersText : Result File ReadRefusal → List ℕ → Type 0
-AnswersText (Ok file) text = Reads text file
-AnswersText (Err Form) text = (file : File) → Reads text file → ⊥
-AnswersText (Err NoMemory) text = Unit {0}
+-- What a function returned and left is what a reading gives, unless memory ran out.
+abbrev pub Gives : {A : Type 0} → Result A ReadRefusal → Sight → Result (A × Sight) TextFault → Type 0
+Gives (Ok a) new read = read ≡ Ok (a, new)
+Gives (Err NoMemory) new read = Unit {0}
+Gives (Err (Text f)) new read = read ≡ Err f
 
--- a text has at most one reading
-abbrev pub OneReading : Type 0
-OneReading = (text : List ℕ) (a b : File) → Reads text a → Reads text b → a ≡ b
+-- the same, where the reading gives what is made of the thing
+abbrev pub GivesAs : {A B : Type 0} → (A → B) → Result A ReadRefusal → Sight → Result (B × Sight) TextFault → Type 0
+GivesAs f (Ok a) new read = read ≡ Ok (f a, new)
+GivesAs f (Err NoMemory) new read = Unit {0}
+GivesAs f (Err (Text e)) new read = read ≡ Err e
 
--- one nest of one loop, which keeps the rules of nests
-pub record IsSimple (file : File) : Type 0 where
-  pub nest : Nest
-  pub alone : file.nests ≡ nest ∷ []
-  pub shallow : length nest.loops ≡ 1
-  pub keeps : keeps_rules nest.loops ≡ true
+-- a token that keeps a rule
+abbrev pub passed : Bool → TextKind → Reading (Unit {0})
+passed rule what = obeys rule what >>= λ _. skipped
+
+-- the number that stands here, or that none does
+abbrev pub NumberHere : Result ℕ ReadRefusal → Sight → Type 0
+NumberHere (Ok n) s = stands s ≡ token.Number (pos n)
+NumberHere (Err NoMemory) s = Unit {0}
+NumberHere (Err (Text f)) s = ((n : ℕ) → stands s ≡ token.Number (pos n) → ⊥) × (wrong {A = ℕ} s ≡ Err f)
+
+-- the same for a whole text: its file, or its first fault
+abbrev pub Answers : {A : Type 0} → Result A ReadRefusal → Result A TextFault → Type 0
+Answers (Ok a) read = read ≡ Ok a
+Answers (Err NoMemory) read = Unit {0}
+Answers (Err (Text f)) read = read ≡ Err f

@@ -1,10 +1,2 @@
-pub mod Tokens
-pub mod Lexing
-pub mod Sights
-pub mod Placed
-pub mod Files
-pub mod Grammar
-pub mod Reading
 pub mod Answers
-pub mod Division
-pub mod Examples
+pub mod Parts

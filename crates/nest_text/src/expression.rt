@@ -1,42 +1,68 @@
-//! Expressions: sums of numbers, of the loop's name and of loads.
+//! Expressions.
 
 ghost use Rattle.std.specs.Prelude.{◌≡◌, ◌<◌, IfOk};
 ghost use Rattle.nest_lang.specs.declared.tree.Expr.TheVariants.{Two};
-ghost use Rattle.nest_text.specs.Reading.{Gives, start_of, addition_of, entered, operand, sum, expression};
+ghost use Rattle.nest_grammar.specs.Expressions.{start_of, product_of, addition_of, comparison_of, taken, closed, access, access_number, entered, unary, term, sum, expr, expression};
+ghost use Rattle.nest_text.specs.Answers.{Gives};
 
-use crate::cursor::Cursor;
+use crate::limits::{MOST_OPEN, MOST_TOKENS, most_accesses};
+use crate::reader::Reader;
 use crate::refusal::ReadRefusal;
-use crate::token::{Mark, Name, Start, Token};
-use nest_lang::{Expr, Op, Place};
+use crate::visible::place_of;
+use nest_grammar::{Declared, Start, TextKind};
+use nest_lang::{Expr, Op};
+use nest_tokens::{Mark, Name, Token};
 use sqlite_items::Boxed;
 use std::alloc::{AllocError, Global};
 
-/// The most tokens of an expression.
-const MOST_TOKENS: usize = 256;
-
-/// The most brackets that are open at once in an expression.
-const MOST_OPEN: usize = 32;
-
 /// How an operand begins that begins with this token.
-#[tactic(auto, unfolding(crate::specs::Reading::start_of))]
 fn start_of(token: Token) -> Start
     ensures { result ≡ start_of token }
 {
     match token {
         Token::Number(number) => Start::Number(number),
         Token::Name(name) => Start::Name(name),
+        Token::Plain(Mark::Minus) => Start::Minus,
+        Token::Plain(Mark::Open) => Start::Open,
         Token::Plain(Mark::OpenBracket) => Start::Bracket,
         _ => Start::Other,
     }
 }
 
+/// The operator of a term that this token is.
+fn product_of(token: Token) -> Option<Op>
+    ensures { result ≡ product_of token }
+{
+    match token {
+        Token::Plain(Mark::Times) => Some(Op::Mul),
+        Token::Plain(Mark::Divide) => Some(Op::Div),
+        Token::Plain(Mark::Remainder) => Some(Op::Rem),
+        _ => None,
+    }
+}
+
 /// The operator of a sum that this token is.
-#[tactic(auto, unfolding(crate::specs::Reading::addition_of))]
 fn addition_of(token: Token) -> Option<Op>
     ensures { result ≡ addition_of token }
 {
     match token {
         Token::Plain(Mark::Plus) => Some(Op::Add),
+        Token::Plain(Mark::Minus) => Some(Op::Sub),
+        _ => None,
+    }
+}
+
+/// The comparison that this token is.
+fn comparison_of(token: Token) -> Option<Op>
+    ensures { result ≡ comparison_of token }
+{
+    match token {
+        Token::Plain(Mark::Equal) => Some(Op::Eq),
+        Token::Plain(Mark::NotEqual) => Some(Op::Ne),
+        Token::Plain(Mark::Less) => Some(Op::Lt),
+        Token::Plain(Mark::AtMost) => Some(Op::Le),
+        Token::Plain(Mark::Greater) => Some(Op::Gt),
+        Token::Plain(Mark::AtLeast) => Some(Op::Ge),
         _ => None,
     }
 }
@@ -47,76 +73,160 @@ fn two(alloc: Global, op: Op, left: Expr, right: Expr) -> Result<Expr, AllocErro
     Ok(Expr::Two(op, Boxed::new(alloc, left)?, Boxed::new(alloc, right)?))
 }
 
-impl<'a> Cursor<'a> {
-    /// Goes past a bracket behind which something stands one deeper.
-    #[tactic(auto, unfolding(crate::specs::Reading::entered))]
+impl<'a> Reader<'a> {
+    /// Goes past one more token of the expression.
+    fn take(&mut self) -> Result<(), ReadRefusal>
+        ensures { Gives result self.new (taken self.old) }
+    {
+        if self.spent < MOST_TOKENS {
+            self.skip();
+            self.spent += 1;
+            Ok(())
+        } else {
+            Err(ReadRefusal::Text(self.fault(TextKind::Deep)))
+        }
+    }
+
+    /// Goes past this sign, a token of the expression.
+    fn close(&mut self, mark: Mark) -> Result<(), ReadRefusal>
+        ensures { Gives result self.new (closed mark self.old) }
+    {
+        if self.token().is(mark) {
+            self.take()
+        } else {
+            Err(ReadRefusal::Text(self.unexpected()))
+        }
+    }
+
+    /// One more access of the block is begun.
+    pub fn begin_access(&mut self) -> Result<(), ReadRefusal>
+        ensures { Gives result self.new (access self.old) }
+    {
+        if self.opened < most_accesses(self.version) {
+            self.opened += 1;
+            Ok(())
+        } else {
+            Err(ReadRefusal::Text(self.fault(TextKind::Many)))
+        }
+    }
+
+    /// The number of an access that was begun, from 1.
+    pub fn number_access(&mut self) -> u8 {
+        self.accesses += 1;
+        self.accesses
+    }
+
+    /// Goes past a token behind which something stands one deeper.
     fn enter(&mut self, depth: usize) -> Result<usize, ReadRefusal>
         ensures read { Gives result self.new (entered depth self.old) }
         ensures less { IfOk result (λ below. below < depth) }
     {
         if depth == 0 {
-            return Err(ReadRefusal::Form);
+            return Err(ReadRefusal::Text(self.fault(TextKind::Deep)));
         }
-        self.skip();
+        self.take()?;
         Ok(depth - 1)
     }
 
-    /// Reads a number, the loop's name or a load, where so many more brackets may be open.
-    #[cycle(expression)]
-    #[tactic(auto, using(crate::proofs::Steps::units))]
-    fn operand(&mut self, alloc: Global, loop_name: Name, depth: usize) -> Result<Expr, ReadRefusal>
-        ensures { Gives result self.new (operand loop_name depth self.old) }
-    {
-        match start_of(self.token()) {
-            Start::Number(number) => {
-                self.skip();
-                Ok(Expr::Number(number))
+    /// Reads a name that is visible.
+    fn variable(&mut self, names: &[Declared], name: Name) -> Result<Expr, ReadRefusal> {
+        match place_of(names, name) {
+            Some(place) => {
+                self.take()?;
+                Ok(Expr::Var(place))
             }
-            Start::Name(name) => {
-                if name.bytes == loop_name.bytes {
-                    self.skip();
-                    Ok(Expr::Var(Place::Counter(0)))
-                } else {
-                    Err(ReadRefusal::Form)
-                }
-            }
-            Start::Bracket => {
-                let depth = self.enter(depth)?;
-                let address = self.sum(alloc, loop_name, depth)?;
-                self.need(Mark::CloseBracket)?;
-                let access = self.access()?;
-                Ok(Expr::Load(access, Boxed::new(alloc, address)?))
-            }
-            Start::Other => Err(ReadRefusal::Form),
+            None => Err(ReadRefusal::Text(self.fault(TextKind::Unknown))),
         }
     }
 
-    /// Reads operands, each but the first behind an operator, grouped to the left.
+    /// Reads a load.
     #[cycle(expression)]
-    #[tactic(auto, using(crate::proofs::Steps::chains), unfolding(crate::specs::Reading::sum))]
-    fn sum(&mut self, alloc: Global, loop_name: Name, depth: usize) -> Result<Expr, ReadRefusal>
-        ensures { Gives result self.new (sum loop_name depth self.old) }
+    fn load(&mut self, names: &[Declared], depth: usize) -> Result<Expr, ReadRefusal> {
+        self.begin_access()?;
+        let depth = self.enter(depth)?;
+        let address = self.expr(names, depth)?;
+        self.close(Mark::CloseBracket)?;
+        let access = self.number_access();
+        Ok(Expr::Load(access, Boxed::new(self.alloc, address)?))
+    }
+
+    /// Reads a number, a name, or what begins with a `-`, a parenthesis or a bracket, where so many more
+    /// of these may be open.
+    #[cycle(expression)]
+    fn unary(&mut self, names: &[Declared], depth: usize) -> Result<Expr, ReadRefusal>
+        ensures { Gives result self.new (unary names.now depth self.old) }
     {
-        let mut left = self.operand(alloc, loop_name, depth)?;
-        'parts: while let Some(op) = addition_of(self.token()) {
-            self.skip();
-            let right = self.operand(alloc, loop_name, depth)?;
-            left = two(alloc, op, left, right)?;
+        match start_of(self.token()) {
+            Start::Number(number) => {
+                self.take()?;
+                Ok(Expr::Number(number))
+            }
+            Start::Name(name) => self.variable(names, name),
+            Start::Minus => {
+                let depth = self.enter(depth)?;
+                let operand = self.unary(names, depth)?;
+                Ok(Expr::Neg(Boxed::new(self.alloc, operand)?))
+            }
+            Start::Open => {
+                let depth = self.enter(depth)?;
+                let inner = self.expr(names, depth)?;
+                self.close(Mark::Close)?;
+                Ok(inner)
+            }
+            Start::Bracket => self.load(names, depth),
+            Start::Other => Err(ReadRefusal::Text(self.unexpected())),
+        }
+    }
+
+    /// Reads operands between operators of a term, grouped to the left.
+    #[cycle(expression)]
+    fn term(&mut self, names: &[Declared], depth: usize) -> Result<Expr, ReadRefusal>
+        ensures { Gives result self.new (term names.now depth self.old) }
+    {
+        let mut left = self.unary(names, depth)?;
+        'parts: while let Some(op) = product_of(self.token()) {
+            self.take()?;
+            let right = self.unary(names, depth)?;
+            left = two(self.alloc, op, left, right)?;
         }
         Ok(left)
     }
 
-    /// Reads a whole expression.
-    #[tactic(auto, unfolding(crate::specs::Reading::expression))]
-    pub fn expression(&mut self, alloc: Global, loop_name: Name) -> Result<Expr, ReadRefusal>
-        ensures { Gives result self.new (expression loop_name self.old) }
+    /// Reads terms between operators of a sum, grouped to the left.
+    #[cycle(expression)]
+    fn sum(&mut self, names: &[Declared], depth: usize) -> Result<Expr, ReadRefusal>
+        ensures { Gives result self.new (sum names.now depth self.old) }
     {
-        let before = self.taken();
-        let expression = self.sum(alloc, loop_name, MOST_OPEN)?;
-        if self.taken().saturating_sub(before) <= MOST_TOKENS {
-            Ok(expression)
-        } else {
-            Err(ReadRefusal::Form)
+        let mut left = self.term(names, depth)?;
+        'parts: while let Some(op) = addition_of(self.token()) {
+            self.take()?;
+            let right = self.term(names, depth)?;
+            left = two(self.alloc, op, left, right)?;
         }
+        Ok(left)
+    }
+
+    /// Reads a sum, or two of them with a comparison between.
+    #[cycle(expression)]
+    fn expr(&mut self, names: &[Declared], depth: usize) -> Result<Expr, ReadRefusal>
+        ensures { Gives result self.new (expr names.now depth self.old) }
+    {
+        let left = self.sum(names, depth)?;
+        match comparison_of(self.token()) {
+            None => Ok(left),
+            Some(op) => {
+                self.take()?;
+                let right = self.sum(names, depth)?;
+                Ok(two(self.alloc, op, left, right)?)
+            }
+        }
+    }
+
+    /// Reads a whole expression.
+    pub fn expression(&mut self, names: &[Declared]) -> Result<Expr, ReadRefusal>
+        ensures { Gives result self.new (expression names.now self.old) }
+    {
+        self.spent = 0;
+        self.expr(names, MOST_OPEN)
     }
 }

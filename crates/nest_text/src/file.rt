@@ -1,64 +1,74 @@
-//! Files: what a text gives.
+//! Files: what a text gives, and how one is read.
 
-ghost use Rattle.std.specs.Prelude.{◌≡◌, length, slice_get, IfOk};
-ghost use Rattle.std.specs.Option.{option_copied};
-ghost use Rattle.nest_text.specs.Files.{File, first_store};
+ghost use Rattle.std.specs.Prelude.{◌≡◌};
+ghost use Rattle.nest_grammar.specs.Contents.{reading};
+ghost use Rattle.nest_text.specs.Answers.{Answers};
 
-use crate::refusal::NoMemory;
-use nest_lang::{Nest, State};
+use crate::limits::MOST_BYTES;
+use crate::reader::Reader;
+use crate::refusal::{NoMemory, ReadRefusal};
+use nest_grammar::{File, Item, TextFault, TextKind};
+use nest_lang::{Command, Nest, State};
+use nest_tokens::{LONGEST_NAME, Name};
 use sqlite_items::Items;
 use std::alloc::Global;
-use std::marker::Model;
 
-/// What a text gives: the number of words of the memory, and the nests, which run one after another.
-/// Only `read_nest` makes one.
-#[derive(Drop)]
+/// What a text gives. Only `read_nest` makes one.
+#[derive(Debug, Drop)]
 pub struct NestFile {
-    words: usize,
-    nests: Items<Nest>,
+    file: File,
 }
 
-impl Model for NestFile {
-    ghost use Rattle.std.specs.Coded.{codes};
-    ghost use Rattle.nest_lang.specs.contracts.tree.Expr as expr;
-    ghost use Rattle.nest_lang.specs.contracts.tree.Stmt as stmt;
-    ghost use Rattle.nest_text.specs.Files.{File};
+/// Reads a text by the productions.
+fn read_whole(alloc: Global, text: &[u8]) -> Result<File, ReadRefusal>
+    ensures { Answers result (reading text.now) }
+{
+    if text.len() > MOST_BYTES {
+        return Err(ReadRefusal::Text(TextFault {
+            at: MOST_BYTES as u64,
+            what: TextKind::Long,
+        }));
+    }
+    Reader::new(alloc, text).contents()
+}
 
-    ghost Value = { File };
-
-    ghost coded = { Prim.hlevel (codes, expr.the_row.coded, stmt.the_row.coded) };
-
-    ghost view = { λ f. record { words = f.words; nests = f.nests } };
+/// Reads a text: the file that it reads as (docs/DEFINITIONS.md, Reading). `Text` exactly where the text
+/// has no reading, with the first token that is wrong and its kind; `NoMemory` where a growth was refused.
+pub fn read_nest(alloc: Global, text: &[u8]) -> Result<NestFile, ReadRefusal> {
+    let file = read_whole(alloc, text)?;
+    Ok(NestFile { file })
 }
 
 impl NestFile {
-    pub(crate) fn new(words: usize, nests: Items<Nest>) -> NestFile
-        ensures { result ≡ record { words = words; nests = nests } }
-    {
-        NestFile { words, nests }
-    }
-
     /// The number of nests.
-    pub fn nests(&self) -> usize
-        ensures { result ≡ length self.now.nests }
-    {
-        self.nests.len()
+    pub fn nests(&self) -> usize {
+        self.file.units.len()
     }
 
     /// A nest, numbered from 0. None exactly where there is no such nest.
-    pub fn nest(&self, number: usize) -> Option<&Nest>
-        ensures { option_copied result ≡ slice_get self.now.nests number }
-    {
-        self.nests.get(number)
+    pub fn nest(&self, number: usize) -> Option<&Nest> {
+        match self.file.units.get(number) {
+            Some(unit) => Some(&unit.nest),
+            None => None,
+        }
     }
 
-    /// The first state: a memory of so many words, each 0. `NoMemory` where a growth was refused.
-    pub fn start(&self, alloc: Global) -> Result<State, NoMemory>
-        ensures { IfOk result (λ state. state ≡ first_store self.now) }
-    {
-        Ok(State {
-            memory: Vec::from_elem(alloc, 0, self.words)?,
-            scalars: Vec::new(alloc),
-        })
+    /// The number of candidates of a nest, numbered from 0. None exactly where there is no such nest.
+    pub fn scripts(&self, nest: usize) -> Option<usize> {
+        match self.file.units.get(nest) {
+            Some(unit) => Some(unit.scripts.len()),
+            None => None,
+        }
+    }
+
+    /// The commands of a candidate of a nest, both numbered from 0. None exactly where there is none.
+    pub fn script(&self, nest: usize, number: usize) -> Option<&[Command]> {
+        match self.file.units.get(nest) {
+            Some(unit) => match unit.scripts.get(number) {
+                Some(script) => Some(script.as_slice()),
+                None => None,
+            },
+            None => None,
+        }
     }
 }

@@ -1,27 +1,28 @@
-//! The text of a nest: its tokens, and the reader of a file.
+//! The text of a file: its reader.
 //!
-//! A text is a list of bytes. `Token` says what stands in it and `Cursor` goes through it token by
-//! token, for the whole language. On it stands a reader with one function for each production of the
-//! grammar. `read_nest` gives the file that a text is, exactly where the text has a reading; a text has
-//! at most one. So far it reads a restricted form: one `for` between two numbers with one store in it,
-//! whose address and value are sums of numbers, of the loop's name and of loads.
+//! `Reader` goes through a text token by token and has one function for each production of the grammar.
+//! Each answers what the definition of the same name in `nest_grammar` gives: the thing read, or the first
+//! token that is wrong and its kind. `read_nest` gives the file that a text is, exactly where the text has
+//! a reading, and else its first fault.
 //!
-//! The crate stands on `nest_lang`, whose trees it makes, and on the kit's `sqlite_items` for trees that
-//! lead back to themselves. The top call uses `read_nest` and the parts of a `NestFile`.
+//! The crate stands on `nest_tokens` (the tokens of a text), on `nest_grammar` (what a text reads as) and
+//! on `nest_lang` (the trees and states). The top call uses `read_nest` and the parts of a `NestFile`.
 #![tactic(auto)]
 
-mod cursor;
+mod contents;
 mod expression;
 mod file;
-pub mod laws;
-mod lexer;
-mod program;
+mod limits;
+mod memory;
+mod nesting;
 mod reader;
 mod refusal;
+mod script;
+mod statement;
 #[cfg(test)]
 mod tests;
-mod token;
+mod visible;
 
-pub use file::NestFile;
-pub use reader::read_nest;
+pub use file::{NestFile, read_nest};
+pub use nest_grammar::{TextFault, TextKind};
 pub use refusal::{NoMemory, ReadRefusal};

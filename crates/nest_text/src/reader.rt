@@ -1,36 +1,196 @@
-//! The reader of a file.
+//! What is still to be read of a text, and the steps that every production takes.
 
-ghost use Rattle.std.specs.Prelude.{IfOk};
-ghost use Rattle.nest_text.specs.Reading.{Shows, reading};
-ghost use Rattle.nest_text.specs.Answers.{AnswersText, IsSimple};
+ghost use Rattle.std.specs.Prelude.{◌≡◌, ◌<◌, ◌^◌, length, IfOk, pos, Ok, zero};
+ghost use Rattle.nest_grammar.specs.Sights.{Sight, here, stands, skip, start, in_block, of_version};
+ghost use Rattle.nest_grammar.specs.Readings.{unexpected, need, obeys, minus, with_sign, signed, end};
+ghost use Rattle.nest_text.specs.Answers.{Gives, passed, NumberHere};
 
-use crate::cursor::Cursor;
-use crate::file::NestFile;
 use crate::refusal::ReadRefusal;
+use nest_grammar::{TextFault, TextKind, Version};
+use nest_tokens::{BadToken, Cursor, Mark, Name, Token};
+use sqlite_items::Items;
 use std::alloc::Global;
+use std::marker::Model;
 
-/// The most bytes of a text.
-const MOST_BYTES: usize = 1_048_576;
-
-/// Reads a text by the productions.
-#[tactic(auto, unfolding(crate::specs::Reading::reading))]
-fn read_whole(alloc: Global, text: &[u8]) -> Result<NestFile, ReadRefusal>
-    ensures { Shows result (reading text.now) }
-{
-    if text.len() > MOST_BYTES {
-        return Err(ReadRefusal::Form);
-    }
-    Cursor::new(text).contents(alloc)
+/// What is still to be read of a text, with what was counted on the way: the version, how many tokens of
+/// the expression were taken, how many accesses of the block were begun and numbered, and the names of
+/// the block's locals.
+#[derive(Drop)]
+pub struct Reader<'a> {
+    pub(crate) alloc: Global,
+    cursor: Cursor<'a>,
+    pub(crate) version: Version,
+    pub(crate) spent: usize,
+    pub(crate) opened: u8,
+    pub(crate) accesses: u8,
+    pub(crate) lets: Items<Name>,
 }
 
-/// Reads a text: the file that it reads as (docs/DEFINITIONS.md, Reading). `Form` exactly where the text
-/// has no reading, as has every text of more than 1,048,576 bytes; `NoMemory` where a growth was refused.
-#[tactic(auto, using(crate::proofs::Main::laws))]
-pub fn read_nest(alloc: Global, text: &[u8]) -> Result<NestFile, ReadRefusal>
-    // Ok exactly where the text has a reading, with the file that it reads as, and Form exactly where it has none.
-    ensures reading { AnswersText result text.now }
-    // What is read is one nest of one loop, which keeps the rules of nests.
-    ensures simple { IfOk result (λ file. IsSimple file) }
+impl<'a> Model for Reader<'a> {
+    ghost use Rattle.nest_grammar.specs.Sights.{Sight};
+
+    ghost Value = { Sight };
+
+    ghost view = { λ r. record { left = r.cursor.left; size = r.cursor.size; version = r.version; spent = r.spent; opened = r.opened; accesses = r.accesses; lets = r.lets } };
+}
+
+/// What is wrong with a token that is not allowed.
+fn unexpected_token(token: Token) -> TextKind
+    ensures { result ≡ unexpected token }
 {
-    read_whole(alloc, text)
+    match token {
+        Token::Bad(BadToken::Byte) => TextKind::Byte,
+        Token::Bad(BadToken::Number) => TextKind::Number,
+        Token::Bad(BadToken::Name) => TextKind::Name,
+        _ => TextKind::Expected,
+    }
+}
+
+/// A number with or without a `-` before it.
+pub fn signed_value(negative: bool, number: u64) -> i64
+    requires { number < 2 ^ 63 }
+    ensures { result ≡ with_sign negative number }
+{
+    if negative {
+        -(number as i64)
+    } else {
+        number as i64
+    }
+}
+
+impl<'a> Reader<'a> {
+    /// Stands at the first token of a text.
+    pub fn new(alloc: Global, text: &'a [u8]) -> Reader<'a>
+        ensures { result ≡ start text.now }
+    {
+        Reader {
+            alloc,
+            cursor: Cursor::new(text),
+            version: Version::One,
+            spent: 0,
+            opened: 0,
+            accesses: 0,
+            lets: Items::new(alloc),
+        }
+    }
+
+    /// The token here.
+    pub fn token(&self) -> Token
+        ensures { result ≡ stands self.now }
+    {
+        self.cursor.token()
+    }
+
+    /// Goes past the token here; at the end it stays.
+    pub fn skip(&mut self)
+        ensures { self.new ≡ skip self.old }
+    {
+        self.cursor.skip();
+    }
+
+    /// A block begins.
+    pub fn begin_block(&mut self)
+        ensures { self.new ≡ in_block self.old }
+    {
+        self.opened = 0;
+        self.accesses = 0;
+        self.lets = Items::new(self.alloc);
+    }
+
+    /// The token here is at fault.
+    pub fn fault(&self, what: TextKind) -> TextFault
+        ensures { result ≡ record { at = (here self.now).at; what = what } }
+    {
+        TextFault {
+            at: self.cursor.spot().at as u64,
+            what,
+        }
+    }
+
+    /// The grammar does not allow the token here.
+    pub fn unexpected(&self) -> TextFault
+        ensures { result ≡ record { at = (here self.now).at; what = unexpected (stands self.now) } }
+    {
+        self.fault(unexpected_token(self.token()))
+    }
+
+    /// Goes past this sign or word.
+    pub fn need(&mut self, mark: Mark) -> Result<(), ReadRefusal>
+        ensures { Gives result self.new (need mark self.old) }
+    {
+        if self.token().is(mark) {
+            self.skip();
+            Ok(())
+        } else {
+            Err(ReadRefusal::Text(self.unexpected()))
+        }
+    }
+
+    /// Sees that a rule of the token here is kept.
+    pub fn obey(&self, rule: bool, what: TextKind) -> Result<(), ReadRefusal>
+        ensures { Gives result self.now (obeys rule what self.now) }
+    {
+        if rule {
+            Ok(())
+        } else {
+            Err(ReadRefusal::Text(self.fault(what)))
+        }
+    }
+
+    /// Goes past the token here, where a rule of it is kept.
+    pub fn pass(&mut self, rule: bool, what: TextKind) -> Result<(), ReadRefusal>
+        ensures { Gives result self.new (passed rule what self.old) }
+    {
+        self.obey(rule, what)?;
+        self.skip();
+        Ok(())
+    }
+
+    /// The number here; it is not taken yet.
+    pub fn number_here(&self) -> Result<u64, ReadRefusal>
+        ensures here { NumberHere result self.now }
+        ensures fits { IfOk result (λ n. n < 2 ^ 63) }
+    {
+        match self.token() {
+            Token::Number(number) if number >= 0 => Ok(number as u64),
+            _ => Err(ReadRefusal::Text(self.unexpected())),
+        }
+    }
+
+    /// Goes past a number.
+    pub fn number(&mut self) -> Result<u64, ReadRefusal> {
+        let number = self.number_here()?;
+        self.skip();
+        Ok(number)
+    }
+
+    /// Goes past a `-`, where one stands here, and says whether.
+    pub fn sign(&mut self) -> bool
+        ensures { minus self.old ≡ Ok (result, self.new) }
+    {
+        let negative = self.token().is(Mark::Minus);
+        if negative {
+            self.skip();
+        }
+        negative
+    }
+
+    /// Goes past a number with or without a `-` before it.
+    pub fn signed(&mut self) -> Result<i64, ReadRefusal>
+        ensures { Gives result self.new (signed self.old) }
+    {
+        let negative = self.sign();
+        let number = self.number()?;
+        Ok(signed_value(negative, number))
+    }
+
+    /// Sees that the text ends here.
+    pub fn end(&self) -> Result<(), ReadRefusal>
+        ensures { Gives result self.now (end self.now) }
+    {
+        match self.token() {
+            Token::End => Ok(()),
+            _ => Err(ReadRefusal::Text(self.unexpected())),
+        }
+    }
 }

@@ -3,6 +3,7 @@
 ghost use Rattle.std.specs.Prelude.{◌≡◌};
 ghost use Rattle.nest_text.specs.declared.refusal.ReadRefusal.TheVariants.{NoMemory as OutOfMemory};
 
+use nest_grammar::TextFault;
 use std::alloc::{AllocError, AllocFailed};
 use thiserror::Error;
 
@@ -16,11 +17,11 @@ impl From<AllocError> for NoMemory {
     }
 }
 
-/// Why a text was not read: it has no reading, or a growth was refused.
+/// Why a text was not read: its first fault, or a growth that was refused.
 #[derive(Clone, Copy, Debug, PartialEq, Eq, Error)]
 pub enum ReadRefusal {
-    #[error("the text is not of the form")]
-    Form,
+    #[error("the text has a fault")]
+    Text(TextFault),
     #[error("out of memory")]
     NoMemory,
 }

@@ -1,0 +1,5 @@
+pub mod Texts
+pub mod Printing
+pub mod Stated
+pub mod Nested
+pub mod Words

@@ -1,0 +1,1 @@
+-- Loops within one another.

@@ -1,0 +1,4 @@
+pub mod Taken
+pub mod Digits
+pub mod Found
+pub mod Computed

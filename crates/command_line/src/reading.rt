@@ -1,0 +1,68 @@
+//! The call that reads the words.
+
+ghost use Rattle.std.specs.Prelude.{◌≡◌, IfOk, map, pos, string_bytes};
+ghost use Rattle.clap.specs.Words.{found_of, rows_of, kind_of};
+ghost use Rattle.command_line.specs.Commands.{Finds, IsCommand, IsFoundCommand, HasOptions, HasNumber, usage_line};
+
+use crate::command::{Command, Mode, Options};
+use crate::number::number_in;
+use crate::refusals::NoMemory;
+use crate::syntax::syntax;
+use clap::ArgMatches;
+use clap::error::ErrorKind;
+use std::alloc::Global;
+
+const USAGE: &str =
+    "usage: nestrun plain|run|check|deps|gen [SEED KIND SIZE] [--workers N] [--chunk N] [--sample N] [--steps N]\n";
+
+/// The command that the words after the program's name are, or None exactly where they are none
+/// (docs/DEFINITIONS.md, Commands).
+///
+/// `NoMemory` comes only for want of memory, and never in place of None.
+pub fn command_of(alloc: Global, words: &[String]) -> Result<Option<Command>, NoMemory>
+    ensures { IfOk result (λ found. Finds found (IsCommand (map string_bytes words.now))) }
+{
+    match syntax(alloc)?.try_get_matches_from(words) {
+        Ok(matches) => Ok(command_in(&matches)),
+        Err(error) if error.kind() == ErrorKind::OutOfMemory => Err(NoMemory),
+        Err(_) => Ok(None),
+    }
+}
+
+/// What is written where the words are no command: one line, with its newline.
+pub fn usage_text() -> &'static str
+    ensures { result.now ≡ usage_line }
+{
+    USAGE
+}
+
+/// The command that was found in the words.
+fn command_in(matches: &ArgMatches<'_>) -> Option<Command>
+    ensures { Finds result (IsFoundCommand (rows_of (found_of matches.now))) }
+{
+    let mode = Mode::of_word(matches.get_str("MODE")?)?;
+    if matches.get_raw("ARGS").is_some() {
+        return None;
+    }
+    let options = options_in(matches)?;
+    Some(Command { mode, options })
+}
+
+/// The options, each with its number in its range.
+fn options_in(matches: &ArgMatches<'_>) -> Option<Options>
+    ensures { Finds result (HasOptions (rows_of (found_of matches.now))) }
+{
+    Some(Options {
+        workers: number_of(matches, "workers", 1, 64)? as u32,
+        chunk: number_of(matches, "chunk", 1, 1024)? as i64,
+        sample: number_of(matches, "sample", 2, 64)? as i64,
+        steps: number_of(matches, "steps", 0, 4_294_967_296)?,
+    })
+}
+
+/// The number of an option.
+fn number_of(matches: &ArgMatches<'_>, option: &str, least: u64, most: u64) -> Option<u64>
+    ensures { Finds result (λ number. HasNumber (rows_of (found_of matches.now)) option.now least most (pos number)) }
+{
+    number_in(matches.get_str(option)?, least, most)
+}

@@ -1,8 +1,0 @@
-use Rattle.std.proofs.Common.{sym}
-use Rattle.nest_text.specs.Sights.{here}
-use Rattle.nest_text.proofs.Places.{here-at}
-use Rattle.nest_text.proofs.cursor.Cursor.spot.Goals as goal
-
-pub returns : goal.returns
-unfolding here
-returns c = rw (← c.self.view_is) (sym (here-at _ _ _ _ _ c.self.invariant))

@@ -1,8 +1,0 @@
-use Rattle.std.proofs.Common.{◌∙◌}
-use Rattle.nest_text.specs.Tokens.{is_mark}
-use Rattle.nest_text.proofs.Marks.{is-same}
-use Rattle.nest_text.proofs.token.Token.is.Goals as goal
-
-pub returns-in-Plain : goal.returns-in-Plain
-unfolding is_mark
-returns-in-Plain c = rw c.in-Plain.is (c.eq.ensures ∙ is-same c.args.mark c.in-Plain.other)

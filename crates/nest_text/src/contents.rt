@@ -1,0 +1,148 @@
+//! Scalars, nests and whole files.
+
+ghost use Rattle.std.specs.Prelude.{◌≡◌, ◌<◌, ◌++◌, ◌∷◌, [], List, length, IfOk, OnOk};
+ghost use Rattle.nest_grammar.specs.Names.{names_of};
+ghost use Rattle.nest_grammar.specs.Contents.{version, scalar, scalars, unit, next_unit, other_units, units, contents};
+ghost use Rattle.nest_grammar.specs.declared.version.Version.TheVariants.{Two as VersionTwo};
+ghost use Rattle.nest_grammar.specs.declared.file.Unit.{Unit as NestUnit};
+ghost use Rattle.nest_grammar.specs.declared.opening.LoopWord.{LoopWord as Word};
+ghost use Rattle.nest_text.specs.Answers.{Gives, GivesAs};
+
+use crate::limits::{MOST_NESTS, MOST_SCALARS, most_depth};
+use crate::nesting::loop_word;
+use crate::reader::Reader;
+use crate::refusal::ReadRefusal;
+use nest_grammar::{Declared, File, Scalar, TextKind, Unit, Version};
+use nest_lang::{Nest, Place};
+use nest_tokens::Mark;
+use sqlite_items::Items;
+
+impl<'a> Reader<'a> {
+    /// Reads `nest` and the version.
+    fn version(&mut self) -> Result<Version, ReadRefusal>
+        ensures { Gives result self.new (version self.old) }
+    {
+        self.need(Mark::Nest)?;
+        let version = match self.number_here()? {
+            1 => Version::One,
+            2 => Version::Two,
+            _ => return Err(ReadRefusal::Text(self.fault(TextKind::Version))),
+        };
+        self.skip();
+        self.version = version;
+        Ok(version)
+    }
+
+    /// Reads a scalar behind others with these names.
+    fn scalar(&mut self, scalars: &[Scalar], names: &[Declared]) -> Result<Scalar, ReadRefusal>
+        requires { names.now ≡ names_of scalars.now }
+        ensures read { GivesAs (λ c. scalars.now ++ c ∷ []) result self.new (scalar tt scalars.now self.old) }
+        ensures room { OnOk result (length scalars.now < 16) }
+    {
+        self.obey(scalars.len() < MOST_SCALARS, TextKind::Many)?;
+        self.skip();
+        let name = self.fresh(names)?;
+        self.need(Mark::Assign)?;
+        let value = self.signed()?;
+        Ok(Scalar { name, value })
+    }
+
+    /// Reads the scalars, and adds their names.
+    fn scalars(&mut self, names: &mut Vec<Declared>) -> Result<Items<Scalar>, ReadRefusal>
+        requires { names.old.items ≡ [] }
+        ensures read { Gives result self.new (scalars self.old) }
+        ensures names { IfOk result (λ cs. names.new.items ≡ names_of cs) }
+    {
+        let mut scalars = Items::new(self.alloc);
+        'scalars: while self.token().is(Mark::Scalar) {
+            let scalar = self.scalar(scalars.as_slice(), names.as_slice())?;
+            names.push(Declared {
+                name: scalar.name,
+                place: Place::Scalar(scalars.len() as u8),
+            })?;
+            scalars.push(scalar)?;
+        }
+        Ok(scalars)
+    }
+
+    /// Reads a nest and its candidates.
+    fn unit(&mut self, names: &mut Vec<Declared>) -> Result<Unit, ReadRefusal>
+        ensures read { Gives result self.new (unit names.old.items self.old) }
+        ensures kept { OnOk result (names.new.items ≡ names.old.items) }
+    {
+        let version = self.version;
+        let (loops, loop_names) = self.loops(names, most_depth(version), 0)?;
+        let scripts = self.candidates(loops.len() as u8)?;
+        Ok(Unit {
+            nest: Nest { loops },
+            names: loop_names,
+            scripts,
+        })
+    }
+
+    /// Reads a nest behind so many others.
+    fn next_unit(
+        &mut self,
+        names: &mut Vec<Declared>,
+        count: usize,
+    ) -> Result<Unit, ReadRefusal>
+        ensures read { (word : Word) (before : List NestUnit) → length before ≡ count → GivesAs (λ u. before ++ u ∷ []) result self.new (next_unit names.old.items word before self.old) }
+        ensures kept { OnOk result (names.new.items ≡ names.old.items) }
+    {
+        self.obey(count < MOST_NESTS, TextKind::Many)?;
+        self.unit(names)
+    }
+
+    /// Reads the nests of a file of version 2.
+    fn several_units(
+        &mut self,
+        names: &mut Vec<Declared>,
+        mut units: Items<Unit>,
+    ) -> Result<Items<Unit>, ReadRefusal>
+        ensures read { Gives result self.new (other_units VersionTwo names.old.items units self.old) }
+        ensures kept { OnOk result (names.new.items ≡ names.old.items) }
+    {
+        'units: while let Some(_) = loop_word(self.token()) {
+            let unit = self.next_unit(names, units.len())?;
+            units.push(unit)?;
+        }
+        Ok(units)
+    }
+
+    /// Reads the nests of a file.
+    fn units(
+        &mut self,
+        version: Version,
+        names: &mut Vec<Declared>,
+    ) -> Result<Items<Unit>, ReadRefusal>
+        ensures { Gives result self.new (units version names.old.items self.old) }
+    {
+        let mut units = Items::new(self.alloc);
+        let first = self.unit(names)?;
+        units.push(first)?;
+        match version {
+            Version::One => Ok(units),
+            Version::Two => self.several_units(names, units),
+        }
+    }
+
+    /// Reads all of a file.
+    pub fn contents(&mut self) -> Result<File, ReadRefusal>
+        ensures { Gives result self.new (contents self.old) }
+    {
+        let mut names = Vec::new(self.alloc);
+        let version = self.version()?;
+        let scalars = self.scalars(&mut names)?;
+        let words = self.memory()?;
+        let items = self.items(words)?;
+        let units = self.units(version, &mut names)?;
+        self.end()?;
+        Ok(File {
+            version,
+            scalars,
+            words,
+            items,
+            units,
+        })
+    }
+}

@@ -1,0 +1,144 @@
+//! The memory and the first values of its words.
+
+ghost use Rattle.std.specs.Prelude.{◌≡◌, ◌<◌, ◌++◌, ◌∷◌, ◌^◌, List, length, IfOk, OnOk};
+ghost use Rattle.nest_grammar.specs.Contents.{memory, item_word, value_begins, data_value, data_values, ramp_fits, item_of, item, items};
+ghost use Rattle.nest_grammar.specs.declared.opening.ItemWord.TheVariants.{Data as DataWord, Ramp as RampWord};
+ghost use Rattle.nest_grammar.specs.declared.file.Item.{Item as Entry};
+ghost use Rattle.nest_text.specs.Answers.{Gives, GivesAs};
+
+use crate::limits::MOST_WORDS;
+use crate::reader::{Reader, signed_value};
+use crate::refusal::ReadRefusal;
+use nest_grammar::{Item, ItemWord, TextKind};
+use nest_tokens::{Mark, Token};
+use sqlite_items::Items;
+
+/// The word that an item begins with.
+fn item_word(token: Token) -> Option<ItemWord>
+    ensures { result ≡ item_word token }
+{
+    match token {
+        Token::Plain(Mark::Data) => Some(ItemWord::Data),
+        Token::Plain(Mark::Ramp) => Some(ItemWord::Ramp),
+        _ => None,
+    }
+}
+
+/// Whether a value begins with this token.
+fn value_begins(token: Token) -> bool
+    ensures { result ≡ value_begins token }
+{
+    match token {
+        Token::Number(_) => true,
+        Token::Plain(Mark::Minus) => true,
+        _ => false,
+    }
+}
+
+/// Whether a ramp stays within so many words, and its values within i64.
+fn ramp_fits(words: u64, first: u64, count: u64, stride: u64, start: i64, growth: i64) -> bool
+    requires sizes { (first < 2 ^ 63) × (count < 2 ^ 63) × (stride < 2 ^ 63) }
+    ensures { result ≡ ramp_fits words first count stride start growth }
+{
+    if count == 0 {
+        return true;
+    }
+    let last = u128::from(first) + u128::from(stride) * u128::from(count - 1);
+    let value = i128::from(start) + i128::from(growth) * i128::from(count - 1);
+    last < u128::from(words) && i128::from(i64::MIN) <= value && value <= i128::from(i64::MAX)
+}
+
+impl<'a> Reader<'a> {
+    /// Reads `memory` and its number of words.
+    pub fn memory(&mut self) -> Result<usize, ReadRefusal>
+        ensures { Gives result self.new (memory self.old) }
+    {
+        self.need(Mark::Memory)?;
+        let words = self.number_here()?;
+        self.pass(words <= MOST_WORDS, TextKind::Range)?;
+        Ok(words as usize)
+    }
+
+    /// Reads a value for the word at an address.
+    fn data_value(&mut self, words: usize, address: u64) -> Result<i64, ReadRefusal>
+        ensures read { Gives result self.new (data_value words address self.old) }
+        ensures within { OnOk result (address < words) }
+    {
+        if !value_begins(self.token()) {
+            return Err(ReadRefusal::Text(self.unexpected()));
+        }
+        self.obey(address < words as u64, TextKind::Range)?;
+        self.signed()
+    }
+
+    /// Reads values for the words from an address on.
+    fn data_values(&mut self, words: usize, first: u64) -> Result<Items<i64>, ReadRefusal>
+        requires { first < 2 ^ 63 }
+        ensures { Gives result self.new (data_values words first self.old) }
+    {
+        let mut values = Items::new(self.alloc);
+        let value = self.data_value(words, first)?;
+        values.push(value)?;
+        'values: while self.token().is(Mark::Comma) {
+            self.skip();
+            let value = self.data_value(words, first + values.len() as u64)?;
+            values.push(value)?;
+        }
+        Ok(values)
+    }
+
+    /// Reads what stands behind `data`.
+    fn data(&mut self, words: usize) -> Result<Item, ReadRefusal>
+        ensures { Gives result self.new (item_of words DataWord self.old) }
+    {
+        let first = self.number()?;
+        self.need(Mark::Colon)?;
+        let values = self.data_values(words, first)?;
+        Ok(Item::Data { first, values })
+    }
+
+    /// Reads what stands behind `ramp`.
+    fn ramp(&mut self, words: usize) -> Result<Item, ReadRefusal>
+        ensures { Gives result self.new (item_of words RampWord self.old) }
+    {
+        let first = self.number()?;
+        let count = self.number()?;
+        let stride = self.number_here()?;
+        self.pass(stride != 0, TextKind::Range)?;
+        let start = self.signed()?;
+        let negative = self.sign();
+        let growth = signed_value(negative, self.number_here()?);
+        let fits = ramp_fits(words as u64, first, count, stride, start, growth);
+        self.pass(fits, TextKind::Range)?;
+        Ok(Item::Ramp {
+            first,
+            count,
+            stride,
+            start,
+            growth,
+        })
+    }
+
+    /// Reads an item that begins with this word.
+    fn item(&mut self, words: usize, word: ItemWord) -> Result<Item, ReadRefusal>
+        ensures { (before : List Entry) → GivesAs (λ i. before ++ i ∷ []) result self.new (item words word before self.old) }
+    {
+        self.skip();
+        match word {
+            ItemWord::Data => self.data(words),
+            ItemWord::Ramp => self.ramp(words),
+        }
+    }
+
+    /// Reads the items of a memory of so many words.
+    pub fn items(&mut self, words: usize) -> Result<Items<Item>, ReadRefusal>
+        ensures { Gives result self.new (items words self.old) }
+    {
+        let mut items = Items::new(self.alloc);
+        'items: while let Some(word) = item_word(self.token()) {
+            let item = self.item(words, word)?;
+            items.push(item)?;
+        }
+        Ok(items)
+    }
+}

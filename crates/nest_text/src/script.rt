@@ -1,0 +1,293 @@
+//! Candidates and their scripts.
+
+ghost use Rattle.std.specs.Prelude.{◌≡◌, ◌<◌, ◌≤◌, ◌++◌, ◌∷◌, ℕ, pos, List, length, IfOk, OnOk, nat_le};
+ghost use Rattle.nest_tokens.specs.Lexing.{name_of};
+ghost use Rattle.nest_grammar.specs.Readings.{signed_where};
+ghost use Rattle.nest_grammar.specs.declared.fault.TextKind.TheVariants.{Script as ScriptKind};
+ghost use Rattle.nest_grammar.specs.Scripts.{word_spelling, word_of_name, command_word, how_many, is_seq, is_skew, may_follow, row, row_but, ruled, is_factor, is_size, row_begins, next_row, rows, operands, command, script, candidate, candidates};
+ghost use Rattle.nest_grammar.specs.declared.script.CommandWord.TheVariants.{Swap as SwapWord, Skew as SkewWord, Tile as TileWord};
+ghost use Rattle.nest_text.specs.Answers.{Gives, GivesAs};
+ghost use Rattle.nest_lang.specs.declared.command.Command.{Command as Step};
+ghost use Rattle.nest_text.specs.Parts.{commands, tile_size};
+
+use crate::limits::{MOST_CANDIDATES, MOST_COMMANDS, MOST_ROWS, MOST_SKEWS};
+use crate::reader::{Reader, signed_value};
+use crate::refusal::ReadRefusal;
+use arrayvec::ArrayVec;
+use nest_grammar::{CommandWord, TextKind};
+use nest_lang::Command;
+use nest_tokens::{LONGEST_NAME, Mark, Name, Token};
+use sqlite_items::Items;
+
+/// The greatest size of a tile.
+const MOST_SIZE: u64 = 65_536;
+
+/// The words that a command may begin with.
+const WORDS: [CommandWord; 6] = [
+    CommandWord::Seq,
+    CommandWord::Swap,
+    CommandWord::Skew,
+    CommandWord::Tile,
+    CommandWord::Par,
+    CommandWord::Wave,
+];
+
+/// How a command's word is spelled.
+fn spelling(word: CommandWord) -> &'static [u8]
+    ensures spelled { result.now ≡ word_spelling word }
+    ensures short { length result.now ≤ 32 }
+{
+    match word {
+        CommandWord::Seq => b"seq",
+        CommandWord::Swap => b"swap",
+        CommandWord::Skew => b"skew",
+        CommandWord::Tile => b"tile",
+        CommandWord::Par => b"par",
+        CommandWord::Wave => b"wave",
+    }
+}
+
+/// A command's word as a name, with zeros behind it.
+fn padded(word: CommandWord) -> [u8; 32]
+    ensures { result ≡ (name_of (word_spelling word)).bytes }
+{
+    let spelled = spelling(word);
+    let mut bytes = [0; LONGEST_NAME];
+    bytes[..spelled.len()].copy_from_slice(spelled);
+    bytes
+}
+
+/// The command's word that a name is.
+fn word_of_name(name: Name) -> Option<CommandWord>
+    ensures { result ≡ word_of_name name }
+{
+    WORDS
+        .iter()
+        .copied()
+        .find(|word| padded(*word) == name.bytes)
+}
+
+/// The command's word that a token is.
+fn command_word(token: Token) -> Option<CommandWord>
+    ensures { result ≡ command_word token }
+{
+    match token {
+        Token::Name(name) => word_of_name(name),
+        _ => None,
+    }
+}
+
+/// How many commands are a `seq`.
+fn seqs(commands: &[Command]) -> usize
+    ensures { result ≡ how_many is_seq commands.now }
+{
+    commands
+        .iter()
+        .filter(|command| matches!(command, Command::Seq(_)))
+        .count()
+}
+
+/// How many commands are a `skew`.
+fn skews(commands: &[Command]) -> usize
+    ensures { result ≡ how_many is_skew commands.now }
+{
+    commands
+        .iter()
+        .filter(|command| matches!(command, Command::Skew(_, _, _)))
+        .count()
+}
+
+/// Whether a command of this word may stand behind these: `seq` stands at most once, and `skew` at most
+/// six times.
+fn may_follow(word: CommandWord, commands: &[Command]) -> bool
+    ensures { result ≡ may_follow word commands.now }
+{
+    match word {
+        CommandWord::Seq => seqs(commands) < 1,
+        CommandWord::Skew => skews(commands) < MOST_SKEWS,
+        _ => true,
+    }
+}
+
+/// Sees whether another row's number begins with this token.
+fn row_begins(token: Token) -> Option<()>
+    ensures { result ≡ row_begins token }
+{
+    match token {
+        Token::Number(_) => Some(()),
+        _ => None,
+    }
+}
+
+impl<'a> Reader<'a> {
+    /// Goes past the number of a row.
+    fn row(&mut self, depth: u8) -> Result<u8, ReadRefusal>
+        ensures { Gives result self.new (row depth self.old) }
+    {
+        let number = self.number_here()?;
+        self.pass(1 <= number && number <= u64::from(depth), TextKind::Script)?;
+        Ok(number as u8)
+    }
+
+    /// Goes past the number of another row than this one.
+    fn row_but(&mut self, depth: u8, other: u8) -> Result<u8, ReadRefusal>
+        ensures { Gives result self.new (row_but depth other self.old) }
+    {
+        let number = self.number_here()?;
+        let is_row = 1 <= number && number <= u64::from(depth);
+        self.pass(is_row && number != u64::from(other), TextKind::Script)?;
+        Ok(number as u8)
+    }
+
+    /// Goes past the number of leading rows.
+    fn leading(&mut self, depth: u8) -> Result<u8, ReadRefusal>
+        ensures { Gives result self.new (ruled (λ n. nat_le n depth) self.old) }
+    {
+        let number = self.number_here()?;
+        self.pass(number <= u64::from(depth), TextKind::Script)?;
+        Ok(number as u8)
+    }
+
+    /// Goes past the factor of a `skew`.
+    fn factor(&mut self) -> Result<i64, ReadRefusal>
+        ensures { Gives result self.new (signed_where is_factor ScriptKind self.old) }
+    {
+        let negative = self.sign();
+        let number = self.number_here()?;
+        self.pass(number <= 8, TextKind::Script)?;
+        Ok(signed_value(negative, number))
+    }
+
+    /// Goes past the size of a tile.
+    fn size(&mut self) -> Result<i64, ReadRefusal>
+        ensures { Gives result self.new (tile_size self.old) }
+    {
+        let number = self.number_here()?;
+        self.pass(1 <= number && number <= MOST_SIZE, TextKind::Script)?;
+        Ok(number as i64)
+    }
+
+    /// Goes past the number of a row behind so many others.
+    fn next_row(&mut self, depth: u8, count: usize) -> Result<u8, ReadRefusal>
+        ensures read { (before : List ℕ) → length before ≡ count → GivesAs (λ n. before ++ n ∷ []) result self.new (next_row depth tt before self.old) }
+        ensures room { OnOk result (count < 6) }
+    {
+        self.obey(count < MOST_ROWS, TextKind::Script)?;
+        self.row(depth)
+    }
+
+    /// Reads the numbers of rows.
+    fn rows(&mut self, depth: u8) -> Result<ArrayVec<u8, 6>, ReadRefusal>
+        ensures { GivesAs (λ rows. rows.items) result self.new (rows depth self.old) }
+    {
+        let mut rows = ArrayVec::new();
+        let first = self.row(depth)?;
+        rows.push(first);
+        'rows: while let Some(()) = row_begins(self.token()) {
+            let row = self.next_row(depth, rows.len())?;
+            rows.push(row);
+        }
+        Ok(rows)
+    }
+
+    fn swap(&mut self, depth: u8) -> Result<Command, ReadRefusal>
+        ensures { Gives result self.new (operands depth SwapWord self.old) }
+    {
+        let first = self.row(depth)?;
+        let second = self.row_but(depth, first)?;
+        Ok(Command::Swap(first, second))
+    }
+
+    fn skew(&mut self, depth: u8) -> Result<Command, ReadRefusal>
+        ensures { Gives result self.new (operands depth SkewWord self.old) }
+    {
+        let row = self.row(depth)?;
+        let other = self.row_but(depth, row)?;
+        let factor = self.factor()?;
+        Ok(Command::Skew(row, other, factor))
+    }
+
+    fn tile(&mut self, depth: u8) -> Result<Command, ReadRefusal>
+        ensures { Gives result self.new (operands depth TileWord self.old) }
+    {
+        let row = self.row(depth)?;
+        let size = self.size()?;
+        Ok(Command::Tile(row, size))
+    }
+
+    /// Reads what stands behind a command's word.
+    fn operands(&mut self, depth: u8, word: CommandWord) -> Result<Command, ReadRefusal>
+        ensures { Gives result self.new (operands depth word self.old) }
+    {
+        match word {
+            CommandWord::Seq => Ok(Command::Seq(self.leading(depth)?)),
+            CommandWord::Swap => self.swap(depth),
+            CommandWord::Skew => self.skew(depth),
+            CommandWord::Tile => self.tile(depth),
+            CommandWord::Par => Ok(Command::Par(self.rows(depth)?)),
+            CommandWord::Wave => Ok(Command::Wave(self.rows(depth)?)),
+        }
+    }
+
+    /// Reads a command behind others of its script.
+    fn command(&mut self, depth: u8, before: &[Command]) -> Result<Command, ReadRefusal>
+        ensures { GivesAs (λ c. before.now ++ c ∷ []) result self.new (command depth before.now self.old) }
+    {
+        let Some(word) = command_word(self.token()) else {
+            return Err(ReadRefusal::Text(self.unexpected()));
+        };
+        self.obey(before.len() < MOST_COMMANDS, TextKind::Many)?;
+        self.pass(may_follow(word, before), TextKind::Script)?;
+        self.operands(depth, word)
+    }
+
+    /// Reads commands with a `;` between them.
+    fn commands(&mut self, depth: u8) -> Result<Items<Command>, ReadRefusal>
+        ensures { Gives result self.new (commands depth self.old) }
+    {
+        let mut commands = Items::new(self.alloc);
+        let first = self.command(depth, &[])?;
+        commands.push(first)?;
+        'commands: while self.token().is(Mark::Semicolon) {
+            self.skip();
+            let command = self.command(depth, commands.as_slice())?;
+            commands.push(command)?;
+        }
+        Ok(commands)
+    }
+
+    /// Reads the script of a candidate.
+    fn script(&mut self, depth: u8) -> Result<Items<Command>, ReadRefusal>
+        ensures { Gives result self.new (script depth self.old) }
+    {
+        self.need(Mark::OpenBrace)?;
+        if self.token().is(Mark::CloseBrace) {
+            self.skip();
+            return Ok(Items::new(self.alloc));
+        }
+        let commands = self.commands(depth)?;
+        self.need(Mark::CloseBrace)?;
+        Ok(commands)
+    }
+
+    /// Reads a candidate behind so many others.
+    fn candidate(&mut self, depth: u8, count: usize) -> Result<Items<Command>, ReadRefusal>
+        ensures { (before : List (List Step)) → length before ≡ count → GivesAs (λ cs. before ++ cs ∷ []) result self.new (candidate depth tt before self.old) }
+    {
+        self.obey(count < MOST_CANDIDATES, TextKind::Many)?;
+        self.skip();
+        self.script(depth)
+    }
+
+    /// Reads the candidates of a nest of this depth.
+    pub fn candidates(&mut self, depth: u8) -> Result<Items<Items<Command>>, ReadRefusal>
+        ensures { Gives result self.new (candidates depth self.old) }
+    {
+        let mut candidates = Items::new(self.alloc);
+        'candidates: while self.token().is(Mark::Candidate) {
+            let candidate = self.candidate(depth, candidates.len())?;
+            candidates.push(candidate)?;
+        }
+        Ok(candidates)
+    }
+}
