@@ -7,3 +7,5 @@ pub mod Loops
 pub mod Scripts
 pub mod Versions
 pub mod Contents
+pub mod Main
+pub mod Computed
