@@ -1,5 +1,5 @@
 -- Laws: the reading of a text and the grammar say the same.
-use Rattle.std.specs.Prelude.{◌≡◌, ◌↔◌, ℕ, List, Result, Ok, Err}
+use Rattle.std.specs.Prelude.{◌≡◌, ◌↔◌, ℕ, List, Ok, Err}
 use Rattle.nest_grammar.specs.declared.file.File.{File}
 use Rattle.nest_grammar.specs.declared.fault.TextFault.{TextFault}
 use Rattle.nest_grammar.specs.Contents.{reading}
