@@ -9,3 +9,5 @@ pub mod Versions
 pub mod Contents
 pub mod Main
 pub mod Computed
+pub mod Spelled
+pub mod Rules

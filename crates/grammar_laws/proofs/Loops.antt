@@ -29,7 +29,7 @@ use Rattle.grammar_laws.proofs.Statements.{Follows, opens-follow, close-follows,
 
 -- Completeness.
 
-not_zero-is : (v : ℤ) → v ≢ pos 0 → not_zero v ≡ true
+pub not_zero-is : (v : ℤ) → v ≢ pos 0 → not_zero v ≡ true
 not_zero-is (pos zero) h = absurd (h refl)
 not_zero-is (pos (suc n)) h = let e : nat_le (suc n) 0 ≡ false = leb-suc-zero n in rw e
 not_zero-is (negsuc n) h = refl

@@ -1,6 +1,7 @@
 //! The reading of a text and the grammar say the same; examples.
 
 ghost use Rattle.grammar_laws.specs.Examples.{FaultExamples, ReadingExamples};
+ghost use Rattle.grammar_laws.specs.Rules.{FilesKeepRules};
 ghost use Rattle.grammar_laws.specs.Laws.{FaultOrFile, OneReading, ReadingIsTheGrammar};
 
 /// A text reads as a file exactly where the grammar, as a relation between a text and a file, says that it is
@@ -26,4 +27,12 @@ pub fn fault_or_file()
 pub fn examples()
     ensures readings { ReadingExamples }
     ensures faults { FaultExamples }
+{}
+
+/// Every file that a text is keeps these rules: it has at most 16 scalars, whose names are a letter and then
+/// letters, digits and `_`, at most 32 bytes; at most 1,048,576 words; one to eight nests, each of one to six
+/// loops with no stride 0 and a statement in the innermost body.
+#[tactic(auto, using(crate::proofs::Rules::rules_kept))]
+pub fn files_keep_rules()
+    ensures { FilesKeepRules }
 {}
