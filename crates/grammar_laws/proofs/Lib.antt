@@ -11,3 +11,4 @@ pub mod Main
 pub mod Computed
 pub mod Spelled
 pub mod Rules
+pub mod Refusals
