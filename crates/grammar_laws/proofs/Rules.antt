@@ -1,6 +1,6 @@
 -- Rules: what holds of every file that a text is.
-use Rattle.std.proofs.Common.{◌≡◌, ℕ, zero, suc, ◌+◌, ◌<◌, ◌≤◌, ℤ, pos, List, [], ◌∷◌, ◌++◌, length, length-append, refl, sym, ◌∙◌, ap, subst, arith, Option, Result, Ok, Err, Bool, true, false, nat_le}
-use Rattle.std.specs.Prelude.{◌≢◌, ◌&&◌, not}
+use Rattle.std.proofs.Common.{◌≡◌, ℕ, suc, ◌<◌, ◌≤◌, ℤ, pos, List, [], ◌∷◌, ◌++◌, length, length-append, refl, ◌∙◌, arith, Option, Ok, true, nat_le}
+use Rattle.std.specs.Prelude.{◌≢◌, ◌&&◌}
 use Rattle.std.specs.List.{All}
 use Rattle.std.proofs.lemmas.Bool.{le-leb}
 use Rattle.std.proofs.lemmas.List.Elements.{All-nil, All-push}
