@@ -3,3 +3,8 @@ pub mod Parts
 pub mod Expressions
 pub mod Statements
 pub mod Early
+pub mod Sentences
+pub mod Viable
+pub mod Bodies
+pub mod Files
+pub mod Late
