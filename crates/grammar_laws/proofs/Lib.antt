@@ -1,5 +1,6 @@
 pub mod Steps
 pub mod Parts
+pub mod Tests
 pub mod Expressions
 pub mod Statements
 pub mod Early
@@ -8,3 +9,11 @@ pub mod Viable
 pub mod Bodies
 pub mod Files
 pub mod Late
+pub mod Loops
+pub mod Scripts
+pub mod Versions
+pub mod Contents
+pub mod Main
+pub mod Computed
+pub mod Spelled
+pub mod Rules
