@@ -17,3 +17,5 @@ pub mod Main
 pub mod Computed
 pub mod Spelled
 pub mod Rules
+pub mod Completing
+pub mod Completed
