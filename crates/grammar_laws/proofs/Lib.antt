@@ -17,5 +17,3 @@ pub mod Main
 pub mod Computed
 pub mod Spelled
 pub mod Rules
-pub mod Completing
-pub mod Completed

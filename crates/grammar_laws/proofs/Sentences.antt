@@ -188,7 +188,7 @@ at-last h hf = at-as then-nothing (of-then h ([], nothing) hf)
 abbrev pub Real : Token → Type 0
 Real t = t ≡ token.End → ⊥
 
-pub spot-here : (s : Sight) (t : Token) → stands s ≡ t → Real t → (y : Spot) × (s.left ≡ y ∷ (skip s).left) × (y.token ≡ t)
+spot-here : (s : Sight) (t : Token) → stands s ≡ t → Real t → (y : Spot) × (s.left ≡ y ∷ (skip s).left) × (y.token ≡ t)
 unfolding here skip
 spot-here s t e real = elim s.left as (λ l. (first s.size l).token ≡ t → (y : Spot) × (l ≡ y ∷ rest l) × (y.token ≡ t)) [ [] ↦ λ k. absurd (real (sym k)) | y ∷ ys ↦ λ k. (y, refl, k) ] e
 

@@ -150,20 +150,20 @@ at-operated part h w p a s t k real v = of-then (at-taken t k real v) w (λ _ u.
 of-parts : {e o : Form} (operator : Token → Option Op) (part : Reading Expr) → Of e part → Word e → ((t : Token) (p : Op) → operator t ≡ Some p → Real t × Allows o (t ∷ [])) → Of (e · Many (o · e)) (parts operator part)
 of-parts operator part h w k s = of-then (h s) word-many (λ a. of-many operator (operated part) (λ p a t q. (let v = k (stands t) p q in at-operated part h w p a t (stands t) refl v.0 v.1)) a)
 
-pub products : (t : Token) (p : Op) → product_of t ≡ Some p → Real t × Allows (Sign mark.Times ∣ Sign mark.Divide ∣ Sign mark.Remainder) (t ∷ [])
+products : (t : Token) (p : Op) → product_of t ≡ Some p → Real t × Allows (Sign mark.Times ∣ Sign mark.Divide ∣ Sign mark.Remainder) (t ∷ [])
 unfolding product_of
 products (token.Plain mark.Times) p h = (λ k. cc, one sign)
 products (token.Plain mark.Divide) p h = (λ k. cc, other (one sign))
 products (token.Plain mark.Remainder) p h = (λ k. cc, other (other sign))
 products _ p h = absurd (cc)
 
-pub additions : (t : Token) (p : Op) → addition_of t ≡ Some p → Real t × Allows (Sign mark.Plus ∣ Sign mark.Minus) (t ∷ [])
+additions : (t : Token) (p : Op) → addition_of t ≡ Some p → Real t × Allows (Sign mark.Plus ∣ Sign mark.Minus) (t ∷ [])
 unfolding addition_of
 additions (token.Plain mark.Plus) p h = (λ k. cc, one sign)
 additions (token.Plain mark.Minus) p h = (λ k. cc, other sign)
 additions _ p h = absurd (cc)
 
-pub comparisons : (t : Token) (p : Op) → comparison_of t ≡ Some p → Real t × Allows (Sign mark.Equal ∣ Sign mark.NotEqual ∣ Sign mark.Less ∣ Sign mark.AtMost ∣ Sign mark.Greater ∣ Sign mark.AtLeast) (t ∷ [])
+comparisons : (t : Token) (p : Op) → comparison_of t ≡ Some p → Real t × Allows (Sign mark.Equal ∣ Sign mark.NotEqual ∣ Sign mark.Less ∣ Sign mark.AtMost ∣ Sign mark.Greater ∣ Sign mark.AtLeast) (t ∷ [])
 unfolding comparison_of
 comparisons (token.Plain mark.Equal) p h = (λ k. cc, one sign)
 comparisons (token.Plain mark.NotEqual) p h = (λ k. cc, other (one sign))

@@ -3,4 +3,3 @@ pub mod Phrases
 pub mod Laws
 pub mod Examples
 pub mod Rules
-pub mod Completions

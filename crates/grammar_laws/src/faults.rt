@@ -1,7 +1,6 @@
 //! Where faults stand.
 
 ghost use Rattle.grammar_laws.specs.Beginnings.{ContentsFaultNotTooEarly, FaultNotTooEarly};
-ghost use Rattle.grammar_laws.specs.Completions.{ExpressionCompletes};
 ghost use Rattle.grammar_laws.specs.Phrases.{FaultNotTooLate, ReadTextIsSentence};
 
 /// A fault is not too early: it stands at a token of the text, or at its end, and each text that has the
@@ -18,11 +17,4 @@ pub fn not_too_early()
 pub fn not_too_late()
     ensures fault { FaultNotTooLate }
     ensures read { ReadTextIsSentence }
-{}
-
-/// What stands before an `Expected` in an expression can be gone on with, so that the grammar reads an
-/// expression there with all its rules but the limit on the tokens of an expression.
-#[tactic(auto, using(crate::proofs::Completed::completed))]
-pub fn expected_completes()
-    ensures expression { ExpressionCompletes }
 {}
