@@ -54,56 +54,49 @@ SeesName n s = stands s ≡ token.Name n
 pub data Part : Type 0 where
   Unary Term Sum Whole : Part
 
--- `IsIn room names part d s e t`: from s to t stands the expression e, as this part, where these names are
--- visible, d more brackets, parentheses and prefix signs may be open at once, and `room` says where one more
--- token may be taken. A load is numbered behind the loads of its address.
-pub data IsIn (room : Sight → Type 0) (names : Names) : Part → ℕ → Sight → Expr → Sight → Type 0 where
-  number : {d : ℕ} {n : ℤ} {s : Sight} → stands s ≡ token.Number n → room s → IsIn room names Unary d s (Number n) (spend s)
-  variable : {d : ℕ} {n : Name} {p : Place} {s : Sight} → SeesName n s → place_of names n ≡ Some p → room s → IsIn room names Unary d s (Var p) (spend s)
-  minus : {d : ℕ} {e : Expr} {s t : Sight} → Sees mark.Minus s → room s → IsIn room names Unary d (spend s) e t → IsIn room names Unary (suc d) s (Neg e) t
-  parens : {d : ℕ} {e : Expr} {s t : Sight} → Sees mark.Open s → room s → IsIn room names Whole d (spend s) e t → Sees mark.Close t → room t → IsIn room names Unary (suc d) s e (spend t)
-  load : {d : ℕ} {e : Expr} {s t : Sight} → Sees mark.OpenBracket s → AccessRoom s → room s → IsIn room names Whole d (spend (opens s)) e t → Sees mark.CloseBracket t → room t → IsIn room names Unary (suc d) s (Load (t.accesses + 1) e) (numbered (spend t))
-  factor : {d : ℕ} {e : Expr} {s t : Sight} → IsIn room names Unary d s e t → IsIn room names Term d s e t
-  product : {d : ℕ} {o : Op} {a b : Expr} {s t u : Sight} → IsIn room names Term d s a t → product_of (stands t) ≡ Some o → room t → IsIn room names Unary d (spend t) b u → IsIn room names Term d s (Two o a b) u
-  summand : {d : ℕ} {e : Expr} {s t : Sight} → IsIn room names Term d s e t → IsIn room names Sum d s e t
-  addition : {d : ℕ} {o : Op} {a b : Expr} {s t u : Sight} → IsIn room names Sum d s a t → addition_of (stands t) ≡ Some o → room t → IsIn room names Term d (spend t) b u → IsIn room names Sum d s (Two o a b) u
-  side : {d : ℕ} {e : Expr} {s t : Sight} → IsIn room names Sum d s e t → IsIn room names Whole d s e t
-  comparison : {d : ℕ} {o : Op} {a b : Expr} {s t u : Sight} → IsIn room names Sum d s a t → comparison_of (stands t) ≡ Some o → room t → IsIn room names Sum d (spend t) b u → IsIn room names Whole d s (Two o a b) u
+-- `Is names part d s e t`: from s to t stands the expression e, as this part, where these names are visible
+-- and d more brackets, parentheses and prefix signs may be open at once. A load is numbered behind the
+-- loads of its address.
+pub data Is (names : Names) : Part → ℕ → Sight → Expr → Sight → Type 0 where
+  number : {d : ℕ} {n : ℤ} {s : Sight} → stands s ≡ token.Number n → Room s → Is names Unary d s (Number n) (spend s)
+  variable : {d : ℕ} {n : Name} {p : Place} {s : Sight} → SeesName n s → place_of names n ≡ Some p → Room s → Is names Unary d s (Var p) (spend s)
+  minus : {d : ℕ} {e : Expr} {s t : Sight} → Sees mark.Minus s → Room s → Is names Unary d (spend s) e t → Is names Unary (suc d) s (Neg e) t
+  parens : {d : ℕ} {e : Expr} {s t : Sight} → Sees mark.Open s → Room s → Is names Whole d (spend s) e t → Sees mark.Close t → Room t → Is names Unary (suc d) s e (spend t)
+  load : {d : ℕ} {e : Expr} {s t : Sight} → Sees mark.OpenBracket s → AccessRoom s → Room s → Is names Whole d (spend (opens s)) e t → Sees mark.CloseBracket t → Room t → Is names Unary (suc d) s (Load (t.accesses + 1) e) (numbered (spend t))
+  factor : {d : ℕ} {e : Expr} {s t : Sight} → Is names Unary d s e t → Is names Term d s e t
+  product : {d : ℕ} {o : Op} {a b : Expr} {s t u : Sight} → Is names Term d s a t → product_of (stands t) ≡ Some o → Room t → Is names Unary d (spend t) b u → Is names Term d s (Two o a b) u
+  summand : {d : ℕ} {e : Expr} {s t : Sight} → Is names Term d s e t → Is names Sum d s e t
+  addition : {d : ℕ} {o : Op} {a b : Expr} {s t u : Sight} → Is names Sum d s a t → addition_of (stands t) ≡ Some o → Room t → Is names Term d (spend t) b u → Is names Sum d s (Two o a b) u
+  side : {d : ℕ} {e : Expr} {s t : Sight} → Is names Sum d s e t → Is names Whole d s e t
+  comparison : {d : ℕ} {o : Op} {a b : Expr} {s t u : Sight} → Is names Sum d s a t → comparison_of (stands t) ≡ Some o → Room t → Is names Sum d (spend t) b u → Is names Whole d s (Two o a b) u
 
 -- a whole expression
-abbrev pub IsExpressionIn : (Sight → Type 0) → Names → Sight → Expr → Sight → Type 0
-IsExpressionIn room names s e t = IsIn room names Whole most_open (afresh s) e t
-
--- the same, within the limit
-abbrev pub Is : Names → Part → ℕ → Sight → Expr → Sight → Type 0
-Is = IsIn Room
-
 abbrev pub IsExpression : Names → Sight → Expr → Sight → Type 0
-IsExpression = IsExpressionIn Room
+IsExpression names s e t = Is names Whole most_open (afresh s) e t
 
 mutual
-  -- `IsStmtIn room d names s st ns t`: from s to t stands the statement st, where d more conditions may stand
+  -- `IsStmt d names s st ns t`: from s to t stands the statement st, where d more conditions may stand
   -- within one another, and behind it the names ns are visible. A store is numbered behind the loads of
   -- its address and its value.
-  pub data IsStmtIn (room : Sight → Type 0) : ℕ → Names → Sight → Stmt → Names → Sight → Type 0 where
-    let_ : {d : ℕ} {names : Names} {n : Name} {e : Expr} {s t u : Sight} → Sees mark.Let s → length s.lets < most_lets → SeesName n (skip s) → place_of names n ≡ None → t ≡ bound n (skip (skip s)) → Sees mark.Assign t → IsExpressionIn room names (skip t) e u → IsStmtIn room d names s (Let (length s.lets) e) (names ++ declared n (place.Local (length s.lets)) ∷ []) u
-    set : {d k : ℕ} {names : Names} {n : Name} {e : Expr} {s t : Sight} → SeesName n s → place_of names n ≡ Some (place.Scalar k) → Sees mark.Assign (skip s) → IsExpressionIn room names (skip (skip s)) e t → IsStmtIn room d names s (Set k e) names t
-    store : {d : ℕ} {names : Names} {a e : Expr} {s t u : Sight} → Sees mark.OpenBracket s → AccessRoom s → IsExpressionIn room names (skip (opens s)) a t → Sees mark.CloseBracket t → Sees mark.Assign (skip t) → IsExpressionIn room names (skip (skip t)) e u → IsStmtIn room d names s (Store (u.accesses + 1) a e) names (numbered u)
-    when : {d : ℕ} {names : Names} {e : Expr} {xs : List Stmt} {s t u : Sight} → Sees mark.If s → IsExpressionIn room names (skip s) e t → IsBracedIn room d names t xs u → IsStmtIn room (suc d) names s (If e xs []) names u
-    either : {d : ℕ} {names : Names} {e : Expr} {xs ys : List Stmt} {s t u v : Sight} → Sees mark.If s → IsExpressionIn room names (skip s) e t → IsBracedIn room d names t xs u → Sees mark.Else u → IsBracedIn room d names (skip u) ys v → IsStmtIn room (suc d) names s (If e xs ys) names v
+  pub data IsStmt : ℕ → Names → Sight → Stmt → Names → Sight → Type 0 where
+    let_ : {d : ℕ} {names : Names} {n : Name} {e : Expr} {s t u : Sight} → Sees mark.Let s → length s.lets < most_lets → SeesName n (skip s) → place_of names n ≡ None → t ≡ bound n (skip (skip s)) → Sees mark.Assign t → IsExpression names (skip t) e u → IsStmt d names s (Let (length s.lets) e) (names ++ declared n (place.Local (length s.lets)) ∷ []) u
+    set : {d k : ℕ} {names : Names} {n : Name} {e : Expr} {s t : Sight} → SeesName n s → place_of names n ≡ Some (place.Scalar k) → Sees mark.Assign (skip s) → IsExpression names (skip (skip s)) e t → IsStmt d names s (Set k e) names t
+    store : {d : ℕ} {names : Names} {a e : Expr} {s t u : Sight} → Sees mark.OpenBracket s → AccessRoom s → IsExpression names (skip (opens s)) a t → Sees mark.CloseBracket t → Sees mark.Assign (skip t) → IsExpression names (skip (skip t)) e u → IsStmt d names s (Store (u.accesses + 1) a e) names (numbered u)
+    when : {d : ℕ} {names : Names} {e : Expr} {xs : List Stmt} {s t u : Sight} → Sees mark.If s → IsExpression names (skip s) e t → IsBraced d names t xs u → IsStmt (suc d) names s (If e xs []) names u
+    either : {d : ℕ} {names : Names} {e : Expr} {xs ys : List Stmt} {s t u v : Sight} → Sees mark.If s → IsExpression names (skip s) e t → IsBraced d names t xs u → Sees mark.Else u → IsBraced d names (skip u) ys v → IsStmt (suc d) names s (If e xs ys) names v
 
   -- "{" { stmt } "}"; a local is visible up to the end of the list
-  pub data IsBracedIn (room : Sight → Type 0) : ℕ → Names → Sight → List Stmt → Sight → Type 0 where
-    braced : {d : ℕ} {names ns : Names} {xs : List Stmt} {s t : Sight} → Sees mark.OpenBrace s → IsListIn room d names (skip s) xs ns t → Sees mark.CloseBrace t → IsBracedIn room d names s xs (skip t)
+  pub data IsBraced : ℕ → Names → Sight → List Stmt → Sight → Type 0 where
+    braced : {d : ℕ} {names ns : Names} {xs : List Stmt} {s t : Sight} → Sees mark.OpenBrace s → IsList d names (skip s) xs ns t → Sees mark.CloseBrace t → IsBraced d names s xs (skip t)
 
   -- { stmt }
-  pub data IsListIn (room : Sight → Type 0) : ℕ → Names → Sight → List Stmt → Names → Sight → Type 0 where
-    none : {d : ℕ} {names : Names} {s : Sight} → IsListIn room d names s [] names s
-    more : {d : ℕ} {names ms ns : Names} {xs : List Stmt} {st : Stmt} {s t u : Sight} → IsListIn room d names s xs ms t → IsStmtIn room d ms t st ns u → IsListIn room d names s (xs ++ st ∷ []) ns u
+  pub data IsList : ℕ → Names → Sight → List Stmt → Names → Sight → Type 0 where
+    none : {d : ℕ} {names : Names} {s : Sight} → IsList d names s [] names s
+    more : {d : ℕ} {names ms ns : Names} {xs : List Stmt} {st : Stmt} {s t u : Sight} → IsList d names s xs ms t → IsStmt d ms t st ns u → IsList d names s (xs ++ st ∷ []) ns u
 
 -- the statements of a block, and the names of its locals by their numbers
-pub data IsBlockIn (room : Sight → Type 0) (names : Names) : Sight → List Stmt → List Name → Sight → Type 0 where
-  block : {ns : Names} {xs : List Stmt} {s t : Sight} → IsListIn room most_ifs names (in_block s) xs ns t → IsBlockIn room names s xs t.lets t
+pub data IsBlock (names : Names) : Sight → List Stmt → List Name → Sight → Type 0 where
+  block : {ns : Names} {xs : List Stmt} {s t : Sight} → IsList most_ifs names (in_block s) xs ns t → IsBlock names s xs t.lets t
 
 -- [ "-" ] number
 pub data IsSigned : Sight → ℤ → Sight → Type 0 where
@@ -116,34 +109,15 @@ pub data IsStride : Sight → ℤ → Sight → Type 0 where
   written : {k : ℤ} {s t : Sight} → Sees mark.Step s → IsSigned (skip s) k t → k ≢ pos 0 → IsStride s k t
 
 -- the head of a loop, a block of its own, and the name of the loop's turns
-pub data IsHeadingIn (room : Sight → Type 0) (names : Names) : Sight → Head → Option Name → Sight → Type 0 where
-  counting : {n : Name} {lower upper : Expr} {k : ℤ} {s t u v : Sight} → Sees mark.For s → SeesName n (skip s) → place_of names n ≡ None → Sees mark.Assign (skip (skip s)) → IsExpressionIn room names (in_block (skip (skip (skip s)))) lower t → Sees mark.Below t → IsExpressionIn room names (skip t) upper u → IsStride u k v → IsHeadingIn room names s (For lower upper k) (Some n) v
-  asking : {e : Expr} {s t : Sight} → Sees mark.While s → IsExpressionIn room names (in_block (skip s)) e t → IsHeadingIn room names s (While e) None t
+pub data IsHeading (names : Names) : Sight → Head → Option Name → Sight → Type 0 where
+  counting : {n : Name} {lower upper : Expr} {k : ℤ} {s t u v : Sight} → Sees mark.For s → SeesName n (skip s) → place_of names n ≡ None → Sees mark.Assign (skip (skip s)) → IsExpression names (in_block (skip (skip (skip s)))) lower t → Sees mark.Below t → IsExpression names (skip t) upper u → IsStride u k v → IsHeading names s (For lower upper k) (Some n) v
+  asking : {e : Expr} {s t : Sight} → Sees mark.While s → IsExpression names (in_block (skip s)) e t → IsHeading names s (While e) None t
 
--- `IsLoopsIn room d level names s ls ns t`: from s to t stands a loop at a level, from 0, with the loops in it, where
+-- `IsLoops d level names s ls ns t`: from s to t stands a loop at a level, from 0, with the loops in it, where
 -- d levels are allowed from here on. A body has a statement or an inner loop.
-pub data IsLoopsIn (room : Sight → Type 0) : ℕ → ℕ → Names → Sight → List Loop → List LoopNames → Sight → Type 0 where
-  innermost : {d level : ℕ} {names : Names} {h : Head} {n : Option Name} {pre : List Stmt} {lets : List Name} {s t u : Sight} → IsHeadingIn room names s h n t → Sees mark.OpenBrace t → IsBlockIn room (inside names level n) (skip t) pre lets u → pre ≢ [] → Sees mark.CloseBrace u → IsLoopsIn room (suc d) level names s (record { head = h; pre = pre; post = [] } ∷ []) (record { counter = n; pre = lets; post = [] } ∷ []) (skip u)
-  outer : {d level : ℕ} {names : Names} {h : Head} {n : Option Name} {pre post : List Stmt} {lets post_lets : List Name} {ls : List Loop} {ns : List LoopNames} {s t u v w : Sight} → IsHeadingIn room names s h n t → Sees mark.OpenBrace t → IsBlockIn room (inside names level n) (skip t) pre lets u → IsLoopsIn room d (suc level) (inside names level n) u ls ns v → IsBlockIn room (inside names level n) v post post_lets w → Sees mark.CloseBrace w → IsLoopsIn room (suc d) level names s (record { head = h; pre = pre; post = post } ∷ ls) (record { counter = n; pre = lets; post = post_lets } ∷ ns) (skip w)
-
--- statements, blocks, heads and loops within the limit on the tokens of an expression
-abbrev pub IsStmt : ℕ → Names → Sight → Stmt → Names → Sight → Type 0
-IsStmt = IsStmtIn Room
-
-abbrev pub IsBraced : ℕ → Names → Sight → List Stmt → Sight → Type 0
-IsBraced = IsBracedIn Room
-
-abbrev pub IsList : ℕ → Names → Sight → List Stmt → Names → Sight → Type 0
-IsList = IsListIn Room
-
-abbrev pub IsBlock : Names → Sight → List Stmt → List Name → Sight → Type 0
-IsBlock = IsBlockIn Room
-
-abbrev pub IsHeading : Names → Sight → Head → Option Name → Sight → Type 0
-IsHeading = IsHeadingIn Room
-
-abbrev pub IsLoops : ℕ → ℕ → Names → Sight → List Loop → List LoopNames → Sight → Type 0
-IsLoops = IsLoopsIn Room
+pub data IsLoops : ℕ → ℕ → Names → Sight → List Loop → List LoopNames → Sight → Type 0 where
+  innermost : {d level : ℕ} {names : Names} {h : Head} {n : Option Name} {pre : List Stmt} {lets : List Name} {s t u : Sight} → IsHeading names s h n t → Sees mark.OpenBrace t → IsBlock (inside names level n) (skip t) pre lets u → pre ≢ [] → Sees mark.CloseBrace u → IsLoops (suc d) level names s (record { head = h; pre = pre; post = [] } ∷ []) (record { counter = n; pre = lets; post = [] } ∷ []) (skip u)
+  outer : {d level : ℕ} {names : Names} {h : Head} {n : Option Name} {pre post : List Stmt} {lets post_lets : List Name} {ls : List Loop} {ns : List LoopNames} {s t u v w : Sight} → IsHeading names s h n t → Sees mark.OpenBrace t → IsBlock (inside names level n) (skip t) pre lets u → IsLoops d (suc level) (inside names level n) u ls ns v → IsBlock (inside names level n) v post post_lets w → Sees mark.CloseBrace w → IsLoops (suc d) level names s (record { head = h; pre = pre; post = post } ∷ ls) (record { counter = n; pre = lets; post = post_lets } ∷ ns) (skip w)
 
 -- number { number }: rows of a nest of this depth
 pub data IsRows (depth : ℕ) : Sight → List ℕ → Sight → Type 0 where
