@@ -3,6 +3,12 @@ pub mod Parts
 pub mod Tests
 pub mod Expressions
 pub mod Statements
+pub mod Early
+pub mod Sentences
+pub mod Viable
+pub mod Bodies
+pub mod Files
+pub mod Late
 pub mod Loops
 pub mod Scripts
 pub mod Versions

@@ -1,3 +1,5 @@
+pub mod Beginnings
+pub mod Phrases
 pub mod Laws
 pub mod Examples
 pub mod Rules
