@@ -1,9 +1,7 @@
 -- Contents: the readings of scalars, items, nests and files and the grammar say the same.
-use Rattle.std.proofs.Common.{◌≡◌, ℕ, zero, suc, ◌+◌, ◌<◌, ◌≤◌, ℤ, pos, negsuc, List, [], ◌∷◌, ◌++◌, length, refl, sym, ◌∙◌, ap, subst, Option, Some, None, Result, Ok, Err, Bool, true, false, cond, nat_le, nat_lt}
-use Rattle.std.specs.Prelude.{◌≢◌, ◌==◌, not}
+use Rattle.std.proofs.Common.{◌≡◌, ℕ, ◌+◌, ◌<◌, ◌≤◌, ℤ, pos, List, [], ◌∷◌, ◌++◌, length, refl, sym, ◌∙◌, ap, subst, Some, None, Result, Ok, Err, Bool, true, false, cond, nat_le, nat_lt}
+use Rattle.std.specs.Prelude.{◌==◌, not}
 use Rattle.std.proofs.lemmas.Bool.{lt-ltb, ltb-true, le-leb, leb-true, eqb-true}
-use Rattle.nest_lang.specs.declared.tree.Loop.{Loop}
-use Rattle.nest_lang.specs.declared.tree.Nest.{Nest}
 use Rattle.nest_tokens.specs.declared.token.Name.{Name}
 use Rattle.nest_tokens.specs.declared.token.Token.{Token}
 use Rattle.nest_tokens.specs.declared.token.Token.TheVariants as token
@@ -14,7 +12,6 @@ use Rattle.nest_grammar.specs.declared.version.Version.TheVariants.{One, Two as 
 use Rattle.nest_grammar.specs.declared.file.Scalar.{Scalar}
 use Rattle.nest_grammar.specs.declared.file.Item.{Item}
 use Rattle.nest_grammar.specs.declared.file.Item.TheVariants.{Data, Ramp}
-use Rattle.nest_grammar.specs.declared.file.LoopNames.{LoopNames}
 use Rattle.nest_grammar.specs.declared.file.Unit.{Unit as NestUnit}
 use Rattle.nest_grammar.specs.declared.file.File.{File}
 use Rattle.nest_grammar.specs.declared.opening.ItemWord.{ItemWord}
@@ -24,17 +21,17 @@ use Rattle.nest_grammar.specs.declared.fault.TextFault.{TextFault}
 use Rattle.nest_grammar.specs.declared.fault.TextKind.TheVariants as kind
 use Rattle.nest_grammar.specs.Limits.{most_bytes, most_words, most_scalars, most_nests, most_depth}
 use Rattle.nest_grammar.specs.Sights.{Sight, stands, Sees, skip, of_version, start}
-use Rattle.nest_grammar.specs.Readings.{Reading, after, ◌>>=◌, gives, refused, wrong, skipped, need, obeys, fewer, number, number_where, signed, signed_where, at_mark, many, end}
-use Rattle.nest_grammar.specs.Names.{Names, place_of, fresh, names_of}
-use Rattle.nest_grammar.specs.Loops.{Loops, loop_word, loops}
-use Rattle.nest_grammar.specs.Scripts.{Script, candidate, candidates}
-use Rattle.nest_grammar.specs.Contents.{set_version, version_at, version, scalar, scalars, memory, item_word, value_begins, data_value, next_value, data_values, ramp_fits, item_of, item, items, outermost, unit, next_unit, other_units, units, contents, file_of, too_long, reading}
+use Rattle.nest_grammar.specs.Readings.{Reading, after, ◌>>=◌, refused, wrong, need, obeys, number, number_where, signed, at_mark, many}
+use Rattle.nest_grammar.specs.Names.{Names, place_of, names_of}
+use Rattle.nest_grammar.specs.Loops.{loop_word, loops}
+use Rattle.nest_grammar.specs.Scripts.{candidate, candidates}
+use Rattle.nest_grammar.specs.Contents.{set_version, version_at, version, scalar, scalars, memory, item_word, value_begins, data_value, next_value, data_values, ramp_fits, item_of, item, items, unit, next_unit, other_units, units, contents, file_of, too_long, reading}
 use Rattle.nest_grammar.specs.Grammar.{SeesNumber, SeesName, IsSigned, unsigned, negative, IsLoops, IsCandidates, IsUnit, IsUnits, IsScalars, IsValues, IsItem, data_, ramp, IsItems, IsVersion, Reads}
 use Rattle.nest_grammar.specs.Grammar as grammar
 use Rattle.nest_grammar.proofs.Many.{many-stop}
 use Rattle.nest_grammar.proofs.Productions.{parts-item, parts-next_unit}
 use Rattle.nest_grammar.proofs.Chains.{parts-scalar, parts-value}
-use Rattle.grammar_laws.proofs.Steps.{sees-is, need-sees, obeys-true, fewer-room, fresh-sees, number-sees, signed-is, end-is, given, read-then, need-then, obeys-then, fewer-then, fresh-then, number-then, number-ok, signed-then, signed-ok, end-then}
+use Rattle.grammar_laws.proofs.Steps.{need-sees, obeys-true, fewer-room, fresh-sees, number-sees, signed-is, end-is, given, read-then, need-then, obeys-then, fewer-then, fresh-then, number-then, number-ok, signed-then, signed-ok, end-then}
 use Rattle.grammar_laws.proofs.Parts.{many-sound, many-reads}
 use Rattle.grammar_laws.proofs.Tests.{not-equal, equal-not, mark-begins, mark-sees}
 use Rattle.grammar_laws.proofs.Loops.{loops-complete, loops-front, loops-sound}
@@ -313,12 +310,14 @@ version-sound s x h = let f = need-then mark.Nest _ s x h in at f.0 (stands (ski
         let z : n ≡ 2 = eqb-true n 2 k in
         rw q (grammar.two h (e ∙ ap (λ (m : ℕ). token.Number (pos m)) z))
     two n h e false k r = absurd (cc)
+
     one : (n : ℕ) → Sees mark.Nest s → SeesNumber n (skip s) → (b : Bool) → (n == 1) ≡ b → cond b (set_version One) (cond (n == 2) (set_version Several) (refused kind.Version)) (skip s) ≡ Ok x → IsVersion s x.0 x.1
     one n h e true k r =
         let q : x ≡ (One, of_version One (skip (skip s))) = cc in
         let z : n ≡ 1 = eqb-true n 1 k in
         rw q (grammar.one h (e ∙ ap (λ (m : ℕ). token.Number (pos m)) z))
     one n h e false k r = two n h e (n == 2) refl r
+
     at : Sees mark.Nest s → (t : Token) → stands (skip s) ≡ t → version_at t (skip s) ≡ Ok x → IsVersion s x.0 x.1
     at h (token.Number (pos n)) e k = one n h e (n == 1) refl k
     at h _ e k = absurd (cc)

@@ -36,7 +36,7 @@ contents_fault s f e =
 
 -- No token of a text is its end
 
-abbrev Real : Token → Type 0
+abbrev pub Real : Token → Type 0
 Real t = t ≡ token.End → ⊥
 
 real-numbered : (ds : List ℕ) → Real (numbered ds)
@@ -65,7 +65,7 @@ real-lexed b bs h = elim (is_letter b) as (λ x. (cond x (spelled_by (b ∷ bs) 
   ] k
 ] h
 
-abbrev AllReal : List Spot → Type 0
+abbrev pub AllReal : List Spot → Type 0
 AllReal [] = Unit {0}
 AllReal (x ∷ xs) = Real x.token × AllReal xs
 
@@ -78,11 +78,11 @@ unfolding spots
 real-spots zero size bs = tt
 real-spots (suc n) size bs = real-spots_at (spots n size) (real-spots n size) size (gap false bs)
 
-real-tokens : (text : List ℕ) → AllReal (tokens text)
+pub real-tokens : (text : List ℕ) → AllReal (tokens text)
 unfolding tokens_from
 real-tokens text = real-spots (length text) (length text) text
 
-real-at : (before : List Spot) (x : Spot) (rest : List Spot) → AllReal (before ++ x ∷ rest) → Real x.token
+pub real-at : (before : List Spot) (x : Spot) (rest : List Spot) → AllReal (before ++ x ∷ rest) → Real x.token
 real-at [] x rest h = h.0
 real-at (y ∷ ys) x rest h = real-at ys x rest h.1
 
@@ -110,20 +110,19 @@ end-behind (a ∷ l) (y ∷ ys) e x rest r h i =
     let n = end-behind l ys e x rest r.1 k i in
     ((rw q (ap (λ (z : List Spot). y ∷ z) n.0)), n.1)
 
-end_of : ℕ → Spot
+abbrev pub end_of : ℕ → Spot
 end_of size = record { at = size; token = token.End }
 
 -- the reading of a text that is not too long
-reading-short : (text : List ℕ) → length text ≤ most_bytes → reading text ≡ file_of (contents (start text))
+pub reading-short : (text : List ℕ) → length text ≤ most_bytes → reading text ≡ file_of (contents (start text))
 unfolding reading
 reading-short text h = (let k : nat_le (length text) most_bytes ≡ true = le-leb (length text) most_bytes h in rw k refl)
 
-file_of-err : (r : Result (File × Sight) TextFault) (f : TextFault) → file_of r ≡ Err f → r ≡ Err f
+pub file_of-err : (r : Result (File × Sight) TextFault) (f : TextFault) → file_of r ≡ Err f → r ≡ Err f
 file_of-err (Ok x) f h = absurd (cc)
 file_of-err (Err g) f h = cc
 
 fault-at : (text : List ℕ) (f : TextFault) (h : FaultBehind (start text) f) (more : List Spot) → h.behind ≡ more → FaultAt text f
-unfolding end_of
 fault-at text f h [] e =
     let l : tokens text ≡ h.before = h.left ∙ ap (λ (z : List Spot). h.before ++ z) e ∙ append-nil h.before in
     record {

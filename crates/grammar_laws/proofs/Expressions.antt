@@ -1,5 +1,5 @@
 -- Expressions: their readings and the grammar say the same.
-use Rattle.std.proofs.Common.{◌≡◌, ℕ, zero, suc, ◌+◌, ◌<◌, ℤ, List, [], ◌∷◌, refl, sym, ◌∙◌, ap, subst, Option, Some, None, Result, Ok, Err}
+use Rattle.std.proofs.Common.{◌≡◌, ℕ, zero, suc, refl, ◌∙◌, ap, Option, Some, None, Ok}
 use Rattle.nest_lang.specs.declared.tree.Place.{Place}
 use Rattle.nest_lang.specs.declared.tree.Op.{Op}
 use Rattle.nest_lang.specs.declared.tree.Expr.{Expr}
@@ -11,11 +11,11 @@ use Rattle.nest_tokens.specs.declared.token.Mark.{Mark}
 use Rattle.nest_tokens.specs.declared.token.Mark.TheVariants as mark
 use Rattle.nest_grammar.specs.declared.fault.TextKind.TheVariants as kind
 use Rattle.nest_grammar.specs.Limits.{most_open}
-use Rattle.nest_grammar.specs.Sights.{Sight, stands, Sees, skip, spend, afresh, opens, numbered}
+use Rattle.nest_grammar.specs.Sights.{Sight, stands, Sees, skip, spend, afresh, opens}
 use Rattle.nest_grammar.specs.Readings.{Reading, after, ◌>>=◌, gives, refused, many}
 use Rattle.nest_grammar.specs.Names.{Names, place_of}
-use Rattle.nest_grammar.specs.Expressions.{start_of, product_of, addition_of, comparison_of, taken, closed, access, access_number, if_visible, operand, operated, parts, compared, compared_at, unary, term, sum, expr, expression}
-use Rattle.nest_grammar.specs.Grammar.{Room, AccessRoom, SeesName, Part, Unary, Term, Sum, Whole, Is, number, variable, minus, parens, load, factor, product, summand, addition, side, comparison, IsExpression}
+use Rattle.nest_grammar.specs.Expressions.{start_of, product_of, addition_of, comparison_of, taken, closed, access_number, if_visible, operand, operated, parts, compared, compared_at, unary, term, sum, expr, expression}
+use Rattle.nest_grammar.specs.Grammar.{Room, SeesName, Part, Unary, Term, Sum, Whole, Is, number, variable, minus, parens, load, factor, product, summand, addition, side, comparison, IsExpression}
 use Rattle.nest_grammar.proofs.Many.{many-stop}
 use Rattle.nest_grammar.proofs.Chains.{parts-term, parts-sum}
 use Rattle.grammar_laws.proofs.Steps.{taken-room, closed-sees, access-room, given, read-then, taken-then, closed-then, access-then}

@@ -1,8 +1,7 @@
 -- Loops: their readings and the grammar say the same.
-use Rattle.std.proofs.Common.{◌≡◌, ℕ, zero, suc, ◌+◌, ◌<◌, ℤ, pos, negsuc, List, [], ◌∷◌, ◌++◌, length, refl, sym, ◌∙◌, ap, subst, Option, Some, None, Result, Ok, Err, Bool, true, false, cond, nat_le}
+use Rattle.std.proofs.Common.{◌≡◌, ℕ, zero, suc, ℤ, pos, negsuc, List, [], ◌∷◌, refl, ap, subst, Option, Some, None, Ok, Bool, true, false, cond, nat_le}
 use Rattle.std.proofs.Math.Dec.{leb-suc-zero}
 use Rattle.std.specs.Prelude.{◌≢◌}
-use Rattle.nest_lang.specs.declared.tree.Expr.{Expr}
 use Rattle.nest_lang.specs.declared.tree.Stmt.{Stmt}
 use Rattle.nest_lang.specs.declared.tree.Head.{Head}
 use Rattle.nest_lang.specs.declared.tree.Head.TheVariants as head
@@ -18,19 +17,19 @@ use Rattle.nest_grammar.specs.declared.opening.LoopWord.{LoopWord}
 use Rattle.nest_grammar.specs.declared.opening.LoopWord.TheVariants as word
 use Rattle.nest_grammar.specs.declared.fault.TextKind.TheVariants as kind
 use Rattle.nest_grammar.specs.Sights.{Sight, stands, Sees, skip, in_block}
-use Rattle.nest_grammar.specs.Readings.{Reading, after, ◌>>=◌, gives, refused, wrong, skipped, need, obeys, signed_where}
-use Rattle.nest_grammar.specs.Names.{Names, place_of, fresh}
+use Rattle.nest_grammar.specs.Readings.{Reading, after, ◌>>=◌, gives, refused, wrong, skipped, obeys}
+use Rattle.nest_grammar.specs.Names.{Names}
 use Rattle.nest_grammar.specs.Expressions.{product_of, addition_of, comparison_of, expression}
-use Rattle.nest_grammar.specs.Statements.{opening_of, block, block_begins}
+use Rattle.nest_grammar.specs.Statements.{opening_of, block}
 use Rattle.nest_grammar.specs.Loops.{loop_word, Loops, not_zero, stride_at, stride, heading, inside, Rest, rest_at, rest_of, has_any, body_end, around, loop_of, loop_at, loops}
-use Rattle.nest_grammar.specs.Grammar.{SeesName, IsExpression, IsSigned, IsStride, unwritten, written, IsHeading, counting, asking, IsBlock, IsLoops, innermost, outer}
+use Rattle.nest_grammar.specs.Grammar.{IsStride, unwritten, written, IsHeading, counting, asking, IsLoops, innermost, outer}
 use Rattle.grammar_laws.proofs.Steps.{sees-is, need-sees, obeys-true, fresh-sees, signed-is, given, read-then, need-then, fresh-then, signed-ok}
 use Rattle.grammar_laws.proofs.Expressions.{Ends, expression-complete, expression-sound}
 use Rattle.grammar_laws.proofs.Statements.{Follows, opens-follow, close-follows, close-begins, block-complete, block-sound}
 
 -- Completeness.
 
-not_zero-is : (v : ℤ) → v ≢ pos 0 → not_zero v ≡ true
+pub not_zero-is : (v : ℤ) → v ≢ pos 0 → not_zero v ≡ true
 not_zero-is (pos zero) h = absurd (h refl)
 not_zero-is (pos (suc n)) h = let e : nat_le (suc n) 0 ≡ false = leb-suc-zero n in rw e
 not_zero-is (negsuc n) h = refl
@@ -127,8 +126,8 @@ loops-complete (outer {d} {level} {names} {h} {n} {pre} {post} {lets} {post_lets
     let g = word-follows (stands u) f.0 f.1 in
     let r = loops-complete l in
     loop-read d level names s t u w h n pre lets ((ls, ns), (post, post_lets)) (heading-complete names s h n t i o) o (block-complete (inside names level n) (skip t) pre lets u b g.0 g.1)
-      (rest-some (loops d (suc level) (inside names level n)) (inside names level n) u v w f.0 (ls, ns) (post, post_lets) f.1 r (block-complete (inside names level n) v post post_lets w q (close-follows w c) (close-begins w c)))
-      c (loops-some l pre)
+    (rest-some (loops d (suc level) (inside names level n)) (inside names level n) u v w f.0 (ls, ns) (post, post_lets) f.1 r (block-complete (inside names level n) v post post_lets w q (close-follows w c) (close-begins w c)))
+    c (loops-some l pre)
 
 -- Soundness.
 

@@ -1,5 +1,5 @@
 -- Scripts: their readings and the grammar say the same.
-use Rattle.std.proofs.Common.{◌≡◌, ℕ, zero, suc, ◌+◌, ◌<◌, ◌≤◌, ℤ, pos, List, [], ◌∷◌, ◌++◌, length, refl, sym, ◌∙◌, ap, subst, arith, Option, Some, None, Result, Ok, Err, Bool, true, false, cond, nat_le, nat_lt}
+use Rattle.std.proofs.Common.{◌≡◌, ℕ, ◌<◌, pos, List, [], ◌∷◌, ◌++◌, length, refl, sym, ◌∙◌, ap, subst, arith, Option, Some, None, Ok, true, false, nat_le, nat_lt}
 use Rattle.std.specs.Prelude.{◌≢◌, ◌==◌, ◌&&◌, not}
 use Rattle.std.proofs.lemmas.Bool.{lt-ltb, ltb-true, le-leb, leb-true}
 use Rattle.nest_lang.specs.declared.command.Command.{Command}
@@ -15,8 +15,8 @@ use Rattle.nest_grammar.specs.declared.script.CommandWord.TheVariants as word
 use Rattle.nest_grammar.specs.declared.fault.TextKind.TheVariants as kind
 use Rattle.nest_grammar.specs.Limits.{most_candidates, most_commands, most_rows}
 use Rattle.nest_grammar.specs.Sights.{Sight, stands, Sees, skip}
-use Rattle.nest_grammar.specs.Readings.{Reading, after, ◌>>=◌, gives, refused, wrong, skipped, need, obeys, fewer, number_where, signed_where, at_mark, many}
-use Rattle.nest_grammar.specs.Scripts.{Script, command_word, may_follow, is_row, is_factor, is_size, row, row_but, ruled, row_begins, next_row, rows, marked, operands, command_at, command, next_command, script_at, script, candidate, candidates}
+use Rattle.nest_grammar.specs.Readings.{Reading, ◌>>=◌, gives, refused, at_mark, many}
+use Rattle.nest_grammar.specs.Scripts.{Script, command_word, may_follow, is_row, is_factor, is_size, row_but, ruled, row_begins, next_row, rows, marked, operands, command_at, command, next_command, script_at, script, candidate, candidates}
 use Rattle.nest_grammar.specs.Grammar.{SeesNumber, IsSigned, IsRows, IsCommand, seq, swap, skew, tile, par, wave, IsCommands, IsScript, IsCandidates}
 use Rattle.nest_grammar.specs.Grammar as grammar
 use Rattle.nest_grammar.proofs.Many.{many-stop}

@@ -1,5 +1,5 @@
 -- Statements: their readings and the grammar say the same.
-use Rattle.std.proofs.Common.{◌≡◌, ℕ, zero, suc, ◌+◌, ◌<◌, List, [], ◌∷◌, ◌++◌, length, refl, sym, ◌∙◌, ap, subst, Option, Some, None, Result, Ok, Err, Bool, true, false}
+use Rattle.std.proofs.Common.{◌≡◌, ℕ, zero, suc, ◌+◌, ◌<◌, List, [], ◌∷◌, ◌++◌, length, refl, sym, ◌∙◌, ap, Some, None, Ok, true, false}
 use Rattle.nest_lang.specs.declared.tree.Place.TheVariants as place
 use Rattle.nest_lang.specs.declared.tree.Expr.{Expr}
 use Rattle.nest_lang.specs.declared.tree.Stmt.{Stmt}
@@ -17,9 +17,9 @@ use Rattle.nest_grammar.specs.declared.fault.TextKind.TheVariants as kind
 use Rattle.nest_grammar.specs.Limits.{most_lets, most_ifs}
 use Rattle.nest_grammar.specs.Sights.{Sight, here, stands, Sees, skip, opens, numbered, bound, in_block}
 use Rattle.nest_grammar.specs.Readings.{Reading, after, ◌>>=◌, gives, refused, skipped, need, many}
-use Rattle.nest_grammar.specs.Names.{Names, declared, place_of, fresh, target}
-use Rattle.nest_grammar.specs.Expressions.{product_of, addition_of, comparison_of, expression, access, access_number}
-use Rattle.nest_grammar.specs.Statements.{opening_of, local_room, local_number, braced, else_at, else_of, branches, statement, another, listed, statements, with_lets, block}
+use Rattle.nest_grammar.specs.Names.{Names, declared, place_of}
+use Rattle.nest_grammar.specs.Expressions.{product_of, addition_of, comparison_of, expression}
+use Rattle.nest_grammar.specs.Statements.{opening_of, braced, else_at, branches, statement, another, listed, statements, with_lets, block}
 use Rattle.nest_grammar.specs.Grammar.{AccessRoom, SeesName, IsExpression, IsStmt, IsBraced, IsList, IsBlock}
 use Rattle.nest_grammar.specs.Grammar as grammar
 use Rattle.nest_grammar.proofs.Many.{Parts, many-stop}

@@ -1,5 +1,5 @@
 -- Steps: what each small reading gives where the grammar goes on, and what stood there where it gave that.
-use Rattle.std.proofs.Common.{◌≡◌, ℕ, zero, suc, ◌+◌, ◌<◌, ◌≤◌, ℤ, pos, negsuc, List, [], ◌∷◌, ◌++◌, length, refl, sym, ◌∙◌, ap, subst, Option, Some, None, Result, Ok, Err, Bool, true, false, cond, nat_lt, nat_le}
+use Rattle.std.proofs.Common.{◌≡◌, ℕ, ◌<◌, ℤ, pos, refl, ◌∙◌, ap, subst, Option, Some, None, Result, Ok, Err, Bool, true, false, cond, nat_lt}
 use Rattle.std.proofs.lemmas.Bool.{lt-ltb, ltb-true}
 use Rattle.nest_lang.specs.declared.tree.Place.{Place}
 use Rattle.nest_lang.specs.declared.tree.Place.TheVariants as place
@@ -15,7 +15,7 @@ use Rattle.nest_grammar.specs.declared.fault.TextKind.{TextKind}
 use Rattle.nest_grammar.specs.declared.fault.TextKind.TheVariants as kind
 use Rattle.nest_grammar.specs.Limits.{most_tokens, most_accesses}
 use Rattle.nest_grammar.specs.Sights.{Sight, stands, Sees, skip, spend, opens}
-use Rattle.nest_grammar.specs.Readings.{Reading, after, ◌>>=◌, gives, refused, wrong, skipped, need, obeys, fewer, number_where, number_at, minus, signed_where, with_sign, end, end_at, many, more, more_at, unexpected}
+use Rattle.nest_grammar.specs.Readings.{Reading, after, ◌>>=◌, gives, refused, wrong, skipped, need, obeys, fewer, number_where, number_at, minus, signed_where, with_sign, end, end_at}
 use Rattle.nest_grammar.specs.Names.{Names, place_of, fresh, fresh_at, unless_known, target, if_scalar}
 use Rattle.nest_grammar.specs.Expressions.{taken, closed, access}
 use Rattle.nest_grammar.specs.Grammar.{Room, AccessRoom, SeesNumber, SeesName, IsSigned, unsigned, negative}
@@ -123,6 +123,7 @@ number-then {B} rule what go s y h = by (stands s) refl h
     kept : (n : ℕ) (b : Bool) → SeesNumber n s → rule n ≡ b → after (after (cond b (Ok (tt {0}, s)) (refused what s)) (λ _. skipped >>= λ _. gives n)) go ≡ Ok y → (n : ℕ) × SeesNumber n s × (rule n ≡ true) × (go n (skip s) ≡ Ok y)
     kept n true e r k = (n, e, r, k)
     kept n false e r k = absurd (cc)
+
     by : (t : Token) → stands s ≡ t → after (number_at rule what t s) go ≡ Ok y → (n : ℕ) × SeesNumber n s × (rule n ≡ true) × (go n (skip s) ≡ Ok y)
     by (token.Number (pos n)) e k = kept n (rule n) e refl k
     by _ e k = absurd (cc)
@@ -134,6 +135,7 @@ fresh-then {B} names go s y h = by (stands s) refl h
     new : (n : Name) (o : Option Place) → SeesName n s → place_of names n ≡ o → after (unless_known n o s) go ≡ Ok y → (n : Name) × SeesName n s × (place_of names n ≡ None) × (go n (skip s) ≡ Ok y)
     new n None e r k = (n, e, r, k)
     new n (Some p) e r k = absurd (cc)
+
     by : (t : Token) → stands s ≡ t → after (fresh_at names t s) go ≡ Ok y → (n : Name) × SeesName n s × (place_of names n ≡ None) × (go n (skip s) ≡ Ok y)
     by (token.Name n) e k = new n (place_of names n) e refl k
     by _ e k = absurd (cc)

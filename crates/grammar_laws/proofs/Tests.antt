@@ -1,10 +1,8 @@
 -- Tests: what the tests of the readings tell of numbers and tokens.
-use Rattle.std.proofs.Common.{◌≡◌, ℕ, ◌<◌, refl, ◌∙◌, ap, Option, Some, None, Bool, true, false, cond}
+use Rattle.std.proofs.Common.{◌≡◌, ℕ, refl, ap, Some, None, Bool, true, false, cond}
 use Rattle.std.specs.Prelude.{◌≢◌, ◌==◌, ◌&&◌, not}
 use Rattle.std.proofs.lemmas.Bool.{eq-eqb, eqb-true}
 use Rattle.nest_tokens.specs.declared.token.Mark.{Mark}
-use Rattle.nest_tokens.specs.declared.token.Token.{Token}
-use Rattle.nest_tokens.specs.declared.token.Token.TheVariants as token
 use Rattle.nest_tokens.specs.Tokens.{is_mark}
 use Rattle.nest_tokens.proofs.Marks.{is_mark-true}
 use Rattle.nest_grammar.specs.Sights.{Sight, stands, Sees}

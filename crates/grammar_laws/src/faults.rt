@@ -1,6 +1,7 @@
 //! Where faults stand.
 
 ghost use Rattle.grammar_laws.specs.Beginnings.{ContentsFaultNotTooEarly, FaultNotTooEarly};
+ghost use Rattle.grammar_laws.specs.Phrases.{FaultNotTooLate, ReadTextIsSentence};
 
 /// A fault is not too early: it stands at a token of the text, or at its end, and each text that has the
 /// same tokens up to and with this one has the same fault.
@@ -8,4 +9,12 @@ ghost use Rattle.grammar_laws.specs.Beginnings.{ContentsFaultNotTooEarly, FaultN
 pub fn not_too_early()
     ensures text { FaultNotTooEarly }
     ensures sight { ContentsFaultNotTooEarly }
+{}
+
+/// A fault is not too late: the tokens before it begin a sentence of the grammar. Where a kind that comes
+/// behind `Expected` and `Version` judges a token, so do the tokens up to and with that one.
+#[tactic(auto, using(crate::proofs::Late::late))]
+pub fn not_too_late()
+    ensures fault { FaultNotTooLate }
+    ensures read { ReadTextIsSentence }
 {}
