@@ -3,3 +3,4 @@ pub mod Printing
 pub mod Stated
 pub mod Nested
 pub mod Words
+pub mod Items
