@@ -4,3 +4,6 @@ pub mod Stated
 pub mod Nested
 pub mod Words
 pub mod Items
+pub mod Walking
+pub mod Round
+pub mod StatementsAgain
