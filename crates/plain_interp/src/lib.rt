@@ -7,6 +7,8 @@
 #![tactic(auto)]
 
 mod loops;
+mod outer;
 mod plain;
 
-pub use plain::run_plain;
+pub use outer::{Entered, enter, run_turns};
+pub use plain::{run_nest, run_plain};
