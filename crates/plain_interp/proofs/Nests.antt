@@ -1,13 +1,13 @@
 -- Whole nests, from the runs of their loops.
-use Rattle.std.proofs.Common.{◌≡◌, refl, ap, ◌∙◌, sym, subst, ℕ, ℤ, ◌<◌, ◌+◌, ◌≤◌, List, [], ◌∷◌, length, map, Bool, true, nat_le, arith}
+use Rattle.std.proofs.Common.{◌≡◌, ap, ◌∙◌, sym, subst, ℕ, ℤ, ◌<◌, ◌+◌, List, [], ◌∷◌, length, true, nat_le, arith}
 use Rattle.nest_lang.specs.declared.tree.Loop.{Loop}
 use Rattle.nest_lang.specs.declared.tree.Nest.{Nest}
 use Rattle.nest_lang.specs.Rules.{loop_keeps, keeps_rules}
 use Rattle.nest_lang.specs.Stores.{Store, store_of}
 use Rattle.nest_lang.specs.Lookups.{plain}
-use Rattle.nest_lang.specs.Traces.{Trace, in_turn, Finish, Cut, cut_of, cut}
+use Rattle.nest_lang.specs.Traces.{Finish, Cut, cut_of, cut}
 use Rattle.nest_lang.specs.Loops.{loops_trace, outside}
-use Rattle.nest_lang.specs.Runs.{Run, run_of, plain_run, nests_trace, nest_trace}
+use Rattle.nest_lang.specs.Runs.{run_of, plain_run, nests_trace, nest_trace}
 use Rattle.nest_lang.proofs.Cuts.{cut-only}
 use Rattle.plain_interp.proofs.Keeps.{both}
 
@@ -30,16 +30,20 @@ unfolding keeps_rules
 keeps_rules-some [] none h = cc
 keeps_rules-some (l ∷ ls) none h = omega (arith, none)
 
--- the plain run of a nest, from the run of its loops
-pub nest-ran : (nest : Nest) (first : Loop) (rest : List Loop) (s t : Store) (n left used : ℕ) (e e' : Finish) → nest.loops ≡ first ∷ rest
-    → cut_of t left used e ≡ cut (loops_trace plain (n + 1) 1 (first ∷ rest) outside s) s n 0 → e' ≡ e
-    → record { store = t; ending = e'; steps = used } ≡ plain_run (nest ∷ []) s n
-unfolding plain_run nests_trace nest_trace
-nest-ran nest first rest s t n left used e e' is run ends_so =
-    let ran : cut_of t left used e' ≡ cut (loops_trace plain (n + 1) 1 nest.loops outside s) s n 0 =
-    ap (λ (z : Finish). cut_of t left used z) ends_so ∙ run ∙ ap (λ (ls : List Loop). cut (loops_trace plain (n + 1) 1 ls outside s) s n 0) (sym is) in
-    ap run_of (ran ∙ sym (cut-only (loops_trace plain (n + 1) 1 nest.loops outside) s n 0))
+-- the cut of a nest's trace, from that of its loops
+pub cut-loops : (nest : Nest) (first : Loop) (rest : List Loop) (s t : Store) (k left used left' used' : ℕ) (e e' : Finish) → nest.loops ≡ first ∷ rest
+    → cut_of t left' used' e ≡ cut (loops_trace plain k 1 (first ∷ rest) outside s) s left used → e' ≡ e
+    → cut_of t left' used' e' ≡ cut (nest_trace k nest.loops s) s left used
+unfolding nest_trace
+cut-loops nest first rest s t k left used left' used' e e' is run ends_so =
+    ap (λ (z : Finish). cut_of t left' used' z) ends_so ∙ run ∙ ap (λ (ls : List Loop). cut (loops_trace plain k 1 ls outside s) s left used) (sym is)
 
 -- the words that a port leaves are those of the memory that it was made of
-pub words-left : (m m' scalars : List ℤ) (e : Finish) (used : ℕ) (whole : Run) → m ≡ m' → record { store = store_of m' scalars []; ending = e; steps = used } ≡ whole → record { store = store_of m scalars []; ending = e; steps = used } ≡ whole
-words-left m m' scalars e used whole same run = ap (λ (words : List ℤ). record { store = store_of words scalars []; ending = e; steps = used }) same ∙ run
+pub words-cut : (m m' scalars : List ℤ) (e : Finish) (left used : ℕ) (whole : Cut) → m ≡ m' → cut_of (store_of m' scalars []) left used e ≡ whole → cut_of (store_of m scalars []) left used e ≡ whole
+words-cut m m' scalars e left used whole same run = ap (λ (words : List ℤ). cut_of (store_of words scalars []) left used e) same ∙ run
+
+-- the plain run of a nest, from the cut of its trace
+pub nest-ran : (nest : Nest) (s t : Store) (n left used : ℕ) (e : Finish) → cut_of t left used e ≡ cut (nest_trace (n + 1) nest.loops s) s n 0
+    → record { store = t; ending = e; steps = used } ≡ plain_run (nest ∷ []) s n
+unfolding plain_run nests_trace
+nest-ran nest s t n left used e ran = ap run_of (ran ∙ sym (cut-only (nest_trace (n + 1) nest.loops) s n 0))

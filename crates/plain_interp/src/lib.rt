@@ -9,4 +9,4 @@
 mod loops;
 mod plain;
 
-pub use plain::run_plain;
+pub use plain::{run_nest, run_plain};

@@ -1,6 +1,5 @@
-use Rattle.std.proofs.Common.{rules, arith, refl, sym, ap, ◌∙◌, ◌≡◌, ◌+◌, ◌<◌, ◌∷◌, [], length, true, ℕ}
-use Rattle.nest_lang.specs.Stores.{store_of}
-use Rattle.plain_interp.proofs.Nests.{keeps_rules-inner, keeps_rules-depth, keeps_rules-some, nest-ran, words-left}
+use Rattle.std.proofs.Common.{rules, arith, sym, ap, ◌∙◌, ◌≡◌, ◌∷◌, length}
+use Rattle.plain_interp.proofs.Nests.{keeps_rules-inner, keeps_rules-depth, keeps_rules-some, cut-loops, words-cut}
 use Rattle.plain_interp.proofs.plain.run_words.Goals as goal
 
 pub unreachable-requires : goal.unreachable-requires
@@ -28,10 +27,10 @@ run_loop-end-requires-clause-rules c =
     let loops : c.args.nest.now.loops ≡ c.in-Some.first.now ∷ c.in-Some.rest.now = search rules in
     keeps_rules-inner c.args.nest.now.loops c.in-Some.first.now c.in-Some.rest.now loops c.requires.rules
 
-pub returns : goal.returns
-returns c =
+pub returns-clause-ran : goal.returns-clause-ran
+returns-clause-ran c = λ k more.
     let loops : c.args.nest.now.loops ≡ c.in-Some.first.now ∷ c.in-Some.rest.now = search rules in
     let from : c.new-port.result.memory.now ≡ c.args.memory.now = search rules in
-    let ran = rw from at (c.run_loop-end.ensures.ran (c.args.limit + 1) (omega arith)) in
-    words-left _ c.run_loop-end.new.port.memory.now _ _ _ _ (search rules)
-    (nest-ran c.args.nest.now c.in-Some.first.now c.in-Some.rest.now _ _ c.args.limit _ _ _ _ loops ran.cut c.ending_of.ensures)
+    let ran = rw from at (c.run_loop-end.ensures.ran k more) in
+    words-cut _ c.run_loop-end.new.port.memory.now _ _ _ _ _ (search rules)
+    (cut-loops c.args.nest.now c.in-Some.first.now c.in-Some.rest.now _ _ k _ _ _ _ _ _ loops ran.cut c.ending_of.ensures)
