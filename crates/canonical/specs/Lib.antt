@@ -1,0 +1,9 @@
+pub mod Pieces
+pub mod Labels
+pub mod Labelled
+pub mod Groups
+pub mod Expressions
+pub mod Statements
+pub mod Loops
+pub mod Scripts
+pub mod Contents
