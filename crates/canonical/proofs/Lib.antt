@@ -7,3 +7,6 @@ pub mod Items
 pub mod Walking
 pub mod Round
 pub mod StatementsAgain
+pub mod LayoutTokens
+pub mod LayoutMarks
+pub mod LayoutPieces
