@@ -10,3 +10,4 @@ pub mod StatementsAgain
 pub mod LayoutTokens
 pub mod LayoutMarks
 pub mod LayoutPieces
+pub mod LayoutFile
