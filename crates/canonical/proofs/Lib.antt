@@ -11,3 +11,4 @@ pub mod LayoutTokens
 pub mod LayoutMarks
 pub mod LayoutPieces
 pub mod LayoutFile
+pub mod LayoutWritten
