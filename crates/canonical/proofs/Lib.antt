@@ -7,3 +7,6 @@ pub mod Items
 pub mod Walking
 pub mod Round
 pub mod StatementsAgain
+pub mod LoopsAgain
+pub mod ScriptsAgain
+pub mod ContentsAgain
