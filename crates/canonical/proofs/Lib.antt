@@ -12,3 +12,6 @@ pub mod LayoutMarks
 pub mod LayoutPieces
 pub mod LayoutFile
 pub mod LayoutWritten
+pub mod LoopsAgain
+pub mod ScriptsAgain
+pub mod ContentsAgain
