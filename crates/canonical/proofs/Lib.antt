@@ -7,3 +7,11 @@ pub mod Items
 pub mod Walking
 pub mod Round
 pub mod StatementsAgain
+pub mod LayoutTokens
+pub mod LayoutMarks
+pub mod LayoutPieces
+pub mod LayoutFile
+pub mod LayoutWritten
+pub mod LoopsAgain
+pub mod ScriptsAgain
+pub mod ContentsAgain
