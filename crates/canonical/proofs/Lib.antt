@@ -10,3 +10,4 @@ pub mod StatementsAgain
 pub mod LoopsAgain
 pub mod ScriptsAgain
 pub mod ContentsAgain
+pub mod Laid
