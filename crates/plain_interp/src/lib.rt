@@ -6,9 +6,13 @@
 //! nests by `run_plain`. Nothing here takes memory, and the time is linear in the steps.
 #![tactic(auto)]
 
+pub mod laws;
 mod loops;
 mod outer;
 mod plain;
 
 pub use outer::{Entered, enter, run_turns};
 pub use plain::{run_nest, run_plain};
+
+#[cfg(test)]
+mod tests;
