@@ -3,3 +3,7 @@ pub mod Printing
 pub mod Stated
 pub mod Nested
 pub mod Words
+pub mod Items
+pub mod Walking
+pub mod Round
+pub mod StatementsAgain

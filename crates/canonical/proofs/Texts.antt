@@ -1,8 +1,9 @@
 -- How the text of pieces is made up.
-use Rattle.std.proofs.Common.{◌≡◌, ℕ, ◌*◌, ℤ, pos, negsuc, List, [], ◌∷◌, ◌++◌, refl, append_assoc, append-nil, rules, replicate}
+use Rattle.std.proofs.Common.{◌≡◌, ℕ, ◌*◌, ℤ, pos, negsuc, List, [], ◌∷◌, ◌++◌, refl, sym, ap, ◌∙◌, zero, suc, ◌+◌, ◌<◌, length, take, get_or, arith, append_assoc, append-nil, rules, replicate}
 use Rattle.std.specs.List.{flat_map}
 use Rattle.std.specs.Fmt.{decimal, signed_decimal}
 use Rattle.std.proofs.lemmas.Grind.{flat_map-append}
+use Rattle.std.proofs.lemmas.List.{take_more}
 use Rattle.std.proofs.lemmas.List.Concat.{flat_map-cons}
 use Rattle.nest_tokens.specs.declared.token.Mark.{Mark}
 use Rattle.nest_tokens.specs.declared.token.Name.{Name}
@@ -47,12 +48,35 @@ unfolding text_of
 text-append xs ys = flat_map-append piece_text xs ys
 
 pub text-signed : (z : ℤ) → text_of (signed z) ≡ signed_decimal z
-unfolding text_of piece_text token_text signed
+unfolding text_of piece_text token_text signed spelling
 text-signed (pos n) = append-nil (decimal n)
-text-signed (negsuc n) = ?
+text-signed (negsuc n) = ap (λ (l : List ℕ). 45 ∷ l) (append-nil (decimal (suc n)))
 
 pub text-line : (depth : ℕ) (ps : List Piece) → text_of (line depth ps) ≡ replicate (2 * depth) 32 ++ (text_of ps ++ 10 ∷ [])
-unfolding line
-text-line depth ps = rw (text-indent, text-append, text-newline, text-nil) refl
+unfolding line text_of piece_text
+text-line depth ps = ap (λ (l : List ℕ). replicate (2 * depth) 32 ++ l) (flat_map-append piece_text ps (Newline ∷ []))
 
-pub ruleset texts = (text-nil, text-plain, text-name, text-number, text-integer, text-space, text-newline, text-indent, text-append, text-signed, text-line, append_assoc)
+flat_map-last : {X : Type 0} (f : X → List Piece) (xs : List X) (x : X) → flat_map f (xs ++ x ∷ []) ≡ flat_map f xs ++ f x
+flat_map-last f xs x = flat_map-append f xs (x ∷ []) ∙ ap (λ (l : List Piece). flat_map f xs ++ l) (append-nil (f x))
+
+-- the text of pieces with a sign behind them
+pub text-closed : (ps : List Piece) (m : Mark) → text_of (ps ++ Word (token.Plain m) ∷ []) ≡ text_of ps ++ spelling m
+text-closed ps m = text-append ps (Word (token.Plain m) ∷ []) ∙ ap (λ (t : List ℕ). text_of ps ++ t) (text-plain m [] ∙ ap (λ (t : List ℕ). spelling m ++ t) text-nil ∙ append-nil (spelling m))
+
+get_or-default : {X : Type 0} (xs : List X) (i : ℕ) (d e : X) → i < length xs → get_or xs i d ≡ get_or xs i e
+get_or-default [] i d e h = absurd (omega arith)
+get_or-default (x ∷ xs) zero d e h = refl
+get_or-default (x ∷ xs) (suc i) d e h = get_or-default xs i d e (omega arith)
+
+-- behind what was written stands the text of one more of a list
+pub text-more : {X : Type 0} (f : X → List Piece) (xs : List X) (i : ℕ) (x : X) (old page new : List ℕ) → i < length xs → x ≡ get_or xs i x → page ≡ old ++ text_of (flat_map f (take i xs)) → new ≡ page ++ text_of (f x) → new ≡ old ++ text_of (flat_map f (take (i + 1) xs))
+text-more f xs i x old page new h item so next =
+    let whole : flat_map f (take (i + 1) xs) ≡ flat_map f (take i xs) ++ f x = ap (flat_map f) (take_more xs i x h ∙ ap (λ z. take i xs ++ z ∷ []) (sym item)) ∙ flat_map-last f (take i xs) x in
+    next ∙ ap (λ (l : List ℕ). l ++ text_of (f x)) so ∙ append_assoc old (text_of (flat_map f (take i xs))) (text_of (f x)) ∙ ap (λ (l : List ℕ). old ++ l) (sym (ap text_of whole ∙ text-append (flat_map f (take i xs)) (f x)))
+
+pub text-at : {X : Type 0} (f : X → List Piece) (xs : List X) (i : ℕ) (d : X) (old page new : List ℕ) → i < length xs → page ≡ old ++ text_of (flat_map f (take i xs)) → new ≡ page ++ text_of (f (get_or xs i d)) → new ≡ old ++ text_of (flat_map f (take (i + 1) xs))
+text-at f xs i d old page new h so next = text-more f xs i (get_or xs i d) old page new h (get_or-default xs i d (get_or xs i d) h) so next
+
+pub ruleset texts = (text-nil, text-plain, text-name, text-number, text-integer, text-space, text-newline, text-indent, text-append, text-signed, text-line, append-nil, append_assoc)
+
+pub ruleset lists = (text-nil, append-nil)

@@ -37,5 +37,5 @@ unfoldable pub printed : Labels → Expr → Printed
 printed l = fold-Expr Printed (level l)
 
 -- a whole expression
-unfoldable pub expression : Labels → Expr → List Piece
-expression l e = as_group Whole (printed l e)
+unfoldable pub expression_of : Labels → Expr → List Piece
+expression_of l e = as_group Whole (printed l e)

@@ -16,9 +16,12 @@ pub data Piece : Type 0 where
   Indent : ℕ → Piece
   Newline : Piece
 
+abbrev pub is_written : ℕ → Bool
+is_written b = not (b == 0)
+
 -- the bytes of a name: those before its zeros
 unfoldable pub name_text : Name → List ℕ
-name_text n = take (prefix_len (λ b. not (b == 0)) n.bytes) n.bytes
+name_text n = take (prefix_len is_written n.bytes) n.bytes
 
 -- how a token is written; none is written that is not one
 unfoldable pub token_text : Token → List ℕ

@@ -21,22 +21,22 @@ operand n = Space ∷ number n ∷ []
 abbrev pub signed_operand : ℤ → List Piece
 signed_operand z = Space ∷ signed z
 
-unfoldable pub command : Command → List Piece
-command (Seq n) = command_name word.Seq ∷ operand n
-command (Swap a b) = command_name word.Swap ∷ operand a ++ operand b
-command (Skew a b m) = command_name word.Skew ∷ operand a ++ operand b ++ signed_operand m
-command (Tile a n) = command_name word.Tile ∷ operand a ++ signed_operand n
-command (Par rows) = command_name word.Par ∷ flat_map operand rows.items
-command (Wave rows) = command_name word.Wave ∷ flat_map operand rows.items
+unfoldable pub command_of : Command → List Piece
+command_of (Seq n) = command_name word.Seq ∷ operand n
+command_of (Swap a b) = command_name word.Swap ∷ operand a ++ operand b
+command_of (Skew a b m) = command_name word.Skew ∷ operand a ++ operand b ++ signed_operand m
+command_of (Tile a n) = command_name word.Tile ∷ operand a ++ signed_operand n
+command_of (Par rows) = command_name word.Par ∷ flat_map operand rows.items
+command_of (Wave rows) = command_name word.Wave ∷ flat_map operand rows.items
 
 abbrev pub next_command : Command → List Piece
-next_command c = plain mark.Semicolon ∷ Space ∷ command c
+next_command c = plain mark.Semicolon ∷ Space ∷ command_of c
 
 -- the commands of a script, with a space behind the last
-unfoldable pub commands : Script → List Piece
-commands [] = []
-commands (c ∷ cs) = command c ++ flat_map next_command cs ++ Space ∷ []
+unfoldable pub commands_of : Script → List Piece
+commands_of [] = []
+commands_of (c ∷ cs) = command_of c ++ flat_map next_command cs ++ Space ∷ []
 
 -- "candidate" "{" [ command { ";" command } ] "}"
-unfoldable pub candidate : Script → List Piece
-candidate cs = line 0 (plain mark.Candidate ∷ Space ∷ plain mark.OpenBrace ∷ Space ∷ commands cs ++ plain mark.CloseBrace ∷ [])
+unfoldable pub candidate_line : Script → List Piece
+candidate_line cs = line 0 (plain mark.Candidate ∷ Space ∷ plain mark.OpenBrace ∷ Space ∷ commands_of cs ++ plain mark.CloseBrace ∷ [])

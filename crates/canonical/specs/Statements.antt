@@ -9,23 +9,23 @@ use Rattle.nest_lang.specs.declared.tree.Stmt.TheOpen.{Stmt-F}
 use Rattle.nest_tokens.specs.declared.token.Mark.TheVariants as mark
 use Rattle.canonical.specs.Pieces.{Piece, Space, plain, name, spaced, line}
 use Rattle.canonical.specs.Labels.{Labels, label}
-use Rattle.canonical.specs.Expressions.{expression}
+use Rattle.canonical.specs.Expressions.{expression_of}
 
 -- "let" name "=" expr
 unfoldable pub let_line : Labels → ℕ → Expr → List Piece
-let_line l k e = plain mark.Let ∷ Space ∷ name (label l (place.Local k)) ∷ spaced mark.Assign ++ expression l e
+let_line l k e = plain mark.Let ∷ Space ∷ name (label l (place.Local k)) ∷ spaced mark.Assign ++ expression_of l e
 
 -- name "=" expr
 unfoldable pub set_line : Labels → ℕ → Expr → List Piece
-set_line l k e = name (label l (place.Scalar k)) ∷ spaced mark.Assign ++ expression l e
+set_line l k e = name (label l (place.Scalar k)) ∷ spaced mark.Assign ++ expression_of l e
 
 -- "[" expr "]" "=" expr
 unfoldable pub store_line : Labels → Expr → Expr → List Piece
-store_line l a e = plain mark.OpenBracket ∷ expression l a ++ plain mark.CloseBracket ∷ spaced mark.Assign ++ expression l e
+store_line l a e = plain mark.OpenBracket ∷ expression_of l a ++ plain mark.CloseBracket ∷ spaced mark.Assign ++ expression_of l e
 
 -- "if" expr "{"
 unfoldable pub if_line : Labels → Expr → List Piece
-if_line l e = plain mark.If ∷ Space ∷ expression l e ++ Space ∷ plain mark.OpenBrace ∷ []
+if_line l e = plain mark.If ∷ Space ∷ expression_of l e ++ Space ∷ plain mark.OpenBrace ∷ []
 
 -- "}" "else" "{"
 abbrev pub else_line : List Piece
@@ -54,13 +54,13 @@ statement_level l (Stmt-F.Set k e) depth = line depth (set_line l k e)
 statement_level l (Stmt-F.Store access a e) depth = line depth (store_line l a e)
 statement_level l (Stmt-F.If e xs ys) depth = line depth (if_line l e) ++ each xs (depth + 1) ++ else_branch ys depth ++ line depth close_line
 
-unfoldable pub statement : Labels → Stmt → Lines
-statement l = fold-Stmt Lines (statement_level l)
+unfoldable pub statement_of : Labels → Stmt → Lines
+statement_of l = fold-Stmt Lines (statement_level l)
 
 -- statements, one behind another
-unfoldable pub statements : Labels → List Stmt → Lines
-statements l sts = each (map (statement l) sts)
+unfoldable pub statement_lines : Labels → List Stmt → Lines
+statement_lines l sts = each (map (statement_of l) sts)
 
 -- the second branch of an `if`, with the line between the branches
 unfoldable pub otherwise : Labels → List Stmt → Lines
-otherwise l sts = else_branch (map (statement l) sts)
+otherwise l sts = else_branch (map (statement_of l) sts)

@@ -3,8 +3,8 @@
 ghost use Rattle.std.specs.Prelude.{◌≡◌, ◌++◌, OnOk, IfOk};
 ghost use Rattle.std.specs.List.{flat_map};
 ghost use Rattle.canonical.specs.Pieces.{text_of};
-ghost use Rattle.canonical.specs.Scripts.{candidate};
-ghost use Rattle.canonical.specs.Contents.{version_number, version, scalar, memory, next_value, values, item, unit, pieces, canonical};
+ghost use Rattle.canonical.specs.Scripts.{candidate_line};
+ghost use Rattle.canonical.specs.Contents.{version_number, version_line, scalar_line, memory_line, next_value, value_list, item_line, unit_lines, pieces, canonical};
 
 use crate::NoMemory;
 use crate::labels::Labels;
@@ -51,9 +51,9 @@ fn number_of(version: Version) -> u64
 }
 
 /// Writes the line of the version.
-#[tactic(auto, unfolding(crate::specs::Contents::version), using(crate::proofs::Texts::texts))]
+#[tactic(auto, unfolding(crate::specs::Contents::version_line), using(crate::proofs::Texts::texts))]
 fn write_version(version: Version, page: &mut Page) -> Result<(), AllocError>
-    ensures { OnOk result (page.new ≡ page.old ++ text_of (version version)) }
+    ensures { OnOk result (page.new ≡ page.old ++ text_of (version_line version)) }
 {
     page.mark(Mark::Nest)?;
     write_operand(number_of(version), page)?;
@@ -61,9 +61,9 @@ fn write_version(version: Version, page: &mut Page) -> Result<(), AllocError>
 }
 
 /// Writes the line of a scalar.
-#[tactic(auto, unfolding(crate::specs::Contents::scalar), using(crate::proofs::Texts::texts))]
+#[tactic(auto, unfolding(crate::specs::Contents::scalar_line), using(crate::proofs::Texts::texts))]
 fn write_scalar(scalar: &Scalar, page: &mut Page) -> Result<(), AllocError>
-    ensures { OnOk result (page.new ≡ page.old ++ text_of (scalar scalar.now)) }
+    ensures { OnOk result (page.new ≡ page.old ++ text_of (scalar_line scalar.now)) }
 {
     page.mark(Mark::Scalar)?;
     page.space()?;
@@ -74,9 +74,9 @@ fn write_scalar(scalar: &Scalar, page: &mut Page) -> Result<(), AllocError>
 }
 
 /// Writes the lines of scalars.
-#[tactic(auto, using(crate::proofs::Texts::texts))]
+#[tactic(auto, using(crate::proofs::Texts::lists))]
 fn write_scalars(scalars: &[Scalar], page: &mut Page) -> Result<(), AllocError>
-    ensures { OnOk result (page.new ≡ page.old ++ text_of (flat_map scalar scalars.now)) }
+    ensures { OnOk result (page.new ≡ page.old ++ text_of (flat_map scalar_line scalars.now)) }
 {
     for scalar in scalars {
         write_scalar(scalar, page)?;
@@ -85,31 +85,39 @@ fn write_scalars(scalars: &[Scalar], page: &mut Page) -> Result<(), AllocError>
 }
 
 /// Writes the line of the memory.
-#[tactic(auto, unfolding(crate::specs::Contents::memory), using(crate::proofs::Texts::texts))]
+#[tactic(auto, unfolding(crate::specs::Contents::memory_line), using(crate::proofs::Texts::texts))]
 fn write_memory(words: u64, page: &mut Page) -> Result<(), AllocError>
-    ensures { OnOk result (page.new ≡ page.old ++ text_of (memory words)) }
+    ensures { OnOk result (page.new ≡ page.old ++ text_of (memory_line words)) }
 {
     page.mark(Mark::Memory)?;
     write_operand(words, page)?;
     page.newline()
 }
 
-/// Writes values, each behind a comma.
+/// Writes a value behind a comma.
 #[tactic(auto, using(crate::proofs::Texts::texts))]
+fn write_next(value: &i64, page: &mut Page) -> Result<(), AllocError>
+    ensures { OnOk result (page.new ≡ page.old ++ text_of (next_value value.now)) }
+{
+    page.mark(Mark::Comma)?;
+    write_signed(*value, page)
+}
+
+/// Writes values, each behind a comma.
+#[tactic(auto, using(crate::proofs::Texts::lists))]
 fn write_others(values: &[i64], page: &mut Page) -> Result<(), AllocError>
     ensures { OnOk result (page.new ≡ page.old ++ text_of (flat_map next_value values.now)) }
 {
     for value in values {
-        page.mark(Mark::Comma)?;
-        write_signed(*value, page)?;
+        write_next(value, page)?;
     }
     Ok(())
 }
 
 /// Writes the values of words.
-#[tactic(auto, unfolding(crate::specs::Contents::values), using(crate::proofs::Texts::texts))]
+#[tactic(auto, unfolding(crate::specs::Contents::value_list), using(crate::proofs::Texts::texts))]
 fn write_values(values: &[i64], page: &mut Page) -> Result<(), AllocError>
-    ensures { OnOk result (page.new ≡ page.old ++ text_of (values values.now)) }
+    ensures { OnOk result (page.new ≡ page.old ++ text_of (value_list values.now)) }
 {
     let Some((first, others)) = values.split_first() else {
         return Ok(());
@@ -119,9 +127,9 @@ fn write_values(values: &[i64], page: &mut Page) -> Result<(), AllocError>
 }
 
 /// Writes the line of an item.
-#[tactic(auto, unfolding(crate::specs::Contents::item), using(crate::proofs::Texts::texts))]
+#[tactic(auto, using(crate::proofs::Items::items))]
 fn write_item(item: &Item, page: &mut Page) -> Result<(), AllocError>
-    ensures { OnOk result (page.new ≡ page.old ++ text_of (item item.now)) }
+    ensures { OnOk result (page.new ≡ page.old ++ text_of (item_line item.now)) }
 {
     match item {
         Item::Data { first, values } => {
@@ -150,9 +158,9 @@ fn write_item(item: &Item, page: &mut Page) -> Result<(), AllocError>
 }
 
 /// Writes the lines of items.
-#[tactic(auto, using(crate::proofs::Texts::texts))]
+#[tactic(auto, using(crate::proofs::Texts::lists))]
 fn write_items(items: &[Item], page: &mut Page) -> Result<(), AllocError>
-    ensures { OnOk result (page.new ≡ page.old ++ text_of (flat_map item items.now)) }
+    ensures { OnOk result (page.new ≡ page.old ++ text_of (flat_map item_line items.now)) }
 {
     for item in items {
         write_item(item, page)?;
@@ -161,9 +169,9 @@ fn write_items(items: &[Item], page: &mut Page) -> Result<(), AllocError>
 }
 
 /// Writes the lines of candidates.
-#[tactic(auto, using(crate::proofs::Texts::texts))]
+#[tactic(auto, using(crate::proofs::Texts::lists))]
 fn write_candidates(scripts: &[Items<Command>], page: &mut Page) -> Result<(), AllocError>
-    ensures { OnOk result (page.new ≡ page.old ++ text_of (flat_map candidate scripts.now)) }
+    ensures { OnOk result (page.new ≡ page.old ++ text_of (flat_map candidate_line scripts.now)) }
 {
     for script in scripts {
         write_candidate(script.as_slice(), page)?;
@@ -172,9 +180,9 @@ fn write_candidates(scripts: &[Items<Command>], page: &mut Page) -> Result<(), A
 }
 
 /// Writes a nest's loops, then its candidates.
-#[tactic(auto, unfolding(crate::specs::Contents::unit), using(crate::proofs::Texts::texts))]
+#[tactic(auto, unfolding(crate::specs::Contents::unit_lines), using(crate::proofs::Texts::texts))]
 fn write_unit(scalars: &[Scalar], unit: &Unit, page: &mut Page) -> Result<(), AllocError>
-    ensures { OnOk result (page.new ≡ page.old ++ text_of (unit scalars.now unit.now)) }
+    ensures { OnOk result (page.new ≡ page.old ++ text_of (unit_lines scalars.now unit.now)) }
 {
     let labels = Labels {
         scalars,
@@ -186,9 +194,9 @@ fn write_unit(scalars: &[Scalar], unit: &Unit, page: &mut Page) -> Result<(), Al
 }
 
 /// Writes the nests.
-#[tactic(auto, using(crate::proofs::Texts::texts))]
+#[tactic(auto, using(crate::proofs::Texts::lists))]
 fn write_units(scalars: &[Scalar], units: &[Unit], page: &mut Page) -> Result<(), AllocError>
-    ensures { OnOk result (page.new ≡ page.old ++ text_of (flat_map (unit scalars.now) units.now)) }
+    ensures { OnOk result (page.new ≡ page.old ++ text_of (flat_map (unit_lines scalars.now) units.now)) }
 {
     for unit in units {
         write_unit(scalars, unit, page)?;

@@ -3,7 +3,7 @@
 ghost use Rattle.std.specs.Prelude.{◌≡◌, ◌++◌, OnOk};
 ghost use Rattle.canonical.specs.Pieces.{text_of};
 ghost use Rattle.canonical.specs.Labelled.{labels_of};
-ghost use Rattle.canonical.specs.Expressions.{printed, as_group, expression};
+ghost use Rattle.canonical.specs.Expressions.{printed, as_group, expression_of};
 
 use crate::group::{Group, mark_of};
 use crate::labels::Labels;
@@ -13,7 +13,7 @@ use nest_tokens::Mark;
 use std::alloc::AllocError;
 
 /// The group of an expression.
-#[tactic(auto, using(crate::proofs::Printing::printings))]
+#[tactic(auto, using(crate::proofs::Printing::groups))]
 fn group_of(labels: &Labels<'_>, expr: &Expr) -> Group
     ensures { result ≡ (printed (labels_of labels.now) expr.now).group }
 {
@@ -70,13 +70,13 @@ fn write_bare(labels: &Labels<'_>, expr: &Expr, page: &mut Page) -> Result<(), A
 }
 
 /// Writes a whole expression.
-#[tactic(auto, unfolding(crate::specs::Expressions::expression))]
+#[tactic(auto, unfolding(crate::specs::Expressions::expression_of))]
 pub fn write_expression(
     labels: &Labels<'_>,
     expr: &Expr,
     page: &mut Page,
 ) -> Result<(), AllocError>
-    ensures { OnOk result (page.new ≡ page.old ++ text_of (expression (labels_of labels.now) expr.now)) }
+    ensures { OnOk result (page.new ≡ page.old ++ text_of (expression_of (labels_of labels.now) expr.now)) }
 {
     write_grouped(labels, expr, Group::Whole, page)
 }

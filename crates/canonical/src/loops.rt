@@ -1,10 +1,9 @@
 //! The writer of loops.
 
 ghost use Rattle.std.specs.Prelude.{◌≡◌, ◌++◌, OnOk};
-ghost use Rattle.canonical.specs.Pieces.{text_of, line};
-ghost use Rattle.canonical.specs.Labels.{in_head};
+ghost use Rattle.canonical.specs.Pieces.{text_of};
 ghost use Rattle.canonical.specs.Labelled.{labels_of};
-ghost use Rattle.canonical.specs.Loops.{step, heading, opening, loops};
+ghost use Rattle.canonical.specs.Loops.{step_of, bounds_of, heading_of, opening_line, loop_lines};
 
 use crate::expression::write_expression;
 use crate::labels::Labels;
@@ -15,9 +14,9 @@ use nest_tokens::Mark;
 use std::alloc::AllocError;
 
 /// Writes a step, which stands only where it is not 1.
-#[tactic(auto, unfolding(crate::specs::Loops::step), using(crate::proofs::Texts::texts))]
+#[tactic(auto, unfolding(crate::specs::Loops::step_of), using(crate::proofs::Texts::texts))]
 fn write_step(stride: i64, page: &mut Page) -> Result<(), AllocError>
-    ensures { OnOk result (page.new ≡ page.old ++ text_of (step stride)) }
+    ensures { OnOk result (page.new ≡ page.old ++ text_of (step_of stride)) }
 {
     if stride == 1 {
         return Ok(());
@@ -27,7 +26,7 @@ fn write_step(stride: i64, page: &mut Page) -> Result<(), AllocError>
 }
 
 /// Writes the head of a `for` behind its name.
-#[tactic(auto, using(crate::proofs::Texts::texts))]
+#[tactic(auto, unfolding(crate::specs::Loops::bounds_of), using(crate::proofs::Texts::texts))]
 fn write_bounds(
     labels: &Labels<'_>,
     lower: &Expr,
@@ -35,7 +34,7 @@ fn write_bounds(
     stride: i64,
     page: &mut Page,
 ) -> Result<(), AllocError>
-    ensures { OnOk result (page.new ≡ page.old ++ text_of (bounds (labels_of labels.now) lower.now upper.now stride)) }
+    ensures { OnOk result (page.new ≡ page.old ++ text_of (bounds_of (labels_of labels.now) lower.now upper.now stride)) }
 {
     page.spaced(Mark::Assign)?;
     write_expression(labels, lower, page)?;
@@ -45,14 +44,14 @@ fn write_bounds(
 }
 
 /// Writes the head of a loop at a level, from 0.
-#[tactic(auto, unfolding(crate::specs::Loops::heading), using(crate::proofs::Texts::texts))]
+#[tactic(auto, unfolding(crate::specs::Loops::heading_of), using(crate::proofs::Texts::texts))]
 fn write_heading(
     labels: &Labels<'_>,
     level: usize,
     head: &Head,
     page: &mut Page,
 ) -> Result<(), AllocError>
-    ensures { OnOk result (page.new ≡ page.old ++ text_of (heading (labels_of labels.now) level head.now)) }
+    ensures { OnOk result (page.new ≡ page.old ++ text_of (heading_of (labels_of labels.now) level head.now)) }
 {
     match head {
         Head::For(lower, upper, stride) => {
@@ -70,14 +69,14 @@ fn write_heading(
 }
 
 /// Writes the line that opens a loop at a level, from 0.
-#[tactic(auto, unfolding(crate::specs::Loops::opening), using(crate::proofs::Texts::texts))]
+#[tactic(auto, unfolding(crate::specs::Loops::opening_line), using(crate::proofs::Texts::texts))]
 fn write_opening(
     labels: &Labels<'_>,
     level: usize,
     head: &Head,
     page: &mut Page,
 ) -> Result<(), AllocError>
-    ensures { OnOk result (page.new ≡ page.old ++ text_of (opening (labels_of labels.now) level head.now)) }
+    ensures { OnOk result (page.new ≡ page.old ++ text_of (opening_line (labels_of labels.now) level head.now)) }
 {
     page.indent(level)?;
     write_heading(&labels.in_head(), level, head, page)?;
@@ -87,14 +86,14 @@ fn write_opening(
 }
 
 /// Writes loops from a level on, each in the one before it.
-#[tactic(auto, using(crate::proofs::Texts::texts, crate::proofs::Nested::nested))]
+#[tactic(auto, using(crate::proofs::Nested::nested))]
 pub fn write_loops(
     labels: &Labels<'_>,
     level: usize,
     loops: &[Loop],
     page: &mut Page,
 ) -> Result<(), AllocError>
-    ensures { OnOk result (page.new ≡ page.old ++ text_of (loops (labels_of labels.now) level loops.now)) }
+    ensures { OnOk result (page.new ≡ page.old ++ text_of (loop_lines (labels_of labels.now) level loops.now)) }
 {
     let Some((outer, inner)) = loops.split_first() else {
         return Ok(());

@@ -1,9 +1,10 @@
 //! A text that is written piece by piece.
 
-ghost use Rattle.std.specs.Prelude.{◌≡◌, ◌++◌, ◌∷◌, [], ◌*◌, ◌+◌, replicate, OnOk, IfOk};
+ghost use Rattle.std.specs.Prelude.{◌≡◌, ◌++◌, ◌∷◌, [], ◌*◌, ◌+◌, ◌≤◌, length, replicate, OnOk, IfOk};
+ghost use Rattle.std.specs.List.{prefix_len};
 ghost use Rattle.std.specs.Fmt.{decimal, signed_decimal};
 ghost use Rattle.nest_tokens.specs.Tokens.{spelling};
-ghost use Rattle.canonical.specs.Pieces.{text_of, name_text, spaced, signed};
+ghost use Rattle.canonical.specs.Pieces.{is_written, name_text, spaced, text_of};
 
 use nest_tokens::{Mark, Name};
 use std::alloc::{AllocError, Global};
@@ -79,7 +80,7 @@ impl Page {
     pub fn name(&mut self, name: Name) -> Result<(), AllocError>
         ensures { OnOk result (self.new ≡ self.old ++ name_text name) }
     {
-        let len = name.bytes.iter().take_while(|byte| **byte != 0).count();
+        let len = name_len(&name.bytes);
         self.text(&name.bytes[..len])
     }
 
@@ -103,7 +104,7 @@ impl Page {
     pub fn indent(&mut self, depth: usize) -> Result<(), AllocError>
         ensures { OnOk result (self.new ≡ self.old ++ replicate (2 * depth) 32) }
     {
-        for _ in 0..depth {
+        for _brace in 0..depth {
             self.text(b"  ")?;
         }
         Ok(())
@@ -115,6 +116,21 @@ impl Page {
     {
         self.text(b"\n")
     }
+}
+
+/// Whether a byte is none of the zeros behind a name.
+fn is_written(byte: u8) -> bool
+    ensures { result ≡ is_written byte }
+{
+    byte != 0
+}
+
+/// How many bytes of a name are written.
+fn name_len(name: &[u8]) -> usize
+    ensures value { result ≡ prefix_len is_written name.now }
+    ensures within { result ≤ length name.now }
+{
+    name.iter().take_while(|byte| is_written(**byte)).count()
 }
 
 /// One more open brace. An indent of so many spaces finds no memory.

@@ -4,7 +4,7 @@ ghost use Rattle.std.specs.Prelude.{◌≡◌, ◌++◌, [], OnOk};
 ghost use Rattle.std.specs.List.{flat_map};
 ghost use Rattle.nest_grammar.specs.Scripts.{word_spelling};
 ghost use Rattle.canonical.specs.Pieces.{text_of};
-ghost use Rattle.canonical.specs.Scripts.{operand, signed_operand, command, next_command, commands, candidate};
+ghost use Rattle.canonical.specs.Scripts.{operand, signed_operand, command_of, next_command, commands_of, candidate_line};
 
 use crate::page::Page;
 use nest_grammar::CommandWord;
@@ -13,7 +13,7 @@ use nest_tokens::Mark;
 use std::alloc::AllocError;
 
 /// Writes a command's word.
-#[tactic(auto, using(crate::proofs::Texts::texts, crate::proofs::Words::words))]
+#[tactic(auto, unfolding(nest_grammar::specs::Scripts::word_spelling))]
 fn write_word(word: CommandWord, page: &mut Page) -> Result<(), AllocError>
     ensures { OnOk result (page.new ≡ page.old ++ word_spelling word) }
 {
@@ -46,7 +46,7 @@ pub fn write_signed(number: i64, page: &mut Page) -> Result<(), AllocError>
 }
 
 /// Writes numbers, each behind a space.
-#[tactic(auto, using(crate::proofs::Texts::texts))]
+#[tactic(auto, using(crate::proofs::Texts::lists))]
 fn write_rows(rows: &[u8], page: &mut Page) -> Result<(), AllocError>
     ensures { OnOk result (page.new ≡ page.old ++ text_of (flat_map operand rows.now)) }
 {
@@ -57,9 +57,9 @@ fn write_rows(rows: &[u8], page: &mut Page) -> Result<(), AllocError>
 }
 
 /// Writes a command.
-#[tactic(auto, unfolding(crate::specs::Scripts::command), using(crate::proofs::Texts::texts))]
+#[tactic(auto, unfolding(crate::specs::Scripts::command_of), using(crate::proofs::Texts::texts, crate::proofs::Words::words))]
 fn write_command(command: &Command, page: &mut Page) -> Result<(), AllocError>
-    ensures { OnOk result (page.new ≡ page.old ++ text_of (command command.now)) }
+    ensures { OnOk result (page.new ≡ page.old ++ text_of (command_of command.now)) }
 {
     match command {
         Command::Seq(rows) => {
@@ -93,23 +93,31 @@ fn write_command(command: &Command, page: &mut Page) -> Result<(), AllocError>
     }
 }
 
-/// Writes commands, each behind a semicolon.
+/// Writes a command behind a semicolon.
 #[tactic(auto, using(crate::proofs::Texts::texts))]
+fn write_next(command: &Command, page: &mut Page) -> Result<(), AllocError>
+    ensures { OnOk result (page.new ≡ page.old ++ text_of (next_command command.now)) }
+{
+    page.mark(Mark::Semicolon)?;
+    page.space()?;
+    write_command(command, page)
+}
+
+/// Writes commands, each behind a semicolon.
+#[tactic(auto, using(crate::proofs::Texts::lists))]
 fn write_others(commands: &[Command], page: &mut Page) -> Result<(), AllocError>
     ensures { OnOk result (page.new ≡ page.old ++ text_of (flat_map next_command commands.now)) }
 {
     for command in commands {
-        page.mark(Mark::Semicolon)?;
-        page.space()?;
-        write_command(command, page)?;
+        write_next(command, page)?;
     }
     Ok(())
 }
 
 /// Writes the commands of a script, with a space behind the last.
-#[tactic(auto, unfolding(crate::specs::Scripts::commands), using(crate::proofs::Texts::texts))]
+#[tactic(auto, unfolding(crate::specs::Scripts::commands_of), using(crate::proofs::Texts::texts))]
 fn write_commands(script: &[Command], page: &mut Page) -> Result<(), AllocError>
-    ensures { OnOk result (page.new ≡ page.old ++ text_of (commands script.now)) }
+    ensures { OnOk result (page.new ≡ page.old ++ text_of (commands_of script.now)) }
 {
     let Some((first, others)) = script.split_first() else {
         return Ok(());
@@ -120,9 +128,9 @@ fn write_commands(script: &[Command], page: &mut Page) -> Result<(), AllocError>
 }
 
 /// Writes the line of a candidate.
-#[tactic(auto, unfolding(crate::specs::Scripts::candidate), using(crate::proofs::Texts::texts))]
+#[tactic(auto, unfolding(crate::specs::Scripts::candidate_line), using(crate::proofs::Texts::texts))]
 pub fn write_candidate(script: &[Command], page: &mut Page) -> Result<(), AllocError>
-    ensures { OnOk result (page.new ≡ page.old ++ text_of (candidate script.now)) }
+    ensures { OnOk result (page.new ≡ page.old ++ text_of (candidate_line script.now)) }
 {
     page.mark(Mark::Candidate)?;
     page.space()?;

@@ -4,8 +4,8 @@ ghost use Rattle.std.specs.Prelude.{◌≡◌, ◌++◌, OnOk};
 ghost use Rattle.nest_tokens.specs.declared.token.Mark.TheVariants.{Assign as AssignMark};
 ghost use Rattle.canonical.specs.Pieces.{text_of, line, spaced};
 ghost use Rattle.canonical.specs.Labelled.{labels_of};
-ghost use Rattle.canonical.specs.Expressions.{expression};
-ghost use Rattle.canonical.specs.Statements.{let_line, set_line, store_line, if_line, else_line, close_line, otherwise, statement, statements};
+ghost use Rattle.canonical.specs.Expressions.{expression_of};
+ghost use Rattle.canonical.specs.Statements.{let_line, set_line, store_line, if_line, else_line, close_line, otherwise, statement_of, statement_lines};
 
 use crate::expression::write_expression;
 use crate::labels::Labels;
@@ -17,14 +17,14 @@ use std::alloc::AllocError;
 /// Writes the sign of an assignment and its value.
 #[tactic(auto, using(crate::proofs::Texts::texts))]
 fn write_value(labels: &Labels<'_>, value: &Expr, page: &mut Page) -> Result<(), AllocError>
-    ensures { OnOk result (page.new ≡ page.old ++ text_of (spaced AssignMark ++ expression (labels_of labels.now) value.now)) }
+    ensures { OnOk result (page.new ≡ page.old ++ text_of (spaced AssignMark ++ expression_of (labels_of labels.now) value.now)) }
 {
     page.spaced(Mark::Assign)?;
     write_expression(labels, value, page)
 }
 
 /// Writes a local and its value.
-#[tactic(auto, using(crate::proofs::Texts::texts))]
+#[tactic(auto, unfolding(crate::specs::Statements::let_line), using(crate::proofs::Texts::texts))]
 fn write_let(
     labels: &Labels<'_>,
     number: u8,
@@ -40,7 +40,7 @@ fn write_let(
 }
 
 /// Writes a scalar and its new value.
-#[tactic(auto, using(crate::proofs::Texts::texts))]
+#[tactic(auto, unfolding(crate::specs::Statements::set_line), using(crate::proofs::Texts::texts))]
 fn write_set(
     labels: &Labels<'_>,
     number: u8,
@@ -54,7 +54,7 @@ fn write_set(
 }
 
 /// Writes the address and the value of a store.
-#[tactic(auto, using(crate::proofs::Texts::texts))]
+#[tactic(auto, unfolding(crate::specs::Statements::store_line), using(crate::proofs::Texts::texts))]
 fn write_store(
     labels: &Labels<'_>,
     address: &Expr,
@@ -70,7 +70,7 @@ fn write_store(
 }
 
 /// Writes the condition of an `if` and the brace behind it.
-#[tactic(auto, using(crate::proofs::Texts::texts))]
+#[tactic(auto, unfolding(crate::specs::Statements::if_line), using(crate::proofs::Texts::texts))]
 fn write_if(labels: &Labels<'_>, condition: &Expr, page: &mut Page) -> Result<(), AllocError>
     ensures { OnOk result (page.new ≡ page.old ++ text_of (if_line (labels_of labels.now) condition.now)) }
 {
@@ -105,14 +105,14 @@ pub fn write_close(depth: usize, page: &mut Page) -> Result<(), AllocError>
 
 /// Writes the lines of a statement, within so many open braces.
 #[cycle(write)]
-#[tactic(auto, using(crate::proofs::Texts::texts, crate::proofs::Stated::stated))]
+#[tactic(auto, using(crate::proofs::Stated::stated))]
 fn write_statement(
     labels: &Labels<'_>,
     statement: &Stmt,
     depth: usize,
     page: &mut Page,
 ) -> Result<(), AllocError>
-    ensures { OnOk result (page.new ≡ page.old ++ text_of (statement (labels_of labels.now) statement.now depth)) }
+    ensures { OnOk result (page.new ≡ page.old ++ text_of (statement_of (labels_of labels.now) statement.now depth)) }
 {
     match statement {
         Stmt::Let(number, value) => {
@@ -143,7 +143,7 @@ fn write_statement(
 
 /// Writes an else branch, which stands only where it has a statement.
 #[cycle(write)]
-#[tactic(auto, using(crate::proofs::Texts::texts, crate::proofs::Stated::stated))]
+#[tactic(auto, using(crate::proofs::Stated::stated))]
 fn write_otherwise(
     labels: &Labels<'_>,
     branch: &[Stmt],
@@ -161,14 +161,14 @@ fn write_otherwise(
 
 /// Writes statements, one behind another.
 #[cycle(write)]
-#[tactic(auto, using(crate::proofs::Texts::texts, crate::proofs::Stated::stated))]
+#[tactic(auto, using(crate::proofs::Stated::stated))]
 pub fn write_statements(
     labels: &Labels<'_>,
     block: &[Stmt],
     depth: usize,
     page: &mut Page,
 ) -> Result<(), AllocError>
-    ensures { OnOk result (page.new ≡ page.old ++ text_of (statements (labels_of labels.now) block.now depth)) }
+    ensures { OnOk result (page.new ≡ page.old ++ text_of (statement_lines (labels_of labels.now) block.now depth)) }
 {
     for statement in block {
         write_statement(labels, statement, depth, page)?;
