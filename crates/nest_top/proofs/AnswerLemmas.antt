@@ -1,104 +1,70 @@
--- Answers: what a reading gives, and which status has which cause.
-use Rattle.std.proofs.Common.{◌≡◌, refl, ap, ◌∙◌, sym, subst, ℕ, ◌<◌, ◌≤◌, List, [], ◌∷◌, map, length, get_or, codes, Option, Some, None, Result, Ok, Err, IfOk, Bool, true, arith}
-use Rattle.std.specs.Prelude.{◌↔◌, IsTrue}
-use Rattle.std.specs.Bool.{Decides}
-use Rattle.std.specs.Str.{bytes_eq}
-use Rattle.std.proofs.lemmas.Slice.Eq.{bytes_eq-Decides}
-use Rattle.nest_lang.specs.declared.tree.Loop.{Loop}
-use Rattle.nest_lang.specs.declared.tree.Nest.{Nest}
+-- Answers: which status has which cause, and that there is one.
+use Rattle.std.proofs.Common.{◌≡◌, refl, ap, ◌∙◌, sym, subst, ℕ, List, [], Option, Some, None, Result, Ok, Err, IfOk, ◌≤◌, ◌^◌, arith, pos}
 use Rattle.nest_lang.specs.declared.tree.Trap.{Trap}
 use Rattle.nest_lang.specs.declared.budget.Ending.{Ending}
 use Rattle.nest_lang.specs.declared.budget.Ending.TheVariants as ending
-use Rattle.nest_lang.specs.Rules.{keeps_rules}
-use Rattle.nest_lang.specs.Stores.{Store}
 use Rattle.nest_lang.specs.Traces as traces
 use Rattle.nest_lang.specs.Traces.{Finish}
-use Rattle.nest_lang.specs.Runs.{Run, plain_run, finish_by}
-use Rattle.nest_lang.proofs.RunLemmas.{sizes-stay}
-use Rattle.nest_text.specs.Sights.{Sight}
-use Rattle.nest_text.specs.Files.{File, first_store}
-use Rattle.nest_text.specs.Grammar.{IsLoop, Reads}
-use Rattle.nest_text.specs.Grammar.IsLoop.{loop}
-use Rattle.nest_text.specs.Grammar.Reads.{file}
-use Rattle.nest_text.proofs.Main.{at_most_one}
+use Rattle.nest_lang.specs.Runs.{finish_by}
+use Rattle.nest_grammar.specs.declared.fault.TextFault.{TextFault}
+use Rattle.nest_grammar.specs.declared.file.File.{File}
+use Rattle.nest_grammar.specs.Contents.{reading}
 use Rattle.report.specs.declared.runs.WordRun.{WordRun}
 use Rattle.report.specs.Outcomes.{outcome_lines}
 use Rattle.report.proofs.OneList.{same_runs}
+use Rattle.command_line.specs.declared.command.Command.{Command}
+use Rattle.command_line.specs.declared.command.Mode.{Mode}
+use Rattle.command_line.specs.declared.command.Mode.TheVariants.{Plain, Check}
+use Rattle.command_line.specs.declared.command.Options.{Options}
+use Rattle.command_line.specs.Commands.{IsCommand, IsNoCommand, usage_line}
+use Rattle.command_line.proofs.Found.{one_command}
+use Rattle.std.specs.Str.Parse.{digits_value}
 use Rattle.nest_top.specs.declared.status.Status.{Status}
-use Rattle.nest_top.specs.declared.status.Status.TheVariants.{Trapped, Limited, Refused, Usage, SourceFault, SinkFault, NoMemory}
-use Rattle.nest_top.specs.Commands.{IsCommand, usage_line, text_taken}
-use Rattle.nest_top.specs.Answers.{IsAnswer, IsOutcomeOf, IsRunnable, HasNoReading, Prepared, IsTextOf, run_of_file, status_of}
-use Rattle.nest_top.specs.Answers.IsAnswer.{usage, refused, outcome}
+use Rattle.nest_top.specs.declared.status.Status.TheVariants.{Ended, Trapped, Limited, Refused, Usage, SourceFault, SinkFault, NoMemory}
+use Rattle.nest_top.specs.Texts.{IsTextOf, text_taken}
+use Rattle.nest_top.specs.Answers.{AnswersFile, AnswersReading, Causes, Finishes, IsAnswer, IsOutcomeOf, Prepared, finish_of, run_of_file, status_of}
+use Rattle.nest_top.specs.Answers.IsAnswer.{usage, command}
+use Rattle.nest_top.specs.Answers.{scalar_names}
+use Rattle.std.specs.Prelude.{MatchResult}
+use Rattle.nest_top.specs.declared.answer.Answer.{Answer}
+use Rattle.nest_top.specs.declared.run.Unanswered.{Unanswered}
+use Rattle.nest_top.specs.declared.run.Unanswered.TheVariants.{NoMemory as OutOfMemory}
 use Rattle.nest_top.specs.Laws.{OneAnswer, EachHasItsCause}
 
--- what a text reads as so far is one `for`, which keeps the rules of nests
-loop-keeps_rules : {s t : Sight} {l : Loop} → IsLoop s l t → keeps_rules (l ∷ []) ≡ true
-unfolding keeps_rules
-loop-keeps_rules (loop {lower = lower} {upper = upper} {st = st} a b c d e f g h i j k m) = refl
+-- ---- statuses of endings
 
-pub reads-runnable : (text : List ℕ) (f : File) → Reads text f → IsRunnable f
-reads-runnable text f (file {l = l} a b c d e g h i j) =
-    record { nest = record { loops = l ∷ [] }; alone = refl; rules = loop-keeps_rules i }
+same-ending : (e d : Ending) → finish_by e ≡ finish_by d → e ≡ d
+same-ending ending.Ended ending.Ended h = refl
+same-ending ending.Ended (ending.Trapped t) h = absurd (cc)
+same-ending ending.Ended ending.Limited h = absurd (cc)
+same-ending (ending.Trapped t) ending.Ended h = absurd (cc)
+same-ending (ending.Trapped t) (ending.Trapped u) h = cc
+same-ending (ending.Trapped t) ending.Limited h = absurd (cc)
+same-ending ending.Limited ending.Ended h = absurd (cc)
+same-ending ending.Limited (ending.Trapped t) h = absurd (cc)
+same-ending ending.Limited ending.Limited h = refl
 
--- a result's value is also so
-pub ok-map : {A E : Type 0} (P Q : A → Type 0) → ((a : A) → P a → Q a) → (r : Result A E) → IfOk r P → IfOk r Q
-ok-map P Q go (Ok a) p = go a p
-ok-map P Q go (Err e) p = tt
+-- a status that an answer to a file has
+abbrev IsOfFile : Status → Type 0
+IsOfFile Ended = Unit {0}
+IsOfFile Trapped = Unit {0}
+IsOfFile Limited = Unit {0}
+IsOfFile status = ⊥
 
--- a run from a first store leaves no scalars
-pub no-scalars : (f : File) (nests : List Nest) (s t : Store) (n : ℕ) (e : Finish) (steps : ℕ) → record { store = t; ending = e; steps = steps } ≡ plain_run nests s n → s ≡ first_store f → 0 ≡ length t.scalars
-no-scalars f nests s t n e steps run first =
-    let kept : length t.scalars ≡ length s.scalars = ap (λ (r : Run). length r.store.scalars) run ∙ (sizes-stay nests s n).1 in
-    sym (kept ∙ ap (λ (z : Store). length z.scalars) first)
-
-equal-bytes : (a b : List ℕ) (r : Bool) → Decides r (a ≡ b) → IsTrue r → a ≡ b
-equal-bytes a b r d h = grind arith
-
-same-bytes : (a b : List ℕ) (r : Bool) → Decides r (a ≡ b) → a ≡ b → IsTrue r
-same-bytes a b r d h = grind arith
-
--- one word
-pub one-word : {A : Type 0} (f : A → List ℕ) (words : List A) (word : A) (text plain : List ℕ) (answer : Bool) → 1 ≤ length words → length words < 2 → word ≡ get_or words 0 word → text ≡ f word
-    → answer ≡ bytes_eq text plain → IsTrue answer ↔ (map f words ≡ plain ∷ [])
-one-word f [] word text plain answer some few is shown same = absurd (omega arith)
-one-word f (x ∷ []) word text plain answer some few is shown same =
-    let here : text ≡ f x = shown ∙ ap f is in
-    let there : IsTrue answer → f x ∷ [] ≡ plain ∷ [] = λ h. ap (λ (t : List ℕ). t ∷ []) (sym here ∙ equal-bytes text plain (bytes_eq text plain) (bytes_eq-Decides text plain) (subst IsTrue same h)) in
-    let back : f x ∷ [] ≡ plain ∷ [] → IsTrue answer = λ e. let q : f x ≡ plain = cc in subst IsTrue (sym same) (same-bytes text plain (bytes_eq text plain) (bytes_eq-Decides text plain) (here ∙ q)) in
-    (there, back)
-one-word f (x ∷ y ∷ ys) word text plain answer some few is shown same = absurd (omega arith)
-
--- a status that an answer has
-abbrev pub IsOfAnswer : Status → Type 0
-IsOfAnswer SourceFault = ⊥
-IsOfAnswer SinkFault = ⊥
-IsOfAnswer NoMemory = ⊥
-IsOfAnswer status = Unit {0}
-
-of-ending : (e : Ending) → IsOfAnswer (status_of e)
+of-ending : (e : Ending) → IsOfFile (status_of e)
 of-ending ending.Ended = tt
 of-ending (ending.Trapped trap) = tt
 of-ending ending.Limited = tt
 
-of-answer : (words : List (List ℕ)) (text bytes : List ℕ) (status : Status) → IsAnswer words text bytes status → IsOfAnswer status
-of-answer words text bytes status (usage n) = tt
-of-answer words text bytes status (refused c n) = tt
-of-answer words text bytes status (outcome c f r b s o) = subst IsOfAnswer (sym o.answered) (of-ending o.ending)
+is-ended : (e : Ending) → status_of e ≡ Ended → finish_by e ≡ traces.Done
+is-ended ending.Ended h = refl
+is-ended (ending.Trapped trap) h = absurd (cc)
+is-ended ending.Limited h = absurd (cc)
 
--- no answer has the status of a fault
-pub answer-no_sink_fault : (words : List (List ℕ)) (text bytes : List ℕ) (status : Status) → IsAnswer words text bytes status → status ≡ SinkFault → ⊥
-answer-no_sink_fault words text bytes status a e = subst IsOfAnswer e (of-answer words text bytes status a)
-
--- the status of an ending
-not-usage : (e : Ending) → status_of e ≡ Usage → ⊥
-not-usage ending.Ended h = cc
-not-usage (ending.Trapped trap) h = cc
-not-usage ending.Limited h = cc
-
-not-refused : (e : Ending) → status_of e ≡ Refused → ⊥
-not-refused ending.Ended h = cc
-not-refused (ending.Trapped trap) h = cc
-not-refused ending.Limited h = cc
+from-ended : (e : Ending) → finish_by e ≡ traces.Done → status_of e ≡ Ended
+from-ended ending.Ended h = refl
+from-ended (ending.Trapped trap) h = absurd (cc)
+from-ended ending.Limited h = absurd (cc)
 
 is-trapped : (e : Ending) → status_of e ≡ Trapped → (trap : Trap) × (finish_by e ≡ traces.Halted (traces.Trapped trap))
 is-trapped ending.Ended h = absurd (cc)
@@ -120,75 +86,144 @@ from-limited ending.Ended h = absurd (cc)
 from-limited (ending.Trapped trap) h = absurd (cc)
 from-limited ending.Limited h = refl
 
-same-ending : (e d : Ending) → finish_by e ≡ finish_by d → e ≡ d
-same-ending ending.Ended ending.Ended h = refl
-same-ending ending.Ended (ending.Trapped t) h = absurd (cc)
-same-ending ending.Ended ending.Limited h = absurd (cc)
-same-ending (ending.Trapped t) ending.Ended h = absurd (cc)
-same-ending (ending.Trapped t) (ending.Trapped u) h = cc
-same-ending (ending.Trapped t) ending.Limited h = absurd (cc)
-same-ending ending.Limited ending.Ended h = absurd (cc)
-same-ending ending.Limited (ending.Trapped t) h = absurd (cc)
-same-ending ending.Limited ending.Limited h = refl
+-- how the answer to a file ended
+record EndedSo (mode : Mode) (options : Options) (file : File) (status : Status) : Type 0 where
+  ending : Ending
+  finished : finish_by ending ≡ finish_of mode options file
+  answered : status ≡ status_of ending
+
+ended-so : (mode : Mode) (options : Options) (file : File) (bytes : List ℕ) (status : Status) → AnswersFile mode options file bytes status → EndedSo mode options file status
+ended-so Plain options file bytes status is = record { ending = is.ending; finished = is.ended; answered = is.answered }
+ended-so Check options file bytes status is = record { ending = ending.Ended; finished = refl; answered = is.1 }
+
+-- ---- causes
+
+-- two commands of the same words, and what a text reads as, are the same
+same-file : {A B : Type 0} (r : Result A B) (f g : A) → r ≡ Ok f → r ≡ Ok g → f ≡ g
+same-file r f g one other = let e = sym one ∙ other in cc
+
+no-fault : {A B : Type 0} (r : Result A B) (f : A) (b : B) → r ≡ Ok f → r ≡ Err b → ⊥
+no-fault r f b one other = let e = sym one ∙ other in cc
+
+module _ (words : List (List ℕ)) (text : List ℕ) (c : Command) (is : IsCommand words c) where
+  -- the command and the file of a run are these
+  finishes-here : (file : File) → reading text ≡ Ok file → (finish : Finish) → Finishes words text finish → finish_of c.mode c.options file ≡ finish
+  finishes-here file reads finish f =
+      let same = one_command words c f.command is f.is in
+      let alike = same-file (reading text) file f.file reads f.reads in
+      ap (λ (d : Command). finish_of d.mode d.options file) same ∙ (ap (finish_of f.command.mode f.command.options) alike ∙ f.finished)
+
+  -- the causes of the answer to a file
+  file-causes : (file : File) → reading text ≡ Ok file → (status : Status) → EndedSo c.mode c.options file status → Causes words text status
+  file-causes file reads status e = record {
+    usage = (λ u. absurd (subst IsOfFile (sym e.answered ∙ u) (of-ending e.ending)), λ none. absurd (none c is));
+    refused = (
+      λ r. absurd (subst IsOfFile (sym e.answered ∙ r) (of-ending e.ending)),
+      λ r. absurd (no-fault (reading text) file r.fault reads r.reads),
+    );
+    ended = (
+      λ s. record { command = c; is = is; file = file; reads = reads; finished = sym e.finished ∙ is-ended e.ending (sym e.answered ∙ s) },
+      λ f. e.answered ∙ from-ended e.ending (e.finished ∙ finishes-here file reads traces.Done f),
+    );
+    trapped = (
+      λ s. let t = is-trapped e.ending (sym e.answered ∙ s) in
+          (t.0, record { command = c; is = is; file = file; reads = reads; finished = sym e.finished ∙ t.1 }),
+      λ f. e.answered ∙ from-trapped e.ending f.0 (e.finished ∙ finishes-here file reads (traces.Halted (traces.Trapped f.0)) f.1),
+    );
+    limited = (
+      λ s. record { command = c; is = is; file = file; reads = reads; finished = sym e.finished ∙ is-limited e.ending (sym e.answered ∙ s) },
+      λ f. e.answered ∙ from-limited e.ending (e.finished ∙ finishes-here file reads traces.Limited f),
+    );
+  }
+
+  refused-causes : (fault : TextFault) → reading text ≡ Err fault → (status : Status) → status ≡ Refused → Causes words text status
+  refused-causes fault reads status r = record {
+    usage = (λ u. let bad : Refused ≡ Usage = sym r ∙ u in absurd (cc), λ none. absurd (none c is));
+    refused = (λ s. record { command = c; is = is; fault = fault; reads = reads }, λ s. r);
+    ended = (λ s. let bad : Refused ≡ Ended = sym r ∙ s in absurd (cc), λ f. absurd (no-fault (reading text) f.file fault f.reads reads));
+    trapped = (λ s. let bad : Refused ≡ Trapped = sym r ∙ s in absurd (cc), λ f. absurd (no-fault (reading text) f.1.file fault f.1.reads reads));
+    limited = (λ s. let bad : Refused ≡ Limited = sym r ∙ s in absurd (cc), λ f. absurd (no-fault (reading text) f.file fault f.reads reads));
+  }
+
+  command-causes : (bytes : List ℕ) (status : Status) (r : Result File TextFault) → reading text ≡ r → AnswersReading c r bytes status → Causes words text status
+  command-causes bytes status (Ok file) reads answers = file-causes file reads status (ended-so c.mode c.options file bytes status answers)
+  command-causes bytes status (Err fault) reads answers = refused-causes fault reads status answers.1
+
+usage-causes : (words : List (List ℕ)) (text : List ℕ) → IsNoCommand words → Causes words text Usage
+usage-causes words text none = record {
+  usage = (λ e. none, λ e. refl);
+  refused = (λ e. absurd (cc), λ r. absurd (none r.command r.is));
+  ended = (λ e. absurd (cc), λ f. absurd (none f.command f.is));
+  trapped = (λ e. absurd (cc), λ f. absurd (none f.1.command f.1.is));
+  limited = (λ e. absurd (cc), λ f. absurd (none f.command f.is));
+}
 
 -- each status of an answer has its cause
 pub causes : EachHasItsCause
-causes words text bytes status (usage n) =
-    record {
-      usage = (λ e. n, λ e. refl);
-      refused = (λ e. absurd (cc), λ p. absurd (n p.0));
-      trapped = (λ e. absurd (cc), λ p. absurd (n p.0));
-      limited = (λ e. absurd (cc), λ p. absurd (n p.0));
-    }
-causes words text bytes status (refused c none) =
-    record {
-      usage = (λ e. absurd (cc), λ n. absurd (n c));
-      refused = (λ e. (c, none), λ p. refl);
-      trapped = (λ e. absurd (cc), λ p. absurd (none p.1.0 p.1.1));
-      limited = (λ e. absurd (cc), λ p. absurd (none p.1.0 p.1.1));
-    }
-causes words text bytes status (outcome c f reads b s o) =
-    record {
-      usage = (λ e. absurd (not-usage o.ending (sym o.answered ∙ e)), λ n. absurd (n c));
-      refused = (λ e. absurd (not-refused o.ending (sym o.answered ∙ e)), λ p. absurd (p.1 f reads));
-      trapped = (
-        λ e. let t = is-trapped o.ending (sym o.answered ∙ e) in (c, (f, reads, (t.0, sym o.ended ∙ t.1))),
-        λ p. let same : f ≡ p.1.0 = at_most_one text f p.1.0 reads p.1.1 in
-            o.answered ∙ from-trapped o.ending p.1.2.0 (o.ended ∙ ap (λ (x : File). (run_of_file x).ending) same ∙ p.1.2.1),
-      );
-      limited = (
-        λ e. (c, (f, reads, sym o.ended ∙ is-limited o.ending (sym o.answered ∙ e))),
-        λ p. let same : f ≡ p.1.0 = at_most_one text f p.1.0 reads p.1.1 in
-            o.answered ∙ from-limited o.ending (o.ended ∙ ap (λ (x : File). (run_of_file x).ending) same ∙ p.1.2),
-      );
-    }
+causes words text bytes status (usage none) = usage-causes words text none
+causes words text bytes status (command c is b s answers) = command-causes words text c is b s (reading text) refl answers
 
--- one outcome has one text
-one-outcome : (f : File) (bytes bytes' : List ℕ) (status status' : Status) → IsOutcomeOf f bytes status → IsOutcomeOf f bytes' status' → (bytes ≡ bytes') × (status ≡ status')
-one-outcome f bytes bytes' status status' o p =
-    let run = run_of_file f in
+-- ---- one answer
+
+abbrev Same : List ℕ → List ℕ → Status → Status → Type 0
+Same bytes bytes' status status' = (bytes ≡ bytes') × (status ≡ status')
+
+one-outcome : (file : File) (steps : ℕ) (bytes bytes' : List ℕ) (status status' : Status) → IsOutcomeOf file steps bytes status → IsOutcomeOf file steps bytes' status' → Same bytes bytes' status status'
+one-outcome file steps bytes bytes' status status' o p =
+    let run = run_of_file file steps in
     let e : o.ending ≡ p.ending = same-ending o.ending p.ending (o.ended ∙ sym p.ended) in
     let runs : o.written.0 ≡ p.written.0 = same_runs run.store.memory o.written.0 p.written.0 o.written.1 p.written.1 in (
       o.written.2
-          ∙ ap (λ (rs : List WordRun). outcome_lines [] run.store.scalars rs o.ending run.steps) runs
-          ∙ ap (λ (x : Ending). outcome_lines [] run.store.scalars p.written.0 x run.steps) e
+          ∙ ap (λ (rs : List WordRun). outcome_lines (scalar_names file) run.store.scalars rs o.ending run.steps) runs
+          ∙ ap (λ (x : Ending). outcome_lines (scalar_names file) run.store.scalars p.written.0 x run.steps) e
           ∙ sym p.written.2,
       o.answered ∙ ap status_of e ∙ sym p.answered,
     )
 
+one-file_answer : (mode : Mode) (options : Options) (file : File) (bytes bytes' : List ℕ) (status status' : Status) → AnswersFile mode options file bytes status → AnswersFile mode options file bytes' status' → Same bytes bytes' status status'
+one-file_answer Plain options file bytes bytes' status status' a b = one-outcome file options.steps bytes bytes' status status' a b
+one-file_answer Check options file bytes bytes' status status' a b = (a.0 ∙ sym b.0, a.1 ∙ sym b.1)
+
+one-reading_answer : (c : Command) (r : Result File TextFault) (bytes bytes' : List ℕ) (status status' : Status) → AnswersReading c r bytes status → AnswersReading c r bytes' status' → Same bytes bytes' status status'
+one-reading_answer c (Ok file) bytes bytes' status status' a b = one-file_answer c.mode c.options file bytes bytes' status status' a b
+one-reading_answer c (Err fault) bytes bytes' status status' a b = (a.0 ∙ sym b.0, a.1 ∙ sym b.1)
+
 -- words and a text have at most one answer
 pub at_most_one_answer : OneAnswer
 at_most_one_answer words text bytes bytes' status status' (usage n) (usage m) = (refl, refl)
-at_most_one_answer words text bytes bytes' status status' (usage n) (refused c m) = absurd (n c)
-at_most_one_answer words text bytes bytes' status status' (usage n) (outcome c f r b s o) = absurd (n c)
-at_most_one_answer words text bytes bytes' status status' (refused c n) (usage m) = absurd (m c)
-at_most_one_answer words text bytes bytes' status status' (refused c n) (refused d m) = (refl, refl)
-at_most_one_answer words text bytes bytes' status status' (refused c n) (outcome d f r b s o) = absurd (n f r)
-at_most_one_answer words text bytes bytes' status status' (outcome c f r b s o) (usage m) = absurd (m c)
-at_most_one_answer words text bytes bytes' status status' (outcome c f r b s o) (refused d m) = absurd (m f r)
-at_most_one_answer words text bytes bytes' status status' (outcome c f r b s o) (outcome d f' r' b' s' o') =
-    let same : f' ≡ f = at_most_one text f' f r' r in
-    one-outcome f b b' s s' o (subst (λ (x : File). IsOutcomeOf x b' s') same o')
+at_most_one_answer words text bytes bytes' status status' (usage n) (command d is b s a) = absurd (n d is)
+at_most_one_answer words text bytes bytes' status status' (command c is b s a) (usage n) = absurd (n c is)
+at_most_one_answer words text bytes bytes' status status' (command c is b s a) (command d is' b' s' a') =
+    one-reading_answer c (reading text) b b' s s' a (subst (λ (x : Command). AnswersReading x (reading text) b' s') (sym (one_command words c d is is')) a')
+
+-- ---- what the calls use
+
+-- a status that an answer has
+abbrev IsOfAnswer : Status → Type 0
+IsOfAnswer SourceFault = ⊥
+IsOfAnswer SinkFault = ⊥
+IsOfAnswer NoMemory = ⊥
+IsOfAnswer status = Unit {0}
+
+of-an-ending : (e : Ending) → IsOfAnswer (status_of e)
+of-an-ending ending.Ended = tt
+of-an-ending (ending.Trapped trap) = tt
+of-an-ending ending.Limited = tt
+
+of-reading : (c : Command) (r : Result File TextFault) (bytes : List ℕ) (status : Status) → AnswersReading c r bytes status → IsOfAnswer status
+of-reading c (Ok file) bytes status a = let e = ended-so c.mode c.options file bytes status a in subst IsOfAnswer (sym e.answered) (of-an-ending e.ending)
+of-reading c (Err fault) bytes status a = subst IsOfAnswer (sym a.1) tt
+
+of-answer : (words : List (List ℕ)) (text bytes : List ℕ) (status : Status) → IsAnswer words text bytes status → IsOfAnswer status
+of-answer words text bytes status (usage n) = tt
+of-answer words text bytes status (command c is b s a) = of-reading c (reading text) b s a
+
+-- no answer has the status of a fault
+pub answer-no_sink_fault : (words : List (List ℕ)) (text bytes : List ℕ) (status : Status) → IsAnswer words text bytes status → status ≡ SinkFault → ⊥
+answer-no_sink_fault words text bytes status a e = subst IsOfAnswer e (of-answer words text bytes status a)
+
+pub answer-no_source_fault : (words : List (List ℕ)) (text bytes : List ℕ) (status : Status) → IsAnswer words text bytes status → status ≡ SourceFault → ⊥
+answer-no_source_fault words text bytes status a e = subst IsOfAnswer e (of-answer words text bytes status a)
 
 -- a text that a source may have given
 text-of : (left : Option (List ℕ)) → (text : List ℕ) × IsTextOf left text
@@ -196,18 +231,36 @@ text-of None = ([], tt)
 text-of (Some bytes) = (text_taken bytes, refl)
 
 -- words that are no command have their answer at once
-pub usage-prepared : (words : List (List ℕ)) (left : Option (List ℕ)) (bytes : List ℕ) (status : Status) → (IsCommand words → ⊥) → (bytes ≡ usage_line) × (status ≡ Usage) → Prepared words left bytes status
-usage-prepared words left bytes status n is =
+pub usage-prepared : (words : List (List ℕ)) (left : Option (List ℕ)) (bytes : List ℕ) (status : Status) → IsNoCommand words → (bytes ≡ usage_line) × (status ≡ Usage) → Prepared words left bytes status
+usage-prepared words left bytes status none is =
     let t = text-of left in
-    let at : IsAnswer words t.0 usage_line Usage = usage n in
+    let at : IsAnswer words t.0 usage_line Usage = usage none in
     record {
       text = t.0;
       taken = t.1;
       answer = subst (λ (b : List ℕ). IsAnswer words t.0 b status) (sym is.0) (subst (λ (s : Status). IsAnswer words t.0 usage_line s) (sym is.1) at);
     }
 
--- a text without a reading has its answer
-pub refused-answer : (text bytes : List ℕ) (status : Status) → HasNoReading text → (bytes ≡ codes "refused form\n") × (status ≡ Refused) → IsAnswer (codes "plain" ∷ []) text bytes status
-refused-answer text bytes status none is =
-    let at : IsAnswer (codes "plain" ∷ []) text (codes "refused form\n") Refused = refused refl none in
-    subst (λ (b : List ℕ). IsAnswer (codes "plain" ∷ []) text b status) (sym is.0) (subst (λ (s : Status). IsAnswer (codes "plain" ∷ []) text (codes "refused form\n") s) (sym is.1) at)
+-- a result's value is also so
+pub ok-map : {A E : Type 0} (P Q : A → Type 0) → ((a : A) → P a → Q a) → (r : Result A E) → IfOk r P → IfOk r Q
+ok-map P Q go (Ok a) p = go a p
+ok-map P Q go (Err e) p = tt
+
+same-natural : (m n : ℕ) → pos m ≡ pos n → m ≡ n
+same-natural m n e = cc
+
+-- the steps of a command
+pub steps-most : (words : List (List ℕ)) (c : Command) → IsCommand words c → c.options.steps ≤ 2 ^ 32
+steps-most words c is =
+    let given = is.found.options.steps.is in
+    let value : c.options.steps ≡ digits_value 10 is.found.options.steps.text = same-natural _ _ given.value in
+    omega (arith, given.upto, value)
+
+-- what was made is answered, unless memory was refused
+pub unless-refused : {E : Type 0} (P : Answer → Type 0) (made : Result Answer E) (r : Result Answer Unanswered) → MatchResult made (λ a. r ≡ Ok a) (λ _. r ≡ Err OutOfMemory) → IfOk made P → IfOk r P
+unless-refused P (Ok a) r is h = subst (λ (x : Result Answer Unanswered). IfOk x P) (sym is) h
+unless-refused P (Err e) r is h = subst (λ (x : Result Answer Unanswered). IfOk x P) (sym is) tt
+
+-- a command has its answer to the text
+pub command-prepared : (words : List (List ℕ)) (left : Option (List ℕ)) (c : Command) (text bytes : List ℕ) (status : Status) → IsCommand words c → IsTextOf left text → AnswersReading c (reading text) bytes status → Prepared words left bytes status
+command-prepared words left c text bytes status is taken answers = record { text = text; taken = taken; answer = command c is bytes status answers }

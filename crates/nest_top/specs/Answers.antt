@@ -1,18 +1,27 @@
 -- Answers: what words and a text give, as bytes and a status.
-use Rattle.std.specs.Prelude.{◌≡◌, ◌↔◌, ℕ, ◌+◌, List, [], ◌∷◌, codes, drop, Option, Some, IfSome, true}
+use Rattle.std.specs.Prelude.{◌≡◌, ◌↔◌, ℕ, List, map, Option, Result, Ok, Err}
 use Rattle.nest_lang.specs.declared.budget.Ending.{Ending}
 use Rattle.nest_lang.specs.declared.budget.Ending.TheVariants as ending
 use Rattle.nest_lang.specs.declared.tree.Trap.{Trap}
 use Rattle.nest_lang.specs.Traces as traces
+use Rattle.nest_lang.specs.Traces.{Finish}
 use Rattle.nest_lang.specs.Runs.{Run, plain_run, finish_by}
-use Rattle.nest_lang.specs.declared.tree.Nest.{Nest}
-use Rattle.nest_lang.specs.Rules.{keeps_rules}
-use Rattle.nest_text.specs.Files.{File, first_store}
-use Rattle.nest_text.specs.Grammar.{Reads}
+use Rattle.nest_grammar.specs.declared.fault.TextFault.{TextFault}
+use Rattle.nest_grammar.specs.declared.file.File.{File}
+use Rattle.nest_grammar.specs.Files.{first_store, nests_of}
+use Rattle.nest_grammar.specs.Contents.{reading}
+use Rattle.canonical.specs.Contents.{canonical}
+use Rattle.canonical.specs.Pieces.{name_text}
+use Rattle.report.specs.Faults.{refusal_line}
 use Rattle.report.specs.Outcomes.{IsOutcome}
+use Rattle.command_line.specs.declared.command.Command.{Command}
+use Rattle.command_line.specs.declared.command.Mode.{Mode}
+use Rattle.command_line.specs.declared.command.Mode.TheVariants.{Plain, Check}
+use Rattle.command_line.specs.declared.command.Options.{Options}
+use Rattle.command_line.specs.Commands.{IsCommand, IsNoCommand, usage_line}
 use Rattle.nest_top.specs.declared.status.Status.{Status}
 use Rattle.nest_top.specs.declared.status.Status.TheVariants.{Ended, Trapped, Limited, Refused, Usage, SourceFault, SinkFault, NoMemory}
-use Rattle.nest_top.specs.Commands.{IsCommand, usage_line, default_steps, most_bytes, text_taken}
+use Rattle.nest_top.specs.Texts.{IsTextOf}
 
 -- the status of a run that ended so
 abbrev pub status_of : Ending → Status
@@ -20,33 +29,38 @@ status_of ending.Ended = Ended
 status_of (ending.Trapped trap) = Trapped
 status_of ending.Limited = Limited
 
--- the plain run of a file's nests from its first store
-abbrev pub run_of_file : File → Run
-run_of_file file = plain_run file.nests (first_store file) default_steps
+-- the names of a file's scalars, in order
+abbrev pub scalar_names : File → List (List ℕ)
+scalar_names file = map (λ scalar. name_text scalar.name) file.scalars
 
--- a text has no reading
-abbrev pub HasNoReading : List ℕ → Type 0
-HasNoReading text = (file : File) → Reads text file → ⊥
+-- the plain run of a file's nests, one after another, from its first store within so many steps
+abbrev pub run_of_file : File → ℕ → Run
+run_of_file file steps = plain_run (nests_of file) (first_store file) steps
 
--- bytes and a status are those of the plain run of a file
-pub record IsOutcomeOf (file : File) (bytes : List ℕ) (status : Status) : Type 0 where
+-- bytes and a status are those of the plain run of a file within so many steps
+pub record IsOutcomeOf (file : File) (steps : ℕ) (bytes : List ℕ) (status : Status) : Type 0 where
   pub ending : Ending
-  pub ended : finish_by ending ≡ (run_of_file file).ending
-  pub written : IsOutcome [] (run_of_file file).store ending (run_of_file file).steps bytes
+  pub ended : finish_by ending ≡ (run_of_file file steps).ending
+  pub written : IsOutcome (scalar_names file) (run_of_file file steps).store ending (run_of_file file steps).steps bytes
   pub answered : status ≡ status_of ending
 
--- a file that can be run so far: one nest, which keeps the rules of nests
-pub record IsRunnable (file : File) : Type 0 where
-  pub nest : Nest
-  pub alone : file.nests ≡ nest ∷ []
-  pub rules : keeps_rules nest.loops ≡ true
+-- bytes and a status are the answer to a file: in mode `plain` those of its plain run, in mode `check`
+-- its canonical text
+abbrev pub AnswersFile : Mode → Options → File → List ℕ → Status → Type 0
+AnswersFile Plain options file bytes status = IsOutcomeOf file options.steps bytes status
+AnswersFile Check options file bytes status = (bytes ≡ canonical file) × (status ≡ Ended)
 
--- The answer of words and a text: words that are no command give the usage line; of a command, a text
--- without a reading gives one line, and a text with one the outcome of the plain run of what it reads as.
+-- bytes and a status are the answer of a command to what a text reads as: the line of its first fault, or
+-- the answer to its file
+abbrev pub AnswersReading : Command → Result File TextFault → List ℕ → Status → Type 0
+AnswersReading command (Err fault) bytes status = (bytes ≡ refusal_line fault) × (status ≡ Refused)
+AnswersReading command (Ok file) bytes status = AnswersFile command.mode command.options file bytes status
+
+-- The answer of words and a text: words that are no command give the usage line, and a command what it
+-- answers to what the text reads as.
 pub data IsAnswer (words : List (List ℕ)) (text : List ℕ) : List ℕ → Status → Type 0 where
-  usage : (IsCommand words → ⊥) → IsAnswer words text usage_line Usage
-  refused : IsCommand words → HasNoReading text → IsAnswer words text (codes "refused form\n") Refused
-  outcome : IsCommand words → (file : File) → Reads text file → (bytes : List ℕ) (status : Status) → IsOutcomeOf file bytes status → IsAnswer words text bytes status
+  usage : IsNoCommand words → IsAnswer words text usage_line Usage
+  command : (c : Command) → IsCommand words c → (bytes : List ℕ) (status : Status) → AnswersReading c (reading text) bytes status → IsAnswer words text bytes status
 
 -- the call answered: no fault and no want of memory stands in place of the answer
 abbrev pub Answered : Status → Type 0
@@ -55,21 +69,34 @@ Answered SinkFault = ⊥
 Answered NoMemory = ⊥
 Answered status = Unit {0}
 
--- the text is what was taken of a source, where it tells its bytes
-abbrev pub IsTextOf : Option (List ℕ) → List ℕ → Type 0
-IsTextOf left text = IfSome left (λ bytes. text ≡ text_taken bytes)
+-- how the run of a command on a file finishes: in mode `plain` the plain run; mode `check` runs nothing
+-- and is done
+abbrev pub finish_of : Mode → Options → File → Finish
+finish_of Plain options file = (run_of_file file options.steps).ending
+finish_of Check options file = traces.Done
 
--- what was taken of a source is gone from it: it was read to its end, or one byte more than a text may
--- have was taken
-abbrev pub IsRead : Option (List ℕ) → Option (List ℕ) → Type 0
-IsRead before now = IfSome before (λ bytes. now ≡ Some (drop (most_bytes + 1) bytes))
+-- the words are a command, the text reads as a file, and the command's run on it finishes so
+pub record Finishes (words : List (List ℕ)) (text : List ℕ) (finish : Finish) : Type 0 where
+  pub command : Command
+  pub is : IsCommand words command
+  pub file : File
+  pub reads : reading text ≡ Ok file
+  pub finished : finish_of command.mode command.options file ≡ finish
+
+-- the words are a command, and the text has a fault
+pub record IsRefused (words : List (List ℕ)) (text : List ℕ) : Type 0 where
+  pub command : Command
+  pub is : IsCommand words command
+  pub fault : TextFault
+  pub reads : reading text ≡ Err fault
 
 -- when each status is the answer's
 pub record Causes (words : List (List ℕ)) (text : List ℕ) (status : Status) : Type 0 where
-  pub usage : (status ≡ Usage) ↔ (IsCommand words → ⊥)
-  pub refused : (status ≡ Refused) ↔ (IsCommand words × HasNoReading text)
-  pub trapped : (status ≡ Trapped) ↔ (IsCommand words × ((file : File) × Reads text file × ((trap : Trap) × ((run_of_file file).ending ≡ traces.Halted (traces.Trapped trap)))))
-  pub limited : (status ≡ Limited) ↔ (IsCommand words × ((file : File) × Reads text file × ((run_of_file file).ending ≡ traces.Limited)))
+  pub usage : (status ≡ Usage) ↔ IsNoCommand words
+  pub refused : (status ≡ Refused) ↔ IsRefused words text
+  pub ended : (status ≡ Ended) ↔ Finishes words text traces.Done
+  pub trapped : (status ≡ Trapped) ↔ ((trap : Trap) × Finishes words text (traces.Halted (traces.Trapped trap)))
+  pub limited : (status ≡ Limited) ↔ Finishes words text traces.Limited
 
 -- the source was read to its end or to the limit: no fault of it and no want of memory ended the call
 abbrev pub Reading : Status → Type 0

@@ -1,3 +1,3 @@
-pub mod Commands
+pub mod Texts
 pub mod Answers
 pub mod Laws

@@ -1,22 +1,18 @@
-//! The answer of words and a text, made before anything is written.
+//! Answers, made before anything is written.
 
-ghost use Rattle.std.specs.Prelude.{◌≡◌, ◌↔◌, IfOk, IsTrue, map, string_bytes, [], ◌∷◌, codes};
-ghost use Rattle.nest_top.specs.Commands.{IsCommand, usage_line};
-ghost use Rattle.nest_top.specs.Answers as answers;
-ghost use Rattle.nest_top.specs.Answers.{IsAnswer, IsRunnable, IsOutcomeOf};
+ghost use Rattle.std.specs.Prelude.{◌≡◌, ◌≤◌, ◌^◌, IfOk};
+ghost use Rattle.nest_grammar.specs.Contents.{reading};
+ghost use Rattle.report.specs.Faults.{refusal_line};
+ghost use Rattle.command_line.specs.Commands.{usage_line};
+ghost use Rattle.nest_top.specs.Answers.{AnswersFile, AnswersReading};
 
+use crate::check::check;
+use crate::plain::plain;
 use crate::status::Status;
-use nest_lang::Ending;
-use nest_text::{NestFile, ReadRefusal, read_nest};
-use plain_interp::run_plain;
-use report::outcome_text;
+use command_line::{Command, Mode, usage_text};
+use nest_text::{NestFile, ReadRefusal, TextFault, read_nest};
+use report::refusal_text;
 use std::alloc::{AllocError, Global};
-
-/// The steps of a run where the words give no other number.
-const DEFAULT_STEPS: u64 = 1_000_000;
-
-const USAGE: &str =
-    "usage: nestrun plain|run|check|deps|gen [SEED KIND SIZE] [--workers N] [--chunk N] [--sample N] [--steps N]\n";
 
 /// Bytes to be put into the sink, and the status that is answered once they are.
 #[derive(Debug, Drop)]
@@ -47,71 +43,45 @@ impl From<report::NoMemory> for NoMemory {
     }
 }
 
-/// The words are a command.
-pub(crate) fn is_command(words: &[String]) -> bool
-    ensures { IsTrue result ↔ IsCommand (map string_bytes words.now) }
-{
-    match words {
-        [word] => word.as_str() == "plain",
-        _ => false,
-    }
-}
-
 /// The answer where the words are no command.
 pub(crate) fn usage(alloc: Global) -> Result<Answer, NoMemory>
     ensures { IfOk result (λ answer. (answer.bytes.items ≡ usage_line) × (answer.status ≡ Status.Usage)) }
 {
     Ok(Answer {
-        bytes: USAGE.as_bytes().to_vec(alloc)?,
+        bytes: usage_text().as_bytes().to_vec(alloc)?,
         status: Status::Usage,
     })
 }
 
 /// The answer of a command to a text.
-pub(crate) fn answer_text(alloc: Global, text: &[u8]) -> Result<Answer, NoMemory>
-    ensures { IfOk result (λ answer. IsAnswer (codes "plain" ∷ []) text.now answer.bytes.items answer.status) }
+pub(crate) fn answer_text(alloc: Global, command: &Command, text: &[u8]) -> Result<Answer, NoMemory>
+    requires { command.now.options.steps ≤ 2 ^ 32 }
+    ensures { IfOk result (λ answer. AnswersReading command.now (reading text.now) answer.bytes.items answer.status) }
 {
     match read_nest(alloc, text) {
-        Ok(file) => outcome(alloc, &file),
-        Err(ReadRefusal::Form) => refused(alloc),
+        Ok(file) => answer_file(alloc, command, &file),
+        Err(ReadRefusal::Text(fault)) => refused(alloc, &fault),
         Err(ReadRefusal::NoMemory) => Err(NoMemory),
     }
 }
 
-/// The answer of a text without a reading.
-fn refused(alloc: Global) -> Result<Answer, NoMemory>
-    ensures { IfOk result (λ answer. (answer.bytes.items ≡ codes "refused form\n") × (answer.status ≡ Status.Refused)) }
+/// The answer to a text with this first fault.
+fn refused(alloc: Global, fault: &TextFault) -> Result<Answer, NoMemory>
+    ensures { IfOk result (λ answer. (answer.bytes.items ≡ refusal_line fault.now) × (answer.status ≡ Status.Refused)) }
 {
     Ok(Answer {
-        bytes: "refused form\n".as_bytes().to_vec(alloc)?,
+        bytes: refusal_text(alloc, fault)?,
         status: Status::Refused,
     })
 }
 
-/// The answer of a file that was read: the outcome of its plain run.
-fn outcome(alloc: Global, file: &NestFile) -> Result<Answer, NoMemory>
-    requires { IsRunnable file.now }
-    ensures { IfOk result (λ answer. IsOutcomeOf file.now answer.bytes.items answer.status) }
+/// The answer of a command to a file.
+fn answer_file(alloc: Global, command: &Command, file: &NestFile) -> Result<Answer, NoMemory>
+    requires { command.now.options.steps ≤ 2 ^ 32 }
+    ensures { IfOk result (λ answer. AnswersFile command.now.mode command.now.options file.now answer.bytes.items answer.status) }
 {
-    let Some(nest) = file.nest(0) else {
-        unreachable!()
-    };
-    let mut state = file.start(alloc)?;
-    let (ending, steps) = run_plain(nest, &mut state, DEFAULT_STEPS);
-    let bytes = outcome_text(alloc, &[], &state, &ending, steps)?;
-    Ok(Answer {
-        bytes,
-        status: status_of(ending),
-    })
-}
-
-/// The status of a run that ended so.
-fn status_of(ending: Ending) -> Status
-    ensures { result ≡ answers.status_of ending }
-{
-    match ending {
-        Ending::Ended => Status::Ended,
-        Ending::Trapped(_) => Status::Trapped,
-        Ending::Limited => Status::Limited,
+    match command.mode {
+        Mode::Plain => plain(alloc, file, command.options.steps),
+        Mode::Check => check(alloc, file),
     }
 }

@@ -7,7 +7,7 @@ pub fn one_answer()
     ensures { OneAnswer }
 {}
 
-/// Usage, Refused, Trapped and Limited are the answer's status exactly where their causes hold.
+/// Usage, Refused, Ended, Trapped and Limited are the answer's status exactly where their causes hold.
 pub fn each_has_its_cause()
     ensures { EachHasItsCause }
 {}

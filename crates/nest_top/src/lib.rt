@@ -1,15 +1,19 @@
 //! The top call: words and a source in, an answer into a sink, a status out.
 //!
 //! `nest_run` takes the words of the command line, reads a text from a source where they are a
-//! command, and puts the answer into a sink, whole or, after a fault of the sink, a front of it. It
-//! stands on `nest_text` (what a text reads as), `plain_interp` (the plain run), `report` (the outcome
-//! as text) and `nest_io` (sources and sinks with counted faults). Its contract is the promise of the
+//! command, and puts the answer into a sink, whole or, after a fault of the sink, a front of it. Each
+//! mode has a module of its own (`plain`, `check`). The crate stands on `command_line` (what the words
+//! say), `nest_text` (what a text reads as), `canonical` (its canonical text), `plain_interp` (the plain
+//! run), `report` (outcomes and refusals as text) and `nest_io` (sources and sinks with counted faults).
+//! Its contract is the promise of the
 //! product so far: the bytes are exactly those of the *answer* that `specs/Answers.antt` defines, unless
 //! a counted fault or want of memory replaces it. `nest_main` runs it over the standard streams.
 #![tactic(auto)]
 
 mod answer;
+mod check;
 pub mod laws;
+mod plain;
 mod run;
 mod status;
 

@@ -1,17 +1,20 @@
 //! The call: an answer is made, and then written.
 
-ghost use Rattle.std.specs.Prelude.{◌≡◌, ◌≤◌, ℕ, List, IfOk, IfSome, IsErrOf, map, string_bytes};
+ghost use Rattle.std.specs.Prelude.{◌≡◌, ◌≤◌, ℕ, List, IfOk, IfSome, IsErrOf, MatchResult, map, string_bytes};
 ghost use Rattle.nest_io.specs.Faults.{Rose};
 ghost use Rattle.nest_io.specs.Bytes.{Appends, AppendsFront};
-ghost use Rattle.nest_top.specs.Commands.{IsCommand};
-ghost use Rattle.nest_top.specs.Answers.{IsAnswer, Answered, Causes, IsTextOf, IsRead, Reading, Prepared};
+ghost use Rattle.command_line.specs.declared.command.Command.{Command};
+ghost use Rattle.command_line.specs.Commands.{IsCommand, IsNoCommand};
+ghost use Rattle.nest_top.specs.Texts.{IsTextOf, IsRead};
+ghost use Rattle.nest_top.specs.Answers.{IsAnswer, Answered, Causes, Reading, Prepared};
 
-use crate::answer::{Answer, answer_text, is_command, usage};
+use crate::answer::{Answer, NoMemory, answer_text, usage};
 use crate::status::Status;
+use command_line::command_of;
 use nest_io::{ReadEnd, Sink, Source, read_all, write_all};
 use std::alloc::Global;
 
-/// A text of more bytes is too long.
+/// A text of more bytes is refused as too long.
 const MOST_BYTES: usize = 1_048_576;
 
 /// Why there is no answer.
@@ -40,7 +43,7 @@ pub fn nest_run<S: Source, K: Sink>(
         × IsAnswer (map string_bytes words.now) text bytes result
         × Appends (K.held sink.old) (K.held sink.new) bytes }
 
-    // Usage, Refused, Trapped and Limited come exactly where they should.
+    // Each other status comes exactly where it should.
     ensures causes { Answered result → (text : List ℕ)
         × IsTextOf (S.left source.old) text
         × Causes (map string_bytes words.now) text result }
@@ -57,8 +60,8 @@ pub fn nest_run<S: Source, K: Sink>(
 
     // Words that are no command read nothing; a command reads to the end, or one byte more than a text
     // may have.
-    ensures unread { (IsCommand (map string_bytes words.now) → ⊥) → source.new ≡ source.old }
-    ensures read { IsCommand (map string_bytes words.now) → Reading result →
+    ensures unread { IsNoCommand (map string_bytes words.now) → source.new ≡ source.old }
+    ensures read { (command : Command) → IsCommand (map string_bytes words.now) command → Reading result →
         IsRead (S.left source.old) (S.left source.new) }
 
     ensures source_counts { S.faults source.old ≤ S.faults source.new }
@@ -79,20 +82,29 @@ pub fn nest_run<S: Source, K: Sink>(
 fn prepare<S: Source>(alloc: Global, words: &[String], source: &mut S) -> Result<Answer, Unanswered>
     ensures answer { IfOk result (λ answer. Prepared (map string_bytes words.now) (S.left source.old) answer.bytes.items answer.status) }
     ensures fault { IsErrOf result Unanswered.SourceFault → Rose (S.faults source.old) (S.faults source.new) }
-    ensures unread { (IsCommand (map string_bytes words.now) → ⊥) → (source.new ≡ source.old) × (IsErrOf result Unanswered.SourceFault → ⊥) }
-    ensures read { IsCommand (map string_bytes words.now) → IfOk result (λ _. IsRead (S.left source.old) (S.left source.new)) }
+    ensures unread { IsNoCommand (map string_bytes words.now) → (source.new ≡ source.old) × (IsErrOf result Unanswered.SourceFault → ⊥) }
+    ensures read { (command : Command) → IsCommand (map string_bytes words.now) command → IfOk result (λ _. IsRead (S.left source.old) (S.left source.new)) }
     ensures counts { S.faults source.old ≤ S.faults source.new }
 {
-    if !is_command(words) {
-        return match usage(alloc) {
-            Ok(answer) => Ok(answer),
-            Err(_) => Err(Unanswered::NoMemory),
-        };
-    }
+    let command = match command_of(alloc, words) {
+        Ok(Some(command)) => command,
+        Ok(None) => return unless_refused(usage(alloc)),
+        Err(_) => return Err(Unanswered::NoMemory),
+    };
     let taken = match read_all(alloc, source, MOST_BYTES) {
         Ok(taken) => taken,
         Err(ReadEnd::Fault) => return Err(Unanswered::SourceFault),
         Err(ReadEnd::NoMemory) => return Err(Unanswered::NoMemory),
     };
-    answer_text(alloc, taken.bytes.as_slice()).map_err(|_| Unanswered::NoMemory)
+    unless_refused(answer_text(alloc, &command, taken.bytes.as_slice()))
+}
+
+/// An answer, or that there is no memory for it.
+fn unless_refused(answer: Result<Answer, NoMemory>) -> Result<Answer, Unanswered>
+    ensures { MatchResult answer (λ made. result ≡ Ok made) (λ _. result ≡ Err Unanswered.NoMemory) }
+{
+    match answer {
+        Ok(answer) => Ok(answer),
+        Err(NoMemory) => Err(Unanswered::NoMemory),
+    }
 }

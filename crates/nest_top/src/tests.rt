@@ -14,6 +14,9 @@ const USAGE: &[u8] =
 
 const EMPTY: &[u8] = b"nest 1 memory 4 for i = 0 below 0 { [i] = 1 }";
 
+const TWO: &[u8] =
+    b"nest 2 scalar s = 0 memory 4 for i = 0 below 2 { s = s + 1 } for i = 0 below 2 { [i] = s }";
+
 // A run of the program over memory: its status, and what the sink holds.
 #[derive(Drop)]
 struct Ran {
@@ -23,7 +26,7 @@ struct Ran {
 
 fn run(
     alloc: Global,
-    word: &str,
+    words: &[&str],
     text: &[u8],
     most: usize,
     failing_read: Option<u64>,
@@ -31,8 +34,10 @@ fn run(
 ) -> Result<Ran, Fail>
     requires { 1 ≤ most }
 {
-    let mut words = Vec::new(alloc);
-    words.push(String::from_str(alloc, word)?)?;
+    let mut owned = Vec::new(alloc);
+    for word in words {
+        owned.push(String::from_str(alloc, word)?)?;
+    }
     let mut reads = Vec::new(alloc);
     if let Some(number) = failing_read {
         reads.push(number)?;
@@ -43,43 +48,83 @@ fn run(
     }
     let mut source = MemSource::new(text.to_vec(alloc)?, most, reads);
     let mut sink = MemSink::new(alloc, 1000, most, writes)?;
-    let status = nest_run(alloc, words.as_slice(), &mut source, &mut sink);
+    let status = nest_run(alloc, owned.as_slice(), &mut source, &mut sink);
     Ok(Ran { status, sink })
 }
 
-// A word, a text, the status and the bytes.
-static ANSWERS: [(&str, &[u8], Status, &[u8]); 7] = [
-    ("plain", COPY, Status::Ended, COPIED),
-    ("plain", EMPTY, Status::Ended, b"ended\nsteps 1\n"),
+// Words, a text, the status and the bytes.
+static ANSWERS: [(&[&str], &[u8], Status, &[u8]); 17] = [
+    (&["plain"], COPY, Status::Ended, COPIED),
+    (&["plain"], EMPTY, Status::Ended, b"ended\nsteps 1\n"),
     (
-        "plain",
+        &["plain"],
         b"nest 1 memory 2 for i = 0 below 3 { [i] = 5 }",
         Status::Trapped,
         b"trapped outside 2\nwords 0 1 5\nsteps 4\n",
     ),
     (
-        "plain",
+        &["plain"],
         b"nest 1 memory 1 for i = 0 below 1000000 { [0] = i }",
         Status::Limited,
         b"limited\nwords 0 0 999998\nsteps 1000000\n",
     ),
     (
-        "plain",
-        b"nest 1 memory 4 while 0 { }",
-        Status::Refused,
-        b"refused form\n",
+        &["plain", "--steps", "2"],
+        COPY,
+        Status::Limited,
+        b"limited\nwords 200 200 1\nsteps 2\n",
     ),
-    ("run", COPY, Status::Usage, USAGE),
-    ("", COPY, Status::Usage, USAGE),
+    (
+        &["plain", "--steps=0"],
+        COPY,
+        Status::Limited,
+        b"limited\nsteps 0\n",
+    ),
+    (&["--workers", "8", "plain"], COPY, Status::Ended, COPIED),
+    (
+        &["plain"],
+        TWO,
+        Status::Ended,
+        b"ended\nscalar s 2\nwords 0 1 2\nsteps 6\n",
+    ),
+    (
+        &["plain", "--steps", "4"],
+        TWO,
+        Status::Limited,
+        b"limited\nscalar s 2\nsteps 4\n",
+    ),
+    (
+        &["check"],
+        b"nest 01 memory 0004 for i = 00 below 03 { [i] = 1 }",
+        Status::Ended,
+        b"nest 1\nmemory 4\nfor i = 0 below 3 {\n  [i] = 1\n}\n",
+    ),
+    (
+        &["check"],
+        b"nest 1 memory 4 for i = 0 below 4 { [i] = 1 ! 2 }",
+        Status::Refused,
+        b"refused 44 Byte\n",
+    ),
+    (
+        &["plain"],
+        b"nest nest $",
+        Status::Refused,
+        b"refused 5 Expected\n",
+    ),
+    (&["plain"], b"", Status::Refused, b"refused 0 Expected\n"),
+    (&["run"], COPY, Status::Usage, USAGE),
+    (&["run", "--workers", "0"], COPY, Status::Usage, USAGE),
+    (&["gen", "0", "copy"], COPY, Status::Usage, USAGE),
+    (&[], COPY, Status::Usage, USAGE),
 ];
 
 #[test]
 fn words_and_texts_give_their_answers(rt: HostRuntime) -> Result<(), Fail> {
     let alloc = rt.alloc();
-    for (word, text, status, bytes) in ANSWERS {
-        let run = run(alloc, word, text, 1000, None, None)?;
-        assert_eq!(rt; run.status, status);
-        assert_eq!(rt; run.sink.bytes(), bytes);
+    for (words, text, status, bytes) in ANSWERS {
+        let run = run(alloc, words, text, 1000, None, None)?;
+        assert_eq!(rt; run.status, status, "{words:?}");
+        assert_eq!(rt; run.sink.bytes(), bytes, "{words:?}");
     }
     Ok(())
 }
@@ -88,7 +133,7 @@ fn words_and_texts_give_their_answers(rt: HostRuntime) -> Result<(), Fail> {
 fn pieces_of_any_size_give_the_same_answer(rt: HostRuntime) -> Result<(), Fail> {
     let alloc = rt.alloc();
     for most in 1..4 {
-        let run = run(alloc, "plain", COPY, most, None, None)?;
+        let run = run(alloc, &["plain"], COPY, most, None, None)?;
         assert_eq!(rt; run.status, Status::Ended, "{most} bytes");
         assert_eq!(rt; run.sink.bytes(), COPIED, "{most} bytes");
     }
@@ -100,12 +145,21 @@ fn pieces_of_any_size_give_the_same_answer(rt: HostRuntime) -> Result<(), Fail> 
 fn a_source_that_fails_at_its_kth_read_leaves_the_sink_empty(rt: HostRuntime) -> Result<(), Fail> {
     let alloc = rt.alloc();
     for read in 1..11 {
-        let run = run(alloc, "plain", COPY, 7, Some(read), None)?;
+        let run = run(alloc, &["plain"], COPY, 7, Some(read), None)?;
         assert_eq!(rt; run.status, Status::SourceFault, "read {read}");
         assert!(rt; run.sink.bytes().is_empty(), "read {read}");
     }
-    let whole = run(alloc, "plain", COPY, 7, Some(11), None)?;
+    let whole = run(alloc, &["plain"], COPY, 7, Some(11), None)?;
     assert_eq!(rt; whole.status, Status::Ended);
+    Ok(())
+}
+
+// The source would fail at its first read.
+#[test]
+fn words_that_are_no_command_read_nothing(rt: HostRuntime) -> Result<(), Fail> {
+    let run = run(rt.alloc(), &["--help"], COPY, 7, Some(1), None)?;
+    assert_eq!(rt; run.status, Status::Usage);
+    assert_eq!(rt; run.sink.bytes(), USAGE);
     Ok(())
 }
 
@@ -113,7 +167,7 @@ fn a_source_that_fails_at_its_kth_read_leaves_the_sink_empty(rt: HostRuntime) ->
 fn a_sink_that_fails_at_its_kth_write_has_a_front(rt: HostRuntime) -> Result<(), Fail> {
     let alloc = rt.alloc();
     for (index, _) in COPIED.iter().enumerate() {
-        let run = run(alloc, "plain", COPY, 1, None, Some(index as u64 + 1))?;
+        let run = run(alloc, &["plain"], COPY, 1, None, Some(index as u64 + 1))?;
         assert_eq!(rt; run.status, Status::SinkFault, "write {index}");
         assert_eq!(rt; run.sink.bytes(), &COPIED[..index], "write {index}");
     }
@@ -123,10 +177,10 @@ fn a_sink_that_fails_at_its_kth_write_has_a_front(rt: HostRuntime) -> Result<(),
 #[test]
 fn a_second_read_and_a_third_write_that_fail(rt: HostRuntime) -> Result<(), Fail> {
     let alloc = rt.alloc();
-    let unread = run(alloc, "plain", EMPTY, 40, Some(2), None)?;
+    let unread = run(alloc, &["plain"], EMPTY, 40, Some(2), None)?;
     assert_eq!(rt; unread.status, Status::SourceFault);
     assert!(rt; unread.sink.bytes().is_empty());
-    let unwritten = run(alloc, "plain", EMPTY, 5, None, Some(3))?;
+    let unwritten = run(alloc, &["plain"], EMPTY, 5, None, Some(3))?;
     assert_eq!(rt; unwritten.status, Status::SinkFault);
     assert_eq!(rt; unwritten.sink.bytes(), b"ended\nstep".as_slice());
     Ok(())

@@ -1,0 +1,92 @@
+-- The loops over the parts of a file: over its nests, and over the names of its scalars.
+use Rattle.std.proofs.Common.{◌≡◌, ◌∙◌, refl, ap, ap₂, sym, ℕ, ◌+◌, ◌<◌, ◌≤◌, suc, List, [], ◌∷◌, ◌++◌, length, map, take, drop, Some, None, inl, inr, arith, get_or, drop-cons}
+use Rattle.std.specs.Prelude.{slice_get}
+use Rattle.std.proofs.lemmas.Option.{slice_get_cases}
+use Rattle.std.proofs.lemmas.List.{take_more, drop_all}
+use Rattle.nest_lang.specs.declared.tree.Nest.{Nest}
+use Rattle.nest_lang.specs.declared.budget.Ending.{Ending}
+use Rattle.nest_lang.specs.declared.budget.Ending.TheVariants as ending
+use Rattle.nest_lang.specs.Stores.{Store}
+use Rattle.nest_lang.specs.Traces.{Finish, Done, cut, cut_of}
+use Rattle.nest_lang.specs.Runs.{finish_by, nest_trace, nests_trace, plain_run, run_of}
+use Rattle.plain_interp.proofs.Several.{plain_run-rest, rest_of_run-end, rest_of_run-next, rest_of_run-out}
+
+-- the element at a place, and what is behind it
+same-some : {A : Type 0} (a b : A) → Some a ≡ Some b → a ≡ b
+same-some a b e = cc
+
+element-at : {A : Type 0} (xs : List A) (k : ℕ) (x : A) → slice_get xs k ≡ Some x → (k < length xs) × (get_or xs k x ≡ x)
+element-at xs k x found = elim (slice_get_cases xs k).1 [
+  | inl h ↦ let same : h.0 ≡ x = same-some h.0 x (sym h.2 ∙ found) in (h.1, ap (get_or xs k) (sym same) ∙ (h.3 ∙ same))
+  | inr h ↦ let bad : None ≡ Some x = sym h.1 ∙ found in absurd (cc)
+]
+
+drop-at : {A : Type 0} (xs : List A) (k : ℕ) (x : A) → slice_get xs k ≡ Some x → drop k xs ≡ x ∷ drop (k + 1) xs
+drop-at xs k x found =
+    let here = element-at xs k x found in
+    let next : suc k ≡ k + 1 = omega arith in
+    drop-cons xs k x here.0 ∙ ap₂ (λ y n. y ∷ drop n xs) here.1 next
+
+-- what is left to run where so many nests have ended
+pub record Left (nests : List Nest) (number : ℕ) (s t : Store) (left used left' used' : ℕ) : Type 0 where
+  pub rest : (k : ℕ) → left < k → cut (nests_trace k (drop number nests) t) t left' used' ≡ cut (nests_trace k nests s) s left used
+  pub fewer : left' ≤ left
+  pub kept : left' + used' ≡ left + used
+  pub scalars : length t.scalars ≡ length s.scalars
+
+-- a nest that was run from a store to another
+pub record NestRan (nest : Nest) (s t : Store) (left used left' used' : ℕ) (e : Ending) : Type 0 where
+  pub ran : (k : ℕ) → left < k → cut_of t left' used' (finish_by e) ≡ cut (nest_trace k nest.loops s) s left used
+  pub kept : left' + used' ≡ left + used
+  pub fewer : left' ≤ left
+  pub scalars : length t.scalars ≡ length s.scalars
+
+module _ (nests : List Nest) (number : ℕ) (s t : Store) (left used left' used' : ℕ) (before : Left nests number s t left used left' used') where
+  module _ (nest : Nest) (u : Store) (left'' used'' : ℕ) (e : Ending) (here : slice_get nests number ≡ Some nest) (run : NestRan nest t u left' used' left'' used'' e) where
+    pub left-next : e ≡ ending.Ended → Left nests (number + 1) s u left used left'' used''
+    left-next ended = record {
+      rest = λ k more.
+          let ran : cut_of u left'' used'' Done ≡ cut (nest_trace k nest.loops t) t left' used' = ap (λ (x : Ending). cut_of u left'' used'' (finish_by x)) (sym ended) ∙ run.ran k (omega (arith, more, before.fewer)) in
+          rest_of_run-next k nest (drop (number + 1) nests) t u left' used' left'' used'' ran
+          ∙ ap (λ (ns : List Nest). cut (nests_trace k ns t) t left' used') (sym (drop-at nests number nest here))
+          ∙ before.rest k more;
+      fewer = omega (arith, run.fewer, before.fewer);
+      kept = run.kept ∙ before.kept;
+      scalars = run.scalars ∙ before.scalars;
+    }
+
+    pub left-out : (e ≡ ending.Ended → ⊥) → (k : ℕ) → left < k → cut_of u left'' used'' (finish_by e) ≡ cut (nests_trace k nests s) s left used
+    left-out out k more =
+        rest_of_run-out k nest (drop (number + 1) nests) t u left' used' left'' used'' (finish_by e) (λ done. out (only-ended e done)) (run.ran k (omega (arith, more, before.fewer)))
+        ∙ ap (λ (ns : List Nest). cut (nests_trace k ns t) t left' used') (sym (drop-at nests number nest here))
+        ∙ before.rest k more
+      where
+        only-ended : (x : Ending) → finish_by x ≡ Done → x ≡ ending.Ended
+        only-ended ending.Ended h = refl
+        only-ended (ending.Trapped trap) h = absurd (cc)
+        only-ended ending.Limited h = absurd (cc)
+
+  pub left-end : length nests ≤ number → (k : ℕ) → left < k → cut_of t left' used' Done ≡ cut (nests_trace k nests s) s left used
+  left-end all k more =
+      rest_of_run-end k t left' used'
+      ∙ ap (λ (ns : List Nest). cut (nests_trace k ns t) t left' used') (sym (drop_all number nests all))
+      ∙ before.rest k more
+
+pub left-start : (nests : List Nest) (s : Store) (left used : ℕ) → Left nests 0 s s left used left used
+left-start nests s left used = record { rest = λ k more. refl; fewer = omega arith; kept = refl; scalars = refl }
+
+-- the plain run of nests from a store
+pub nests-ran : (nests : List Nest) (s t : Store) (n left used : ℕ) (e : Finish) → cut_of t left used e ≡ cut (nests_trace (n + 1) nests s) s n 0
+    → record { store = t; ending = e; steps = used } ≡ plain_run nests s n
+nests-ran nests s t n left used e ran = ap run_of ran ∙ plain_run-rest nests s n
+
+-- one more name
+pub names-next : {A : Type 0} (text_of : A → List ℕ) (names : List A) (texts : List (List ℕ)) (k : ℕ) (name : A) (text : List ℕ) → map text_of names ≡ take k texts → slice_get texts k ≡ Some text → text_of name ≡ text
+    → map text_of (names ++ name ∷ []) ≡ take (k + 1) texts
+names-next text_of names texts k name text before here is =
+    let at = element-at texts k text here in
+    map-append text_of names name ∙ ap₂ (λ xs y. xs ++ y ∷ []) before (is ∙ sym at.1) ∙ sym (take_more texts k text at.0)
+  where
+    map-append : {B : Type 0} (f : B → List ℕ) (xs : List B) (y : B) → map f (xs ++ y ∷ []) ≡ map f xs ++ f y ∷ []
+    map-append f [] y = refl
+    map-append f (x ∷ xs) y = ap (λ ys. f x ∷ ys) (map-append f xs y)
