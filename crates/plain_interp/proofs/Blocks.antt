@@ -1,5 +1,5 @@
 -- Instances of blocks, as runs.
-use Rattle.std.proofs.Common.{◌≡◌, refl, ap, ◌∙◌, sym, subst, ℕ, zero, suc, ◌<◌, ◌-◌, ◌≤◌, List, [], ◌∷◌, ◌++◌, length, take, Option, Some, None, Bool, true, false, if◌then◌else◌, nat_le, arith}
+use Rattle.std.proofs.Common.{◌≡◌, refl, ap, ◌∙◌, sym, subst, ℕ, ◌<◌, ◌-◌, ◌≤◌, List, [], ◌∷◌, ◌++◌, length, Option, Some, None, Bool, true, false, if◌then◌else◌, nat_le, arith}
 use Rattle.nest_lang.specs.declared.tree.Stmt.{Stmt}
 use Rattle.nest_lang.specs.Stores.{Store}
 use Rattle.nest_lang.specs.Traces.{Observation, Entry, Halt, Trace, Finish, Done, Halted, Limited, finish_of, Cut, cut_of, cut, seen_in}
@@ -12,7 +12,7 @@ use Rattle.block_exec.specs.declared.block.BlockEnd.{BlockEnd}
 use Rattle.block_exec.specs.declared.block.BlockEnd.TheVariants as block
 use Rattle.block_exec.specs.Ends.{finish_by}
 use Rattle.block_exec.proofs.Instances.{cut-instance, cut-no_instance, seen-instance, seen-no_instance}
-use Rattle.plain_interp.specs.Moments.{Moment, moment, Ran}
+use Rattle.plain_interp.specs.Moments.{Moment, Ran}
 
 -- what a trace that was done took
 done-steps : (t : Trace) (s s' : Store) (left used left' used' : ℕ) → 0 < length t.entries → cut_of s' left' used' Done ≡ cut t s left used → left' < left

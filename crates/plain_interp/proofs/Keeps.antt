@@ -1,5 +1,5 @@
 -- What the rules of nests say of a loop and of what is inside of it.
-use Rattle.std.proofs.Common.{◌≡◌, refl, subst, ℕ, ◌<◌, List, [], ◌∷◌, length, Bool, true, false, ◌&&◌, arith}
+use Rattle.std.proofs.Common.{◌≡◌, refl, subst, ◌<◌, List, [], ◌∷◌, length, Bool, true, false, ◌&&◌, arith}
 use Rattle.nest_lang.specs.declared.tree.Loop.{Loop}
 use Rattle.nest_lang.specs.declared.tree.Stmt.{Stmt}
 use Rattle.nest_lang.specs.Rules.{strides, has_statements, loop_keeps}

@@ -1,5 +1,5 @@
 -- Some turns of the outermost loop, from the runs of their parts.
-use Rattle.std.proofs.Common.{◌≡◌, refl, ap, ap₂, ◌∙◌, sym, subst, ℕ, ℤ, pos, ◌+ℤ◌, unsigned_abs, FitsSigned, w64, zero, suc, ◌<◌, ◌+◌, ◌-◌, ◌≤◌, Bool, true, false, List, [], ◌∷◌, ◌++◌, append_assoc, append-nil, Option, Some, None, Result, Ok, Err, arith}
+use Rattle.std.proofs.Common.{◌≡◌, refl, ap, ap₂, ◌∙◌, sym, subst, ℕ, ℤ, pos, ◌+ℤ◌, unsigned_abs, FitsSigned, w64, zero, suc, ◌<◌, ◌+◌, ◌-◌, ◌≤◌, true, false, List, [], ◌∷◌, ◌++◌, append_assoc, append-nil, Option, Some, None, Result, Ok, Err, arith}
 use Rattle.std.proofs.lemmas.Int.{ints}
 use Rattle.nest_lang.specs.declared.tree.Expr.{Expr}
 use Rattle.nest_lang.specs.declared.tree.Head.{Head}
@@ -10,13 +10,12 @@ use Rattle.nest_lang.specs.declared.state.Outer.{Outer}
 use Rattle.nest_lang.specs.Values.{turn_value}
 use Rattle.nest_lang.specs.Stores.{Store, Nothing, effect_on}
 use Rattle.nest_lang.specs.Lookups.{Expectation}
-use Rattle.nest_lang.specs.Traces.{Observation, Entry, Halt, Over, Trace, ends, joined, and_then, in_turn, step_of, traced, after_all, Finish, Done, Halted, Limited, Cut, cut_of, cut, seen_in}
+use Rattle.nest_lang.specs.Traces.{Observation, Entry, Halt, Over, Trace, ends, joined, and_then, in_turn, traced, after_all, Finish, Done, Halted, Limited, Cut, cut, seen_in}
 use Rattle.nest_lang.specs.Expressions.{Frame}
 use Rattle.nest_lang.specs.Statements.{announced}
 use Rattle.nest_lang.specs.Heads.{Yield, Bounds, Tested, head_of, head_step, headed}
 use Rattle.nest_lang.specs.Loops.{Around, inward, outside, frame_of, turn_trace, loops_trace}
 use Rattle.nest_lang.proofs.Cuts.{cut-end}
-use Rattle.block_exec.specs.Watches.{Chain}
 use Rattle.plain_interp.specs.Moments.{Moment, moment, Ran, IsWhile}
 use Rattle.nest_lang.specs.declared.budget.Turned.{Turned}
 use Rattle.nest_lang.specs.declared.budget.Turned.TheVariants as turned

@@ -1,5 +1,5 @@
 -- Positions of the outermost loop.
-use Rattle.std.proofs.Common.{◌≡◌, refl, sym, subst, ℕ, ℤ, pos, ◌<◌, ◌+◌, FitsSigned, w64, List, [], ◌∷◌, Option, Some, None, slice_get, true, arith}
+use Rattle.std.proofs.Common.{◌≡◌, refl, sym, subst, ℕ, ℤ, pos, ◌<◌, ◌+◌, FitsSigned, w64, List, [], ◌∷◌, Some, None, slice_get, true, arith}
 use Rattle.nest_lang.specs.declared.tree.Expr.{Expr}
 use Rattle.nest_lang.specs.declared.tree.Head.{Head}
 use Rattle.nest_lang.specs.declared.tree.Head.TheVariants.{For, While}

@@ -1,16 +1,13 @@
 -- Runs of traces, one after another.
-use Rattle.std.proofs.Common.{◌≡◌, refl, ap, ◌∙◌, sym, subst, ℕ, ℤ, pos, zero, suc, ◌<◌, ◌+◌, ◌-◌, ◌≤◌, min, Bool, true, false, List, [], ◌∷◌, ◌++◌, length, take, Option, Some, None, Result, Ok, Err, append_assoc, append-nil, arith, rules}
+use Rattle.std.proofs.Common.{◌≡◌, refl, ap, ◌∙◌, sym, subst, ℕ, zero, suc, ◌<◌, ◌+◌, ◌-◌, ◌≤◌, min, true, false, List, [], ◌∷◌, ◌++◌, Option, Some, None, Result, Ok, Err, append-nil, arith}
 use Rattle.nest_lang.specs.declared.tree.Head.{Head}
-use Rattle.nest_lang.specs.declared.tree.Head.TheVariants.{For, While}
-use Rattle.nest_lang.specs.declared.tree.Loop.{Loop}
 use Rattle.nest_lang.specs.Stores.{Store, Nothing}
-use Rattle.nest_lang.specs.Lookups.{Expectation}
-use Rattle.nest_lang.specs.Traces.{Observation, Halt, Trace, ends, and_then, in_turn, Step, step_of, traced, Finish, Done, Halted, Limited, Cut, cut_of, cut, seen_in}
+use Rattle.nest_lang.specs.Traces.{Observation, Halt, Trace, ends, and_then, in_turn, Step, step_of, traced, Finish, Done, Halted, Limited, Cut, cut, seen_in}
 use Rattle.nest_lang.specs.Expressions.{Frame}
 use Rattle.nest_lang.specs.Statements.{announced}
-use Rattle.nest_lang.specs.Heads.{Yield, Bounds, Tested, Headed, head_of, head_step, headed}
-use Rattle.nest_lang.specs.Loops.{turns_from, turns_of, turn_if, whiles_from}
-use Rattle.nest_lang.proofs.Cuts.{cut-and_then, cut-end, cut-ends, cut-step, cut-due, resumed, resumed-not, seen-and_then, rest_seen, rest_seen-not, seen-step, seen-due, seen-ends, goes_on, goes_seen}
+use Rattle.nest_lang.specs.Heads.{Yield, Tested, head_of, head_step, headed}
+use Rattle.nest_lang.specs.Loops.{turns_from, turn_if, whiles_from}
+use Rattle.nest_lang.proofs.Cuts.{cut-and_then, cut-ends, cut-step, cut-due, resumed, resumed-not, seen-and_then, rest_seen, rest_seen-not, seen-step, seen-due, seen-ends}
 use Rattle.block_exec.specs.Watches.{Chain}
 use Rattle.block_exec.specs.Ends.{where_left, shown_where_left}
 use Rattle.block_exec.proofs.Chained.{chain-append}

@@ -1,7 +1,7 @@
 -- Traces of which one stops where the other goes on.
 use Rattle.std.proofs.Common.{◌≡◌, refl, ap, ◌∙◌, sym, subst, ℕ, ℤ, zero, suc, ◌<◌, ◌+◌, ◌≤◌, ◌⊎◌, inl, inr, Bool, true, false, nat_le, List, [], ◌∷◌, ◌++◌, length, append_assoc, Option, Some, None, arith}
 use Rattle.nest_lang.specs.Stores.{Store, effect_on}
-use Rattle.nest_lang.specs.Traces.{Observation, Entry, Halt, Stopped, Trace, joined, and_then, in_turn, Step, traced, after_all, Finish, Halted, Cut, cut_of, cut, seen_of, seen_in}
+use Rattle.nest_lang.specs.Traces.{Observation, Entry, Halt, Stopped, Trace, joined, and_then, in_turn, Step, traced, after_all, Halted, Cut, cut, seen_of, seen_in}
 use Rattle.nest_lang.proofs.Cuts.{trace_of, cut-stop, cut-cons, cut-end}
 use Rattle.plain_interp.specs.Laws.{IsStopped}
 

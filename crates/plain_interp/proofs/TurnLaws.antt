@@ -1,10 +1,7 @@
 -- Laws of turns.
-use Rattle.std.proofs.Common.{◌≡◌, ap, ◌∙◌, sym, ℕ, ◌+◌, ◌-◌, ◌≤◌, pos, List, ◌++◌, arith}
-use Rattle.nest_lang.specs.declared.tree.Loop.{Loop}
-use Rattle.nest_lang.specs.declared.state.Outer.{Outer}
+use Rattle.std.proofs.Common.{◌≡◌, ap, ◌∙◌, sym, ℕ, ◌+◌, ◌-◌, arith}
 use Rattle.nest_lang.specs.Stores.{Store}
-use Rattle.nest_lang.specs.Lookups.{Expectation}
-use Rattle.nest_lang.specs.Traces.{Observation, Trace, and_then, cut, seen_in}
+use Rattle.nest_lang.specs.Traces.{Trace, cut, seen_in}
 use Rattle.nest_lang.proofs.Cuts.{rest_seen, seen-and_then}
 use Rattle.plain_interp.specs.Outermost.{turns_trace, turns_later}
 use Rattle.plain_interp.specs.Laws.{TurnsJoin, FewerTurnsBegin}

@@ -1,5 +1,5 @@
 -- Turns of loops, from the runs of their parts.
-use Rattle.std.proofs.Common.{◌≡◌, refl, ap, ◌∙◌, sym, subst, ℕ, ℤ, pos, zero, suc, ◌<◌, ◌+◌, ◌-◌, ◌≤◌, min, Bool, true, false, not, List, [], ◌∷◌, ◌++◌, length, take, set, Option, Some, None, Result, Ok, Err, arith, rules}
+use Rattle.std.proofs.Common.{◌≡◌, refl, ap, ◌∙◌, sym, subst, ℕ, ℤ, pos, zero, suc, ◌<◌, ◌+◌, ◌-◌, min, Bool, not, List, [], ◌∷◌, ◌++◌, length, take, set, Option, Some, None, Result, Ok, Err, arith}
 use Rattle.std.proofs.lemmas.List.{take_more_set}
 use Rattle.std.proofs.lemmas.Grind.{common_steps}
 use Rattle.nest_lang.specs.declared.tree.Expr.{Expr}

@@ -14,19 +14,19 @@ use Rattle.nest_lang.specs.declared.tree.Part.{Part}
 use Rattle.nest_lang.specs.declared.tree.Part.TheVariants as part
 use Rattle.nest_lang.specs.declared.observe.Stop.{Stop}
 use Rattle.nest_lang.specs.declared.observe.Stop.TheVariants.{Unexpected}
-use Rattle.nest_lang.specs.declared.observe.Seen.TheVariants.{Address, Lower, Trip, Condition}
+use Rattle.nest_lang.specs.declared.observe.Seen.TheVariants.{Address}
 use Rattle.nest_lang.specs.declared.state.Outer.{Outer}
-use Rattle.nest_lang.specs.Values.{same, trip_count, turn_value, negate_of, apply_of}
-use Rattle.nest_lang.specs.Stores.{Store, word_at, Nothing, Local, Scalar, Word}
+use Rattle.nest_lang.specs.Values.{same, turn_value}
+use Rattle.nest_lang.specs.Stores.{Store, word_at, Nothing, Local, Scalar}
 use Rattle.nest_lang.specs.Lookups.{Interval, Expectation, plain, lies_in, line_of, look, look_load, look_store, word_or_outside}
-use Rattle.nest_lang.specs.Traces.{Instance, Observation, Entry, Halt, Stopped, Trace, in_turn, Step, step_of, traced, and_then}
-use Rattle.nest_lang.specs.Expressions.{Frame, shown, Told, telling, then_tell, or_trapped, or_stopped, expression_level, told_by, told}
+use Rattle.nest_lang.specs.Traces.{Instance, Observation, Entry, Halt, Stopped, Trace, in_turn, Step, step_of, traced}
+use Rattle.nest_lang.specs.Expressions.{Frame, shown, Told, telling, then_tell, or_stopped, expression_level, told_by, told}
 use Rattle.nest_lang.specs.Statements.{with_value, stored, statement_level, statement_trace, block_trace, started, announced, shown_before, instance_trace}
-use Rattle.nest_lang.specs.Heads.{Yield, Bounds, Tested, Headed, heading, then_head, as_number, head_of, head_step, headed}
+use Rattle.nest_lang.specs.Heads.{Yield, Bounds, Tested, Headed, heading, then_head, head_of, head_step, headed}
 use Rattle.nest_lang.specs.Loops.{Around, inward, outside, frame_of, turn_trace, turns_from, turns_of, turn_if, whiles_from, loop_by, loops_trace}
-use Rattle.plain_interp.specs.Outermost.{over, counted_turns, turn_or_over, tested_turns, number_left, turns_by, turns_trace}
+use Rattle.plain_interp.specs.Outermost.{counted_turns, turn_or_over, tested_turns, turns_by, turns_trace}
 use Rattle.plain_interp.specs.Laws.{UnstoppedTurnsArePlain}
-use Rattle.plain_interp.proofs.StopsShort.{UpTo, UpToOn, StopsShort, up-joined, up-and_then, up-ends, up-only, up-two, up-stops, up-same}
+use Rattle.plain_interp.proofs.StopsShort.{UpTo, UpToOn, up-joined, up-and_then, up-ends, up-only, up-two, up-stops, up-same}
 
 -- a result that stops
 abbrev Stops : {A : Type 0} → Result A Halt → Type 0

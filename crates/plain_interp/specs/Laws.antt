@@ -1,10 +1,10 @@
 -- What holds of some turns of a nest.
-use Rattle.std.specs.Prelude.{◌≡◌, ℕ, ◌≤◌, ◌+◌, ℤ, pos, List, ◌++◌}
+use Rattle.std.specs.Prelude.{◌≡◌, ℕ, ◌≤◌, ◌+◌, pos, List, ◌++◌}
 use Rattle.nest_lang.specs.declared.tree.Loop.{Loop}
 use Rattle.nest_lang.specs.declared.state.Outer.{Outer}
 use Rattle.nest_lang.specs.Stores.{Store}
 use Rattle.nest_lang.specs.Lookups.{Expectation, plain}
-use Rattle.nest_lang.specs.Traces.{Observation, Stopped, and_then, Finish, Done, Halted, Limited, cut, seen_in}
+use Rattle.nest_lang.specs.Traces.{Observation, Stopped, and_then, Finish, Halted, cut, seen_in}
 use Rattle.plain_interp.specs.Outermost.{turns_trace, turns_later}
 
 -- c turns, and then d turns from the position c turns later, are c + d turns

@@ -1,5 +1,5 @@
 -- The outermost loop: where it stands, and some turns of it.
-use Rattle.std.specs.Prelude.{◌≡◌, ℕ, zero, suc, ◌<◌, ◌≤◌, ◌+◌, ◌-◌, ℤ, pos, ◌+ℤ◌, unsigned_abs, FitsSigned, List, [], ◌∷◌, Option, Some, None, Result, Ok, Err, true, false}
+use Rattle.std.specs.Prelude.{◌≡◌, ℕ, zero, suc, ◌<◌, ◌≤◌, ◌+◌, ◌-◌, pos, ◌+ℤ◌, unsigned_abs, FitsSigned, List, [], ◌∷◌, Option, Some, None, Result, Ok, Err, true}
 use Rattle.std.specs.Int.{w64}
 use Rattle.nest_lang.specs.declared.tree.Head.{Head}
 use Rattle.nest_lang.specs.declared.tree.Head.TheVariants.{For, While}

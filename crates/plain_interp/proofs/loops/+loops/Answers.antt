@@ -1,18 +1,18 @@
-use Rattle.std.proofs.Common.{rules, arith, refl, ap, sym, subst, ◌∙◌, ◌≡◌, ◌+◌, ◌<◌, ◌≤◌, ◌^◌, ℕ, ℤ, pos, ◌∷◌, [], length, take, true, false, Option, Some, None, Ok, Err, FitsSigned, w64, to_z, of_z, ◌-◌, Bool, List}
+use Rattle.std.proofs.Common.{rules, arith, refl, ap, subst, ◌∙◌, ◌≡◌, ◌+◌, ◌<◌, ℕ, ℤ, pos, ◌∷◌, [], length, take, true, false, Some, None, Ok, Err, FitsSigned, w64, to_z, of_z, Bool}
 use Rattle.std.proofs.lemmas.Int.{ints, to_z-of_z}
 use Rattle.nest_lang.specs.declared.tree.Part.TheVariants as part
 use Rattle.nest_lang.specs.Values.{turn_value}
 use Rattle.nest_lang.specs.Stores.{store_of}
-use Rattle.nest_lang.specs.Traces.{Trapped, Stopped, Finish, Done}
+use Rattle.nest_lang.specs.Traces.{Trapped, Stopped, Finish}
 use Rattle.nest_lang.specs.Statements.{instance_trace}
 use Rattle.nest_lang.specs.Heads.{Bounds, Tested}
-use Rattle.nest_lang.specs.Loops.{loops_trace, turn_trace, turns_from, inward, frame_of}
+use Rattle.nest_lang.specs.Loops.{loops_trace, turns_from, inward, frame_of}
 use Rattle.block_exec.specs.Ends.{finish_by, yielded}
-use Rattle.plain_interp.specs.Moments.{moment, Ran, RanWithin, around_of, IsWhile}
+use Rattle.plain_interp.specs.Moments.{moment, Ran, around_of}
 use Rattle.plain_interp.proofs.Blocks.{finish_by-done}
-use Rattle.plain_interp.proofs.Keeps.{loop_keeps-strides, loop_keeps-inner}
-use Rattle.plain_interp.proofs.Rans.{ran-ends, turns-next, turns-out, turns-end, while-next, while-out, while-end, while-halts, while-limited}
-use Rattle.plain_interp.proofs.Turns.{for_turns, turn-ran, turn-ran-before, turn-ran-inside, turn-moved, inner-moved, ran-no_loops, turn-ran-behind, for-yields, for-halts, for-limited, for-no_while, while-no_for, while_frames, while_turns, while-starts, while-frame, evaluated-same, around-inward, around-kept, place-kept}
+use Rattle.plain_interp.proofs.Keeps.{loop_keeps-strides}
+use Rattle.plain_interp.proofs.Rans.{turns-next, turns-out, turns-end, while-next, while-out, while-end, while-halts, while-limited}
+use Rattle.plain_interp.proofs.Turns.{for_turns, turn-ran-before, turn-ran-inside, turn-moved, inner-moved, ran-no_loops, turn-ran-behind, for-yields, for-halts, for-limited, for-no_while, while-no_for, while_frames, while_turns, while-frame, evaluated-same, around-inward, around-kept, place-kept}
 use Rattle.plain_interp.proofs.loops.+loops.Goals as goal
 use Rattle.plain_interp.proofs.loops.+loops.Goals.{run_turn-in-Some+in-Ended-run_loop, run_turn-in_default-split_first}
 

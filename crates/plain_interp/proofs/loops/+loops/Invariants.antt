@@ -1,4 +1,4 @@
-use Rattle.std.proofs.Common.{◌≡◌, ◌+◌, ◌-◌, ◌<◌, ◌≤◌, ◌*◌, ℕ, ◌∷◌, [], pos, take, length}
+use Rattle.std.proofs.Common.{◌≡◌, ◌+◌, ◌-◌, ◌<◌, ◌≤◌, ◌*◌, ℕ, ◌∷◌, [], take, length}
 use Rattle.nest_lang.specs.Stores.{store_of}
 use Rattle.nest_lang.specs.Loops.{loops_trace, turns_from, whiles_from}
 use Rattle.plain_interp.specs.Moments.{moment, Ran, around_of}

@@ -1,8 +1,8 @@
-use Rattle.std.proofs.Common.{◌≡◌, refl, ap, sym, ◌∙◌, rules, ◌+◌, ◌<◌, ℕ, pos, ◌∷◌, [], length, take, true, false}
+use Rattle.std.proofs.Common.{ap, rules, ◌+◌, []}
 use Rattle.nest_lang.specs.Stores.{store_of}
 use Rattle.nest_lang.specs.Loops.{frame_of}
 use Rattle.block_exec.specs.Ends.{finish_by}
-use Rattle.plain_interp.specs.Moments.{moment, Ran, around_of}
+use Rattle.plain_interp.specs.Moments.{moment, around_of}
 use Rattle.plain_interp.proofs.Blocks.{ran-instance, ran-no_instance, instance-steps}
 use Rattle.plain_interp.proofs.loops.run_block.Goals as goal
 

@@ -1,6 +1,5 @@
-use Rattle.std.proofs.Common.{rules, ap, sym, ◌∙◌, ◌≡◌, pos, Some, FitsSigned, w64}
+use Rattle.std.proofs.Common.{rules, ◌≡◌, pos, Some, FitsSigned, w64}
 use Rattle.std.proofs.lemmas.Int.{to_z-of_z}
-use Rattle.nest_lang.specs.declared.state.Outer.{Outer}
 use Rattle.plain_interp.proofs.Positions.{keeps_rules-found, keeps_rules-strides, position-entered}
 use Rattle.plain_interp.proofs.Turns.{for-no_while}
 use Rattle.plain_interp.proofs.outer.enter.Goals as goal

@@ -1,5 +1,5 @@
-use Rattle.std.proofs.Common.{unsigned_abs, rules, arith, refl, ap, sym, subst, ◌∙◌, ◌≡◌, ◌+◌, ◌<◌, ℕ, ℤ, pos, ◌∷◌, [], true, false, Some, None, Ok, Err, Bool, FitsSigned, w64, to_z, of_z}
-use Rattle.std.proofs.lemmas.Int.{ints, to_z-of_z}
+use Rattle.std.proofs.Common.{unsigned_abs, rules, arith, refl, ap, ◌∙◌, ◌≡◌, ℤ, pos, ◌∷◌, [], true, false, Some, None, Ok, Err, Bool, FitsSigned, w64}
+use Rattle.std.proofs.lemmas.Int.{to_z-of_z}
 use Rattle.nest_lang.specs.declared.tree.Part.TheVariants as part
 use Rattle.nest_lang.specs.Values.{turn_value}
 use Rattle.nest_lang.specs.Stores.{store_of}
