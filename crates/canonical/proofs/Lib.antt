@@ -15,3 +15,4 @@ pub mod LayoutWritten
 pub mod LoopsAgain
 pub mod ScriptsAgain
 pub mod ContentsAgain
+pub mod Proper
