@@ -16,3 +16,4 @@ pub mod LoopsAgain
 pub mod ScriptsAgain
 pub mod ContentsAgain
 pub mod Proper
+pub mod ProperFile
