@@ -121,8 +121,10 @@ unfolding opening_of here
 at-statement branch hb names s (token.Name n) h (opening.Name m) k =
     let q : n ≡ m = cc in
     at-as (λ ts v. the (other (one v))) (of-then (at-target names m s (subst (λ (x : TokenName). stands s ≡ token.Name x) q h)) word-assigned (λ p t. of-then (of-need mark.Assign t) word-expr (λ _ u. at-last (of-expression names u) (λ e. of-gives (Set p e, names)))))
-at-statement branch hb names s (token.Plain mark.Let) h opening.Let k = at-as (λ ts v. the (one v)) (record { is = (at-obeys {e = Sign mark.Let · Name · Assigned} (λ _. skipped >>= λ _. fresh names >>= λ n. local_number n >>= λ p. need mark.Assign >>= λ _. expression names >>= λ e. gives (Let p e, names ++ declared n (place.Local p) ∷ [])) (nat_lt (length s.lets) most_lets) kind.Many (token.Plain mark.Let) h (λ q. cc) (starts-then starts-sign (word-then word-name word-assigned))
-    (of-then (at-skipped (token.Plain mark.Let) h (λ q. cc) sign) (word-then word-name word-assigned) (λ _ t. of-then (of-fresh names t) word-assigned (λ n u. record { is = (of-then {g = The AnExpr} {f = λ _. expression names >>= λ e. gives (Let (length u.lets) e, names ++ declared n (place.Local (length u.lets)) ∷ [])} (of-need mark.Assign (bound n u)) word-expr (λ _ v. at-last (of-expression names v) (λ e. of-gives (Let (length u.lets) e, names ++ declared n (place.Local (length u.lets)) ∷ [])))).is })))).is })
+at-statement branch hb names s (token.Plain mark.Let) h opening.Let k = at-as (λ ts v. the (one v)) (record {
+  is = (at-obeys {e = Sign mark.Let · Name · Assigned} (λ _. skipped >>= λ _. fresh names >>= λ n. local_number n >>= λ p. need mark.Assign >>= λ _. expression names >>= λ e. gives (Let p e, names ++ declared n (place.Local p) ∷ [])) (nat_lt (length s.lets) most_lets) kind.Many (token.Plain mark.Let) h (λ q. cc) (starts-then starts-sign (word-then word-name word-assigned))
+      (of-then (at-skipped (token.Plain mark.Let) h (λ q. cc) sign) (word-then word-name word-assigned) (λ _ t. of-then (of-fresh names t) word-assigned (λ n u. record { is = (of-then {g = The AnExpr} {f = λ _. expression names >>= λ e. gives (Let (length u.lets) e, names ++ declared n (place.Local (length u.lets)) ∷ [])} (of-need mark.Assign (bound n u)) word-expr (λ _ v. at-last (of-expression names v) (λ e. of-gives (Let (length u.lets) e, names ++ declared n (place.Local (length u.lets)) ∷ [])))).is })))).is;
+})
 at-statement branch hb names s (token.Plain mark.OpenBracket) h opening.Store k = at-as (λ ts v. the (other (other (one v)))) (at-access _ (token.Plain mark.OpenBracket) h (λ q. cc) (starts-then starts-sign (word-then word-expr (word-then word-sign word-assigned)))
     (of-then (at-skipped (token.Plain mark.OpenBracket) h (λ q. cc) sign) (word-then word-expr (word-then word-sign word-assigned)) (λ _ t. of-then (of-expression names t) (word-then word-sign word-assigned) (λ a u. of-then (of-need mark.CloseBracket u) word-assigned (λ _ v. of-then (of-need mark.Assign v) word-expr (λ _ w. at-last (of-expression names w) (λ e. of-numbered names a e)))))))
 at-statement branch hb names s (token.Plain mark.If) h opening.If k = at-as (λ ts v. the (other (other (other v)))) (at-last (hb s h) (λ st. of-gives (st, names)))

@@ -304,5 +304,7 @@ file-is _ (both u (other v)) = the (other (both u v))
 -- a whole file
 pub of-contents : Of (The File) contents
 unfolding contents version behind
-of-contents s = record { is = subst (λ (y : Result (NestFile × Sight) TextFault). Judged (The File) y s.size s.left) (sym (after-after (need mark.Nest s) (λ _ u. version_at (stands u) u) behind))
-    (at-as file-is (of-then {f = λ _ u. after (version_at (stands u) u) behind} (of-need mark.Nest s) word-numbered (λ _ u. by-token (λ t. version_at t >>= behind) (at-version_at u)))).is }
+of-contents s = record {
+  is = subst (λ (y : Result (NestFile × Sight) TextFault). Judged (The File) y s.size s.left) (sym (after-after (need mark.Nest s) (λ _ u. version_at (stands u) u) behind))
+      (at-as file-is (of-then {f = λ _ u. after (version_at (stands u) u) behind} (of-need mark.Nest s) word-numbered (λ _ u. by-token (λ t. version_at t >>= behind) (at-version_at u)))).is;
+}

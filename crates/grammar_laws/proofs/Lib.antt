@@ -17,3 +17,4 @@ pub mod Main
 pub mod Computed
 pub mod Spelled
 pub mod Rules
+pub mod Refusals

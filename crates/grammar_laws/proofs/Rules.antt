@@ -1,6 +1,6 @@
 -- Rules: what holds of every file that a text is.
-use Rattle.std.proofs.Common.{◌≡◌, ℕ, zero, suc, ◌+◌, ◌<◌, ◌≤◌, ℤ, pos, List, [], ◌∷◌, ◌++◌, length, length-append, refl, sym, ◌∙◌, ap, subst, arith, Option, Result, Ok, Err, Bool, true, false, nat_le}
-use Rattle.std.specs.Prelude.{◌≢◌, ◌&&◌, not}
+use Rattle.std.proofs.Common.{◌≡◌, ℕ, ◌+◌, suc, ◌<◌, ◌≤◌, ℤ, pos, List, [], ◌∷◌, ◌++◌, length, length-append, refl, ◌∙◌, arith, Option, Ok, true, nat_le}
+use Rattle.std.specs.Prelude.{◌≢◌, ◌&&◌}
 use Rattle.std.specs.List.{All}
 use Rattle.std.proofs.lemmas.Bool.{le-leb}
 use Rattle.std.proofs.lemmas.List.Elements.{All-nil, All-push}
@@ -12,6 +12,7 @@ use Rattle.nest_tokens.specs.declared.token.Name.{Name}
 use Rattle.nest_grammar.specs.declared.version.Version.{Version}
 use Rattle.nest_grammar.specs.declared.version.Version.TheVariants.{One, Two as Several}
 use Rattle.nest_grammar.specs.declared.file.Scalar.{Scalar}
+use Rattle.nest_grammar.specs.declared.file.Item.{Item}
 use Rattle.nest_grammar.specs.declared.file.LoopNames.{LoopNames}
 use Rattle.nest_grammar.specs.declared.file.Unit.{Unit as NestUnit}
 use Rattle.nest_grammar.specs.declared.file.File.{File}
@@ -19,9 +20,9 @@ use Rattle.nest_grammar.specs.Limits.{most_scalars, most_nests, most_depth}
 use Rattle.nest_grammar.specs.Sights.{Sight, skip}
 use Rattle.nest_grammar.specs.Names.{Names}
 use Rattle.nest_grammar.specs.Contents.{reading}
-use Rattle.nest_grammar.specs.Grammar.{IsSigned, unsigned, negative, IsStride, unwritten, written, IsHeading, counting, asking, IsLoops, innermost, outer, IsUnit, IsUnits, IsScalars, IsVersion, Reads}
+use Rattle.nest_grammar.specs.Grammar.{IsSigned, unsigned, negative, IsStride, unwritten, written, IsHeading, counting, asking, IsLoops, innermost, outer, IsUnit, IsUnits, IsScalars, IsValues, IsItem, data_, ramp, IsItems, IsVersion, Reads}
 use Rattle.nest_grammar.specs.Grammar as grammar
-use Rattle.grammar_laws.specs.Rules.{IsSpelled, KeepsRules, FilesKeepRules}
+use Rattle.grammar_laws.specs.Rules.{IsSpelled, item_fits, KeepsRules, FilesKeepRules}
 use Rattle.grammar_laws.proofs.Loops.{not_zero-is}
 use Rattle.grammar_laws.proofs.Contents.{reading-reads}
 use Rattle.grammar_laws.proofs.Spelled.{ProperSight, proper-start, proper-skip, proper-name}
@@ -98,6 +99,23 @@ scalars-keep (grammar.more {cs} {n} {v} {s} {t} i h l k f a j) p =
     let q = proper-skip t g.2 in
     (omega (arith, e), All-push Spelled cs (record { name = n; value = v }) g.1 (proper-name n (skip t) q k), proper-signed j (proper-skip (skip (skip t)) (proper-skip (skip t) q)))
 
+-- Items
+
+values-fit : {words first : ℕ} {s : Sight} {vs : List ℤ} {t : Sight} → IsValues words first s vs t → first + length vs ≤ words
+values-fit (grammar.one l i) = omega (arith, l)
+values-fit (grammar.more {vs} {v} i h l j) = let e = length-push vs v in omega (arith, e, l)
+
+item-fits : {words : ℕ} {s : Sight} {i : Item} {t : Sight} → IsItem words s i t → item_fits words i ≡ true
+item-fits {words} (data_ {first} {vs} h n q c v) = le-leb (first + length vs) words (values-fit v)
+item-fits (ramp h f q c r k n i j m) = m
+
+abbrev ItemFits : ℕ → Item → Type 0
+ItemFits words i = item_fits words i ≡ true
+
+items-fit : {words : ℕ} {s : Sight} {is : List Item} {t : Sight} → IsItems words s is t → All (ItemFits words) is
+items-fit {words} grammar.none = All-nil (ItemFits words)
+items-fit {words} (grammar.more {is} {i} j k) = All-push (ItemFits words) is i (items-fit j) (item-fits k)
+
 proper-version : {s : Sight} {v : Version} {t : Sight} → IsVersion s v t → ProperSight s → ProperSight t
 proper-version (grammar.one {s} h k) p = proper-skip (skip s) (proper-skip s p)
 proper-version (grammar.two {s} h k) p = proper-skip (skip s) (proper-skip s p)
@@ -107,7 +125,7 @@ pub reads-keeps : FilesKeepRules
 reads-keeps text _ (grammar.file l iv ic m n b ii iu e) =
     let f = scalars-keep ic (proper-version iv (proper-start text)) in
     let g = units-keep iu in
-    record { few_scalars = f.0; spelled = f.1; few_words = b; some_nest = g.0; few_nests = g.1; nests_keep = g.2 }
+    record { few_scalars = f.0; spelled = f.1; few_words = b; items_fit = items-fit ii; some_nest = g.0; few_nests = g.1; nests_keep = g.2 }
 
 -- and so does a file that is read
 pub reading-keeps : (text : List ℕ) (file : File) → reading text ≡ Ok file → KeepsRules file

@@ -208,15 +208,17 @@ at-skipped {e} {s} t h real v = record { is = passed-one tt e s (skip s) t refl 
 -- a token that the grammar allows, and that breaks a rule
 pub at-refused : {A : Type 0} {e : Form} {s : Sight} (what : TextKind) (t : Token) → stands s ≡ t → Real t → Starts e t → At e (refused {A = A} what) s
 unfolding refused here
-at-refused {A} {e} {s} what t h real v = let y = spot-here s t h real in record { is = record {
-  before = [];
-  behind = s.left;
-  left = refl;
-  at = refl;
-  fill = t ∷ v.0;
-  begins = v.1;
-  allowed = λ q. record { spot = y.0; rest = (skip s).left; fill = v.0; is = y.1; allows = subst (λ (k : Token). Allows e (k ∷ v.0)) (sym y.2) v.1 };
-} }
+at-refused {A} {e} {s} what t h real v = let y = spot-here s t h real in record {
+  is = record {
+    before = [];
+    behind = s.left;
+    left = refl;
+    at = refl;
+    fill = t ∷ v.0;
+    begins = v.1;
+    allowed = λ q. record { spot = y.0; rest = (skip s).left; fill = v.0; is = y.1; allows = subst (λ (k : Token). Allows e (k ∷ v.0)) (sym y.2) v.1 };
+  };
+}
 
 no-rule : (t : Token) → at_allowed (unexpected t) ≡ true → ⊥
 no-rule (token.Bad bad.Byte) h = cc
@@ -227,28 +229,32 @@ no-rule _ h = cc
 -- a token that the grammar does not allow
 pub of-wrong : {A : Type 0} {e : Form} → Word e → Of e (wrong {A = A})
 unfolding refused here
-of-wrong {A} {e} v s = record { is = record {
-  before = [];
-  behind = s.left;
-  left = refl;
-  at = refl;
-  fill = v.0;
-  begins = v.1;
-  allowed = λ q. absurd (no-rule (stands s) q);
-} }
+of-wrong {A} {e} v s = record {
+  is = record {
+    before = [];
+    behind = s.left;
+    left = refl;
+    at = refl;
+    fill = v.0;
+    begins = v.1;
+    allowed = λ q. absurd (no-rule (stands s) q);
+  };
+}
 
 -- a token that is judged by a rule of its own
 pub of-judged : {A : Type 0} {e : Form} (what : TextKind) → at_allowed what ≡ false → Word e → Of e (refused {A = A} what)
 unfolding refused here
-of-judged {A} {e} what w v s = record { is = record {
-  before = [];
-  behind = s.left;
-  left = refl;
-  at = refl;
-  fill = v.0;
-  begins = v.1;
-  allowed = λ q. absurd (let k : at_allowed what ≡ true = q in cc);
-} }
+of-judged {A} {e} what w v s = record {
+  is = record {
+    before = [];
+    behind = s.left;
+    left = refl;
+    at = refl;
+    fill = v.0;
+    begins = v.1;
+    allowed = λ q. absurd (let k : at_allowed what ≡ true = q in cc);
+  };
+}
 
 -- by the token that stands here
 pub by-token : {A : Type 0} {e : Form} {s : Sight} (f : Token → Reading A) → ((t : Token) → stands s ≡ t → At e (f t) s) → At e (λ s. f (stands s) s) s
@@ -293,10 +299,12 @@ again-then ts (both u w) = again u w
 of-more : {A B : Type 0} {e : Form} (n : ℕ) (begins : Token → Option B) (part : B → A → Reading A) → ((b : B) (a : A) (s : Sight) → begins (stands s) ≡ Some b → At e (part b a) s) → (a : A) → Of (Many e) (more n begins part a)
 unfolding more
 of-more zero begins part h a s = record { is = record { before = []; left = refl; ends = refl; allows = none } }
-of-more {A} {B} {e} (suc n) begins part h a s = record { is = (elim (begins (stands s)) as (λ o. begins (stands s) ≡ o → At (Many e) (more_at part (more n begins part) a o) s) [
-  | None ↦ λ k. record { is = record { before = []; left = refl; ends = refl; allows = none } }
-  | Some b ↦ λ k. at-as again-then (of-then (h b a s k) word-many (λ c. of-more n begins part h c))
-] refl).is }
+of-more {A} {B} {e} (suc n) begins part h a s = record {
+  is = (elim (begins (stands s)) as (λ o. begins (stands s) ≡ o → At (Many e) (more_at part (more n begins part) a o) s) [
+    | None ↦ λ k. record { is = record { before = []; left = refl; ends = refl; allows = none } }
+    | Some b ↦ λ k. at-as again-then (of-then (h b a s k) word-many (λ c. of-more n begins part h c))
+  ] refl).is;
+}
 
 pub of-many : {A B : Type 0} {e : Form} (begins : Token → Option B) (part : B → A → Reading A) → ((b : B) (a : A) (s : Sight) → begins (stands s) ≡ Some b → At e (part b a) s) → (a : A) → Of (Many e) (many begins part a)
 unfolding many

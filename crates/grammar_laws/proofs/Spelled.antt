@@ -1,5 +1,5 @@
 -- Spelled: the names of a text are spelled as names.
-use Rattle.std.proofs.Common.{◌≡◌, ℕ, ◌≤◌, List, [], ◌∷◌, ◌++◌, length, refl, sym, ◌∙◌, ap, subst, arith, Option, Some, None, Bool, true, false, cond, nat_lt, pos, ◌^◌}
+use Rattle.std.proofs.Common.{◌≡◌, ℕ, ◌≤◌, List, [], ◌∷◌, length, refl, subst, Option, Some, None, Bool, true, false, cond, nat_lt, pos, ◌^◌}
 use Rattle.std.proofs.lemmas.Bool.{ltb-false}
 use Rattle.nest_tokens.specs.declared.token.Mark.{Mark}
 use Rattle.nest_tokens.specs.declared.token.Name.{Name}
@@ -8,10 +8,10 @@ use Rattle.nest_tokens.specs.declared.token.Token.TheVariants as token
 use Rattle.nest_tokens.specs.declared.token.BadToken.TheVariants as bad
 use Rattle.nest_tokens.specs.declared.token.Spot.{Spot}
 use Rattle.nest_tokens.specs.Tokens.{word_of}
-use Rattle.nest_tokens.specs.Lexing.{is_letter, is_name_byte, decimal, named, numbered, name_of, word_or_name, tokens}
+use Rattle.nest_tokens.specs.Lexing.{is_letter, is_name_byte, decimal, named, numbered, word_or_name}
 use Rattle.nest_tokens.specs.Division.{Begins, AllPass, Spells, name, number, sign, bad_byte, Divides, ends, goes_on}
 use Rattle.nest_tokens.proofs.Dividing.{tokens-divide}
-use Rattle.nest_grammar.specs.Sights.{Sight, here, first, stands, skip, rest, of_version, start}
+use Rattle.nest_grammar.specs.Sights.{Sight, here, first, skip, rest, start}
 use Rattle.nest_grammar.specs.Grammar.{SeesName}
 use Rattle.grammar_laws.specs.Rules.{IsSpelled}
 

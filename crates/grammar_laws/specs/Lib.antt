@@ -3,3 +3,4 @@ pub mod Phrases
 pub mod Laws
 pub mod Examples
 pub mod Rules
+pub mod Refusals

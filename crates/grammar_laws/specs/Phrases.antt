@@ -50,19 +50,19 @@ maybe f = f ∣ Nothing
 -- the grammar
 abbrev pub rule : Production → Form
 rule File =
-      Sign mark.Nest · Numeral 1 · Many (The Scalar) · Sign mark.Memory · Number · Many (The Item) · The Loop · Many (The Candidate)
+    Sign mark.Nest · Numeral 1 · Many (The Scalar) · Sign mark.Memory · Number · Many (The Item) · The Loop · Many (The Candidate)
     ∣ Sign mark.Nest · Numeral 2 · Many (The Scalar) · Sign mark.Memory · Number · Many (The Item) · The Unit · Many (The Unit)
 rule Unit = The Loop · Many (The Candidate)
 rule Scalar = Sign mark.Scalar · Name · Sign mark.Assign · The Signed
 rule Item =
-      Sign mark.Data · Number · Sign mark.Colon · The Signed · Many (Sign mark.Comma · The Signed)
+    Sign mark.Data · Number · Sign mark.Colon · The Signed · Many (Sign mark.Comma · The Signed)
     ∣ Sign mark.Ramp · Number · Number · Number · The Signed · The Signed
 rule Loop =
-      Sign mark.For · Name · Sign mark.Assign · The Expr · Sign mark.Below · The Expr · maybe (Sign mark.Step · The Signed) · The Body
+    Sign mark.For · Name · Sign mark.Assign · The Expr · Sign mark.Below · The Expr · maybe (Sign mark.Step · The Signed) · The Body
     ∣ Sign mark.While · The Expr · The Body
 rule Body = Sign mark.OpenBrace · Many (The Stmt) · maybe (The Loop · Many (The Stmt)) · Sign mark.CloseBrace
 rule Stmt =
-      Sign mark.Let · Name · Sign mark.Assign · The Expr
+    Sign mark.Let · Name · Sign mark.Assign · The Expr
     ∣ Name · Sign mark.Assign · The Expr
     ∣ Sign mark.OpenBracket · The Expr · Sign mark.CloseBracket · Sign mark.Assign · The Expr
     ∣ Sign mark.If · The Expr · Sign mark.OpenBrace · Many (The Stmt) · Sign mark.CloseBrace · maybe (Sign mark.Else · Sign mark.OpenBrace · Many (The Stmt) · Sign mark.CloseBrace)
@@ -70,7 +70,7 @@ rule Expr = The Sum · maybe ((Sign mark.Equal ∣ Sign mark.NotEqual ∣ Sign m
 rule Sum = The Term · Many ((Sign mark.Plus ∣ Sign mark.Minus) · The Term)
 rule Term = The Unary · Many ((Sign mark.Times ∣ Sign mark.Divide ∣ Sign mark.Remainder) · The Unary)
 rule Unary =
-      Sign mark.Minus · The Unary
+    Sign mark.Minus · The Unary
     ∣ Number
     ∣ Name
     ∣ Sign mark.OpenBracket · The Expr · Sign mark.CloseBracket
@@ -78,7 +78,7 @@ rule Unary =
 rule Signed = maybe (Sign mark.Minus) · Number
 rule Candidate = Sign mark.Candidate · Sign mark.OpenBrace · maybe (The Command · Many (Sign mark.Semicolon · The Command)) · Sign mark.CloseBrace
 rule Command =
-      Verb word.Seq · Number
+    Verb word.Seq · Number
     ∣ Verb word.Swap · Number · Number
     ∣ Verb word.Skew · Number · Number · The Signed
     ∣ Verb word.Tile · Number · Number

@@ -176,8 +176,8 @@ many-upto {A} {B} (suc u) begins part p h a s le = elim (begins (stands s)) as (
   | None ↦ λ e. many-none begins part a s e
   | Some b ↦ λ e. (
       let q : Here (part b a >>= many begins part) s = here-bind (part b a) (many begins part) s (h b a s) (λ y v.
-        let l : length y.1.left < length s.left = many-shorter begins part a y.0 s y.1 b p e v in
-        many-upto u begins part p h y.0 y.1 (omega arith)) in
+      let l : length y.1.left < length s.left = many-shorter begins part a y.0 s y.1 b p e v in
+      many-upto u begins part p h y.0 y.1 (omega arith)) in
       let g : many begins part a s ≡ (part b a >>= many begins part) s = many-next begins part a s b p e in
       record {
         go = q.go;

@@ -53,8 +53,8 @@ more-both n m begins part p again a s hn hm None e = more-stop (suc n) begins pa
 more-both n m begins part p again a s hn hm (Some b) e =
     more-step n begins part a s b e
     ∙ after-same (part b a s) (more n begins part) (more m begins part) (λ x k.
-      let l : length x.1.left < length s.left = many-shorter begins part a x.0 s x.1 b p e k in
-      again x.0 x.1 (omega arith) (omega arith))
+    let l : length x.1.left < length s.left = many-shorter begins part a x.0 s x.1 b p e k in
+    again x.0 x.1 (omega arith) (omega arith))
     ∙ sym (more-step m begins part a s b e)
 
 -- the number that bounds the parts doesn't matter
@@ -75,8 +75,8 @@ many-next begins part a s b p e =
     more-any (length s.left) (suc (length s.left)) begins part p a s (omega arith) (omega arith)
     ∙ more-step (length s.left) begins part a s b e
     ∙ after-same (part b a s) (more (length s.left) begins part) (λ c t. more (length t.left) begins part c t) (λ x k.
-      let l : length x.1.left < length s.left = many-shorter begins part a x.0 s x.1 b p e k in
-      more-any (length s.left) (length x.1.left) begins part p x.0 x.1 (omega arith) (omega arith))
+    let l : length x.1.left < length s.left = many-shorter begins part a x.0 s x.1 b p e k in
+    more-any (length s.left) (length x.1.left) begins part p x.0 x.1 (omega arith) (omega arith))
 
 -- a part was read, and the others are still to be read
 pub many-goes : {A B : Type 0} (begins : Token → Option B) (part : B → A → Reading A) (a c : A) (s t : Sight) (b : B) (whole : Result (A × Sight) TextFault) → Parts begins part → begins (stands s) ≡ Some b → part b a s ≡ Ok (c, t) → many begins part a s ≡ whole → many begins part c t ≡ whole
