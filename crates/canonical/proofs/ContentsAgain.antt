@@ -155,7 +155,7 @@ scalars-found j (c ∷ cs) n p h =
       | false ↦ λ e k. (let r = scalars-found (j + 1) cs n p k in let z : j + 1 + r.0 ≡ j + suc r.0 = omega arith in (suc r.0, r.1 ∙ ap place.Scalar z, r.2))
     ] refl h
 
-scalars-agree : (cs : List Scalar) (ns : List LoopNames) → AgreesAll (names_of cs) (labels_in cs ns)
+pub scalars-agree : (cs : List Scalar) (ns : List LoopNames) → AgreesAll (names_of cs) (labels_in cs ns)
 unfolding label
 scalars-agree cs ns lets n p h =
     let r = scalars-found 0 cs n p h in
@@ -170,7 +170,7 @@ length-more : (pre : List LoopNames) (x : LoopNames) → length (pre ++ x ∷ []
 length-more [] x = refl
 length-more (y ∷ pre) x = ap suc (length-more pre x)
 
-named-from : (l : Labels) (pre xs : List LoopNames) → l.loops ≡ pre ++ xs → Named l (length pre) xs
+pub named-from : (l : Labels) (pre xs : List LoopNames) → l.loops ≡ pre ++ xs → Named l (length pre) xs
 named-from l pre [] h = tt
 named-from l pre (x ∷ xs) h =
     (ap (λ (z : List LoopNames). slice_get z (length pre)) h ∙ slice-at pre x xs,

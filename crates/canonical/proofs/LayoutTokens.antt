@@ -1,16 +1,14 @@
 -- Lexing a token from its spelling, where what stands behind it can't be a part of it.
-use Rattle.std.proofs.Common.{◌≡◌, ℕ, zero, suc, ◌+◌, ◌-◌, ◌*◌, ◌/◌, ◌%◌, ◌^◌, ◌<◌, ◌≤◌, List, [], ◌∷◌, ◌++◌, length, take, drop, replicate, refl, sym, ◌∙◌, ap, arith, subst, Option, Some, None, Bool, true, false, cond, ◌==◌, nat_lt, nat_le, pos, append-nil}
-use Rattle.std.specs.Prelude.{not, ◌&&◌, ◌||◌}
+use Rattle.std.proofs.Common.{◌≡◌, ℕ, zero, suc, ◌+◌, ◌-◌, ◌*◌, ◌%◌, ◌^◌, ◌<◌, ◌≤◌, List, [], ◌∷◌, ◌++◌, length, take, drop, replicate, refl, ◌∙◌, ap, arith, subst, None, Bool, true, false, ◌==◌, nat_lt, nat_le, pos}
+use Rattle.std.specs.Prelude.{not, ◌||◌}
 use Rattle.std.specs.List.{prefix_len}
 use Rattle.std.specs.Fmt.{signed_decimal, decimal as decimal_text}
 use Rattle.std.proofs.lemmas.Fmt.{decimal_by_steps}
-use Rattle.std.proofs.lemmas.Bool.{lt-ltb, le-leb, ltb-true, leb-true, eqb-true}
-use Rattle.nest_tokens.specs.declared.token.Mark.{Mark}
-use Rattle.nest_tokens.specs.declared.token.Mark.TheVariants as mark
+use Rattle.std.proofs.lemmas.Bool.{lt-ltb, le-leb, eqb-true}
 use Rattle.nest_tokens.specs.declared.token.Token.{Token}
 use Rattle.nest_tokens.specs.declared.token.Token.TheVariants as token
-use Rattle.nest_tokens.specs.Tokens.{spelling, word_of, sign_at}
-use Rattle.nest_tokens.specs.Lexing.{is_letter, is_digit, is_name_byte, decimal_from, decimal, numbered, name_of, word_or_name, named, Lexed, spelled_by, sign_or_byte, lexed}
+use Rattle.nest_tokens.specs.Tokens.{word_of}
+use Rattle.nest_tokens.specs.Lexing.{is_letter, is_digit, is_name_byte, decimal_from, decimal, numbered, name_of, named, spelled_by, lexed}
 use Rattle.nest_tokens.specs.Division.{Begins, Stops, AllPass}
 use Rattle.canonical.specs.Pieces.{name_text, is_written}
 
@@ -101,8 +99,8 @@ digits : (n : ℕ) → n < 2 ^ 64 → Digits n (decimal_text n)
 digits = decimal_by_steps Digits
     (λ n h. (digit-glyph n h, (digit-glyph n h, tt), omega arith))
     (λ n ds h d. (
-        let l : n % 10 < 10 = omega arith in
-        (begins-append is_digit ds ((48 + n % 10) ∷ []) d.0, all-append is_digit ds ((48 + n % 10) ∷ []) d.1 (digit-glyph (n % 10) l, tt), decimal_from-append 0 ds ((48 + n % 10) ∷ []) ∙ ap (λ (m : ℕ). m * 10 + ((48 + n % 10) - 48)) d.2 ∙ omega arith)))
+    let l : n % 10 < 10 = omega arith in
+    (begins-append is_digit ds ((48 + n % 10) ∷ []) d.0, all-append is_digit ds ((48 + n % 10) ∷ []) d.1 (digit-glyph (n % 10) l, tt), decimal_from-append 0 ds ((48 + n % 10) ∷ []) ∙ ap (λ (m : ℕ). m * 10 + ((48 + n % 10) - 48)) d.2 ∙ omega arith)))
 
 digit-no-letter : (b : ℕ) → is_digit b ≡ true → is_letter b ≡ false
 digit-no-letter b h = grind arith

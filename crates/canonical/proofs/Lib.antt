@@ -15,4 +15,5 @@ pub mod LayoutWritten
 pub mod LoopsAgain
 pub mod ScriptsAgain
 pub mod ContentsAgain
-pub mod Laid
+pub mod Proper
+pub mod ProperFile

@@ -1,29 +1,16 @@
 -- Scripts: the same of candidates, and of whole files.
-use Rattle.std.proofs.Common.{◌≡◌, ℕ, zero, suc, ◌+◌, List, [], ◌∷◌, ◌++◌, length, refl, sym, ◌∙◌, ap, Option, Some, None, Result, Ok, Err, Bool, true, false, cond, subst, nat_lt, ℤ, pos, negsuc, if◌then◌else◌, codes}
+use Rattle.std.proofs.Common.{◌≡◌, ℕ, ◌+◌, List, [], ◌∷◌, ◌++◌, length, refl, sym, ◌∙◌, Option, Some, None, Result, Ok, Err, Bool, true, false, subst, nat_lt, ℤ, pos, if◌then◌else◌, codes}
 use Rattle.std.specs.Prelude.{nat_le, ◌==◌, not, ◌&&◌}
 use Rattle.std.proofs.lemmas.Bool.{eqb-true}
-use Rattle.nest_lang.specs.declared.tree.Place.{Place}
-use Rattle.nest_lang.specs.declared.tree.Place.TheVariants as place
-use Rattle.nest_lang.specs.declared.tree.Expr.{Expr}
-use Rattle.nest_lang.specs.declared.tree.Stmt.{Stmt as Statement}
-use Rattle.nest_lang.specs.declared.tree.Stmt.TheVariants.{Let, Set, Store, If}
-use Rattle.nest_lang.specs.declared.tree.Head.{Head}
-use Rattle.nest_lang.specs.declared.tree.Head.TheVariants as head
-use Rattle.nest_lang.specs.declared.tree.Loop.{Loop as NestLoop}
-use Rattle.nest_lang.specs.declared.tree.Nest.{Nest}
-use Rattle.nest_lang.specs.declared.command.Command.{Command as NestCommand}
 use Rattle.nest_lang.specs.declared.command.Command.TheVariants.{Seq, Swap, Skew, Tile, Par, Wave}
-use Rattle.nest_tokens.specs.declared.token.Name.{Name as TokenName}
 use Rattle.nest_tokens.specs.declared.token.Mark.{Mark}
 use Rattle.nest_tokens.specs.declared.token.Mark.TheVariants as mark
 use Rattle.nest_tokens.specs.declared.token.Token.{Token}
 use Rattle.nest_tokens.specs.declared.token.Token.TheVariants as token
-use Rattle.nest_tokens.specs.declared.token.Spot.{Spot}
 use Rattle.nest_tokens.specs.Tokens.{is_mark}
 use Rattle.nest_tokens.specs.Lexing.{name_of}
 use Rattle.nest_tokens.proofs.Marks.{is_mark-true}
 use Rattle.nest_grammar.specs.declared.fault.TextFault.{TextFault}
-use Rattle.nest_grammar.specs.declared.fault.TextKind.{TextKind}
 use Rattle.nest_grammar.specs.declared.fault.TextKind.TheVariants as kind
 use Rattle.nest_grammar.specs.declared.version.Version.{Version}
 use Rattle.nest_grammar.specs.declared.version.Version.TheVariants.{One, Two as Several}
@@ -32,27 +19,22 @@ use Rattle.nest_grammar.specs.declared.file.Item.{Item as FileItem}
 use Rattle.nest_grammar.specs.declared.file.Item.TheVariants.{Data, Ramp}
 use Rattle.nest_grammar.specs.declared.file.Unit.{Unit as NestUnit}
 use Rattle.nest_grammar.specs.declared.file.File.{File as NestFile}
-use Rattle.nest_grammar.specs.declared.opening.Opening.{Opening}
-use Rattle.nest_grammar.specs.declared.opening.Opening.TheVariants as opening
 use Rattle.nest_grammar.specs.declared.opening.LoopWord.{LoopWord}
-use Rattle.nest_grammar.specs.declared.opening.LoopWord.TheVariants as loop
 use Rattle.nest_grammar.specs.declared.opening.ItemWord.{ItemWord}
 use Rattle.nest_grammar.specs.declared.opening.ItemWord.TheVariants as thing
 use Rattle.nest_grammar.specs.declared.script.CommandWord.{CommandWord}
 use Rattle.nest_grammar.specs.declared.script.CommandWord.TheVariants as order
-use Rattle.nest_grammar.specs.Limits.{most_open, most_lets, most_ifs, most_words, most_scalars, most_nests, most_depth, most_candidates, most_commands, most_rows}
-use Rattle.nest_grammar.specs.Sights.{Sight, stands, Sees, here, first, skip, afresh, opens, numbered, bound, in_block, of_version}
-use Rattle.nest_grammar.specs.Readings.{Reading, after, ◌>>=◌, gives, refused, wrong, skipped, need, obeys, fewer, number_at, number_where, number as a_number, with_sign, minus, signed_where, signed, at_mark, many, end_at, end}
-use Rattle.nest_grammar.specs.Names.{Names, declared, place_of, unless_known, fresh_at, fresh, if_scalar, target, names_of}
-use Rattle.nest_grammar.specs.Expressions.{access, access_number, expression}
-use Rattle.nest_grammar.specs.Statements.{opening_of, local_room, local_number, braced, else_at, else_of, branches, statement, another, listed, statements, with_lets, block_begins, block}
-use Rattle.nest_grammar.specs.Loops.{loop_word, Loops, not_zero, stride_at, stride, heading, inside, Rest, rest_at, rest_of, has_any, body_end, around, loop_of, loop_at, loops}
-use Rattle.nest_grammar.specs.Scripts.{Script, word_spelling, word_of_name, command_word, may_follow, ruled, row, row_but, is_row, is_factor, is_size, marked, row_begins, next_row, rows, operands, command_at, command, next_command, script_at, script, candidate, candidates}
-use Rattle.nest_grammar.specs.Contents.{set_version, version_at, version, scalar, scalars, memory, item_word, value_begins, data_value, next_value, data_values, ramp_fits, item_of, item, items, outermost, unit, next_unit, other_units, units, contents}
-use Rattle.grammar_laws.specs.Phrases.{Production, File, Unit as AUnit, Scalar, Item, Loop, Body, Stmt, Expr as AnExpr, Sum, Term, Unary, Signed, Candidate, Command, Form, Nothing, Sign, Numeral, Number, Name, Verb, Then, Or, Many, The, ◌·◌, ◌∣◌, maybe, rule, Allows, nothing, sign, numeral, number, name, verb, both, one, other, none, the, shown, at_allowed}
-use Rattle.grammar_laws.proofs.Sentences.{Word, Starts, word-then, starts-then, word-starts, starts-as, word-many, word-maybe, word-sign, word-number, starts-sign, starts-number, nothing-then, then-nothing, regroup, one-then, At, Of, at-as, at-then, of-then, at-nothing, of-gives, at-last, Real, at-skipped, at-refused, of-wrong, by-token, by-test, at-obeys, at-access, at-taken, of-need, of-closed, of-many, Judged, of-judged, passed-one}
-use Rattle.grammar_laws.proofs.Viable.{word-expr, word-loop, word-name, word-signed, plain-real, of-number_where, of-signed_where, of-fresh}
-use Rattle.grammar_laws.proofs.Bodies.{both-left, both-right, regroup3, of-loops, starts-loop}
+use Rattle.nest_grammar.specs.Limits.{most_words, most_scalars, most_nests, most_depth, most_candidates, most_commands, most_rows}
+use Rattle.nest_grammar.specs.Sights.{Sight, stands, Sees, skip, of_version}
+use Rattle.nest_grammar.specs.Readings.{Reading, after, ◌>>=◌, gives, refused, wrong, need, obeys, signed, at_mark, many, end_at, end}
+use Rattle.nest_grammar.specs.Names.{Names, names_of}
+use Rattle.nest_grammar.specs.Loops.{loop_word}
+use Rattle.nest_grammar.specs.Scripts.{Script, word_spelling, word_of_name, command_word, may_follow, ruled, is_row, is_factor, is_size, marked, row_begins, next_row, rows, operands, command_at, command, next_command, script_at, script, candidate, candidates}
+use Rattle.nest_grammar.specs.Contents.{set_version, version_at, version, scalar, scalars, memory, item_word, value_begins, data_value, next_value, data_values, ramp_fits, item_of, item, items, outermost, unit, next_unit, units, contents}
+use Rattle.grammar_laws.specs.Phrases.{File, Unit as AUnit, Scalar, Item, Loop, Signed, Candidate, Command, Form, Nothing, Sign, Numeral, Number, Verb, Many, The, ◌·◌, ◌∣◌, maybe, rule, Allows, nothing, sign, numeral, number, verb, both, one, other, the}
+use Rattle.grammar_laws.proofs.Sentences.{Word, Starts, word-then, starts-then, word-many, word-maybe, word-sign, word-number, starts-sign, starts-number, regroup, At, Of, at-as, at-then, of-then, of-gives, at-last, Real, at-skipped, of-wrong, by-token, by-test, at-obeys, of-need, of-many, Judged, of-judged, passed-one}
+use Rattle.grammar_laws.proofs.Viable.{word-loop, word-name, word-signed, plain-real, of-number_where, of-signed_where, of-fresh}
+use Rattle.grammar_laws.proofs.Bodies.{both-left, of-loops, starts-loop}
 
 -- Commands
 

@@ -1,5 +1,5 @@
 -- Late: what stands before the fault of a text begins a sentence of the grammar.
-use Rattle.std.proofs.Common.{◌≡◌, ℕ, zero, suc, ◌+◌, ◌<◌, ◌≤◌, List, [], ◌∷◌, ◌++◌, length, refl, sym, ◌∙◌, ap, Result, Ok, Err, Bool, true, false, cond, subst, append_assoc, append-nil}
+use Rattle.std.proofs.Common.{◌≡◌, ℕ, List, [], ◌∷◌, ◌++◌, length, refl, sym, ◌∙◌, ap, Result, Ok, Err, true, false, cond, subst, append_assoc, append-nil}
 use Rattle.std.specs.Prelude.{nat_le}
 use Rattle.nest_tokens.specs.declared.token.Token.{Token}
 use Rattle.nest_tokens.specs.declared.token.Token.TheVariants as token
@@ -11,13 +11,12 @@ use Rattle.nest_grammar.specs.declared.file.File.{File as NestFile}
 use Rattle.nest_grammar.specs.Limits.{most_bytes}
 use Rattle.nest_grammar.specs.Sights.{Sight, stands, here, first, start}
 use Rattle.nest_grammar.specs.Names.{names_of}
-use Rattle.nest_grammar.specs.Readings.{Reading, after, ◌>>=◌, gives, refused, wrong, end_at, end}
+use Rattle.nest_grammar.specs.Readings.{after, gives, refused, end_at, end}
 use Rattle.nest_grammar.specs.Contents.{version, scalars, memory, items, units, contents, file_of, too_long, reading}
 use Rattle.nest_grammar.proofs.Many.{bind_ok}
-use Rattle.grammar_laws.specs.Beginnings.{with_end}
-use Rattle.grammar_laws.specs.Phrases.{File, The, Allows, shown, Begins, at_allowed, FaultInSentence, FaultNotTooLate, ReadTextIsSentence}
+use Rattle.grammar_laws.specs.Phrases.{File, The, Allows, shown, Begins, FaultInSentence, FaultNotTooLate, ReadTextIsSentence}
 use Rattle.grammar_laws.proofs.Early.{AllReal, real-tokens, real-at, end_of}
-use Rattle.grammar_laws.proofs.Sentences.{AllowedAt, Passed, Stopped, Judged, At}
+use Rattle.grammar_laws.proofs.Sentences.{AllowedAt, Passed, Stopped, Judged}
 use Rattle.grammar_laws.proofs.Files.{of-contents}
 
 begins-with : (before : List Token) (t : Token) (fill : List Token) → Allows (The File) (before ++ t ∷ fill) → Begins (The File) (before ++ t ∷ [])

@@ -1,9 +1,7 @@
 -- Sentences: how a reading at a sight stands to a form of the grammar, and how this goes on from one reading
 -- to the next.
-use Rattle.std.proofs.Common.{◌≡◌, ℕ, zero, suc, ◌+◌, ◌<◌, List, [], ◌∷◌, ◌++◌, length, refl, sym, ◌∙◌, ap, Option, Some, None, Result, Ok, Err, Bool, true, false, cond, subst, append_assoc, append-nil, nat_lt, ℤ, pos, if◌then◌else◌}
-use Rattle.nest_tokens.specs.declared.token.Name.{Name as TokenName}
+use Rattle.std.proofs.Common.{◌≡◌, ℕ, zero, suc, List, [], ◌∷◌, ◌++◌, length, refl, sym, ◌∙◌, ap, Option, Some, None, Result, Ok, Err, Bool, true, false, cond, subst, append_assoc, append-nil, nat_lt, ℤ, pos, if◌then◌else◌}
 use Rattle.nest_tokens.specs.declared.token.Mark.{Mark}
-use Rattle.nest_tokens.specs.declared.token.Mark.TheVariants as mark
 use Rattle.nest_tokens.specs.declared.token.Token.{Token}
 use Rattle.nest_tokens.specs.declared.token.Token.TheVariants as token
 use Rattle.nest_tokens.specs.declared.token.BadToken.TheVariants as bad
@@ -17,7 +15,7 @@ use Rattle.nest_grammar.specs.Limits.{most_tokens, most_accesses}
 use Rattle.nest_grammar.specs.Sights.{Sight, stands, here, first, rest, skip, spend, opens}
 use Rattle.nest_grammar.specs.Readings.{Reading, after, ◌>>=◌, gives, refused, wrong, unexpected, skipped, need, obeys, more_at, more, many}
 use Rattle.nest_grammar.specs.Expressions.{taken, closed, access}
-use Rattle.grammar_laws.specs.Phrases.{Production, Form, Nothing, Sign, Numeral, Number, Name, Then, Or, Many, The, ◌·◌, ◌∣◌, maybe, rule, Allows, nothing, sign, number, both, one, other, none, more as again, the, shown, at_allowed}
+use Rattle.grammar_laws.specs.Phrases.{Form, Nothing, Sign, Number, Many, ◌·◌, ◌∣◌, maybe, Allows, nothing, sign, number, both, one, other, none, more as again, shown, at_allowed}
 
 -- Words
 

@@ -1,6 +1,6 @@
 -- Phrases: the productions of the grammar by themselves, as they are written, with no rule on names,
 -- numbers or how many; which lists of tokens they allow; and how the reading of a text stands to them.
-use Rattle.std.specs.Prelude.{◌≡◌, ℕ, ℤ, pos, List, [], ◌∷◌, ◌++◌, Some, Result, Ok, Err, Bool, true, false}
+use Rattle.std.specs.Prelude.{◌≡◌, ℕ, ℤ, pos, List, [], ◌∷◌, ◌++◌, Some, Ok, Err, Bool, true, false}
 use Rattle.nest_tokens.specs.declared.token.Name.{Name as TokenName}
 use Rattle.nest_tokens.specs.declared.token.Mark.{Mark}
 use Rattle.nest_tokens.specs.declared.token.Mark.TheVariants as mark
