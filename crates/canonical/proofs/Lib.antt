@@ -11,3 +11,6 @@ pub mod LoopsAgain
 pub mod ScriptsAgain
 pub mod ContentsAgain
 pub mod Laid
+pub mod Sources
+pub mod FineExpressions
+pub mod FineStatements

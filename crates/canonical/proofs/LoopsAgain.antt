@@ -146,12 +146,12 @@ abbrev pub Named : Labels → ℕ → List LoopNames → Type 0
 Named l level [] = Unit {0}
 Named l level (x ∷ xs) = (slice_get l.loops level ≡ Some x) × Named l (suc level) xs
 
-labelled : (l : Labels) (level : ℕ) (lets : List Name) (x : LoopNames) (n : Option Name) → slice_get l.loops level ≡ Some x → x.counter ≡ n → Labelled (with_lets l lets) level n
+pub labelled : (l : Labels) (level : ℕ) (lets : List Name) (x : LoopNames) (n : Option Name) → slice_get l.loops level ≡ Some x → x.counter ≡ n → Labelled (with_lets l lets) level n
 unfolding label
 labelled l level lets x None h k = tt
 labelled l level lets x (Some n) h k = rw (h, k) refl
 
-agrees-inside : (l : Labels) (level : ℕ) (names : Names) (n : Option Name) → AgreesAll names l → ((lets : List Name) → Labelled (with_lets l lets) level n) → AgreesAll (inside names level n) l
+pub agrees-inside : (l : Labels) (level : ℕ) (names : Names) (n : Option Name) → AgreesAll names l → ((lets : List Name) → Labelled (with_lets l lets) level n) → AgreesAll (inside names level n) l
 agrees-inside l level names None agree lab lets = agree lets
 agrees-inside l level names (Some n) agree lab lets = agrees-more names (declared n (place.Counter level)) (with_lets l lets) (agree lets) (lab lets)
 

@@ -52,7 +52,7 @@ lets-kept names (addition i k r j) = lets-kept names j ∙ lets-kept names i
 lets-kept names (side i) = lets-kept names i
 lets-kept names (comparison i k r j) = lets-kept names j ∙ lets-kept names i
 
-extends-by : (xs ys : List Name) → ys ≡ xs → Extends xs ys
+pub extends-by : (xs ys : List Name) → ys ≡ xs → Extends xs ys
 extends-by xs ys h = ([], h ∙ sym (append-nil xs))
 
 mutual
@@ -75,7 +75,7 @@ slice-last : (xs k : List Name) (n : Name) → slice_get ((xs ++ n ∷ []) ++ k)
 slice-last [] k n = refl
 slice-last (x ∷ xs) k n = slice-last xs k n
 
-local-label : (l : Labels) (xs : List Name) (n : Name) → Extends (xs ++ n ∷ []) l.lets → label l (place.Local (length xs)) ≡ n
+pub local-label : (l : Labels) (xs : List Name) (n : Name) → Extends (xs ++ n ∷ []) l.lets → label l (place.Local (length xs)) ≡ n
 unfolding label
 local-label l xs n h = rw h.1 (ap name_or_none (slice-last xs h.0 n))
 
