@@ -71,7 +71,7 @@ unfolding skip
 scalars-kept scalars_none = refl
 scalars-kept (scalars_more {cs} {n} {v} {s} {t} {u} i k len h f g j) = signed-kept (skip (skip (skip t))) v u j ∙ scalars-kept i
 
-values-last : (vs : List ℤ) (v : ℤ) → 0 < length vs → value_list (vs ++ v ∷ []) ≡ value_list vs ++ next_value v
+pub values-last : (vs : List ℤ) (v : ℤ) → 0 < length vs → value_list (vs ++ v ∷ []) ≡ value_list vs ++ next_value v
 unfolding value_list
 values-last [] v h = absurd (omega arith)
 values-last (x ∷ vs) v h = ap (λ (l : List Piece). signed_operand x ++ l) (flat_map-last next_value vs v) ∙ sym (append_assoc (signed_operand x) (flat_map next_value vs) (next_value v))
@@ -80,7 +80,7 @@ length-last : (vs : List ℤ) (v : ℤ) → 0 < length (vs ++ v ∷ [])
 length-last [] v = omega arith
 length-last (x ∷ vs) v = omega arith
 
-values-some : (words fst : ℕ) {s : Sight} {vs : List ℤ} {t : Sight} → IsValues words fst s vs t → 0 < length vs
+pub values-some : (words fst : ℕ) {s : Sight} {vs : List ℤ} {t : Sight} → IsValues words fst s vs t → 0 < length vs
 values-some words fst (values_one h i) = omega arith
 values-some words fst (values_more {vs} {v} i k h j) = length-last vs v
 
@@ -155,7 +155,7 @@ scalars-found j (c ∷ cs) n p h =
       | false ↦ λ e k. (let r = scalars-found (j + 1) cs n p k in let z : j + 1 + r.0 ≡ j + suc r.0 = omega arith in (suc r.0, r.1 ∙ ap place.Scalar z, r.2))
     ] refl h
 
-scalars-agree : (cs : List Scalar) (ns : List LoopNames) → AgreesAll (names_of cs) (labels_in cs ns)
+pub scalars-agree : (cs : List Scalar) (ns : List LoopNames) → AgreesAll (names_of cs) (labels_in cs ns)
 unfolding label
 scalars-agree cs ns lets n p h =
     let r = scalars-found 0 cs n p h in
@@ -170,7 +170,7 @@ length-more : (pre : List LoopNames) (x : LoopNames) → length (pre ++ x ∷ []
 length-more [] x = refl
 length-more (y ∷ pre) x = ap suc (length-more pre x)
 
-named-from : (l : Labels) (pre xs : List LoopNames) → l.loops ≡ pre ++ xs → Named l (length pre) xs
+pub named-from : (l : Labels) (pre xs : List LoopNames) → l.loops ≡ pre ++ xs → Named l (length pre) xs
 named-from l pre [] h = tt
 named-from l pre (x ∷ xs) h =
     (ap (λ (z : List LoopNames). slice_get z (length pre)) h ∙ slice-at pre x xs,

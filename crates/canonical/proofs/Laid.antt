@@ -101,11 +101,11 @@ loose-digits : (text : List ℕ) → Loose text → Stops is_digit text
 loose-digits [] h = tt
 loose-digits (b ∷ bs) h = grind arith
 
-abbrev passes : (ℕ → Bool) → List ℕ → Bool
+abbrev pub passes : (ℕ → Bool) → List ℕ → Bool
 passes p [] = true
 passes p (b ∷ bs) = p b && passes p bs
 
-passes-all : (p : ℕ → Bool) (s : List ℕ) → passes p s ≡ true → AllPass p s
+pub passes-all : (p : ℕ → Bool) (s : List ℕ) → passes p s ≡ true → AllPass p s
 passes-all p [] h = tt
 passes-all p (b ∷ bs) h = elim (p b) as (λ t. p b ≡ t → (t && passes p bs) ≡ true → AllPass p (b ∷ bs)) [ true ↦ λ e k. (e, passes-all p bs k) | false ↦ λ e k. absurd (cc) ] refl h
 

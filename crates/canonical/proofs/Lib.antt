@@ -14,3 +14,4 @@ pub mod Laid
 pub mod Sources
 pub mod FineExpressions
 pub mod FineStatements
+pub mod FineContents
