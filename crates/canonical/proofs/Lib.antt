@@ -10,8 +10,3 @@ pub mod StatementsAgain
 pub mod LoopsAgain
 pub mod ScriptsAgain
 pub mod ContentsAgain
-pub mod Laid
-pub mod Sources
-pub mod FineExpressions
-pub mod FineStatements
-pub mod FineContents
