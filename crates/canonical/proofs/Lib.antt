@@ -7,6 +7,13 @@ pub mod Items
 pub mod Walking
 pub mod Round
 pub mod StatementsAgain
+pub mod LayoutTokens
+pub mod LayoutMarks
+pub mod LayoutPieces
+pub mod LayoutFile
+pub mod LayoutWritten
 pub mod LoopsAgain
 pub mod ScriptsAgain
 pub mod ContentsAgain
+pub mod Proper
+pub mod ProperFile

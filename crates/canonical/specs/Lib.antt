@@ -7,3 +7,4 @@ pub mod Statements
 pub mod Loops
 pub mod Scripts
 pub mod Contents
+pub mod Layout

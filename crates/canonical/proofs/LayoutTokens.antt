@@ -1,0 +1,134 @@
+-- Lexing a token from its spelling, where what stands behind it can't be a part of it.
+use Rattle.std.proofs.Common.{◌≡◌, ℕ, zero, suc, ◌+◌, ◌-◌, ◌*◌, ◌/◌, ◌%◌, ◌^◌, ◌<◌, ◌≤◌, List, [], ◌∷◌, ◌++◌, length, take, drop, replicate, refl, sym, ◌∙◌, ap, arith, subst, Option, Some, None, Bool, true, false, cond, ◌==◌, nat_lt, nat_le, pos, append-nil}
+use Rattle.std.specs.Prelude.{not, ◌&&◌, ◌||◌}
+use Rattle.std.specs.List.{prefix_len}
+use Rattle.std.specs.Fmt.{signed_decimal, decimal as decimal_text}
+use Rattle.std.proofs.lemmas.Fmt.{decimal_by_steps}
+use Rattle.std.proofs.lemmas.Bool.{lt-ltb, le-leb, ltb-true, leb-true, eqb-true}
+use Rattle.nest_tokens.specs.declared.token.Mark.{Mark}
+use Rattle.nest_tokens.specs.declared.token.Mark.TheVariants as mark
+use Rattle.nest_tokens.specs.declared.token.Token.{Token}
+use Rattle.nest_tokens.specs.declared.token.Token.TheVariants as token
+use Rattle.nest_tokens.specs.Tokens.{spelling, word_of, sign_at}
+use Rattle.nest_tokens.specs.Lexing.{is_letter, is_digit, is_name_byte, decimal_from, decimal, numbered, name_of, word_or_name, named, Lexed, spelled_by, sign_or_byte, lexed}
+use Rattle.nest_tokens.specs.Division.{Begins, Stops, AllPass}
+use Rattle.canonical.specs.Pieces.{name_text, is_written}
+
+-- Runs
+
+run-len : (p : ℕ → Bool) (s bs : List ℕ) → AllPass p s → Stops p bs → prefix_len p (s ++ bs) ≡ length s
+run-len p [] [] a h = refl
+run-len p [] (b ∷ bs) a h = rw h refl
+run-len p (c ∷ cs) bs a h = rw (a.0) (ap (λ (n : ℕ). 1 + n) (run-len p cs bs a.1 h) ∙ omega arith)
+
+take-front : (s bs : List ℕ) → take (length s) (s ++ bs) ≡ s
+take-front [] bs = refl
+take-front (c ∷ cs) bs = ap (λ (l : List ℕ). c ∷ l) (take-front cs bs)
+
+pub drop-front : (s bs : List ℕ) → drop (length s) (s ++ bs) ≡ bs
+drop-front [] bs = refl
+drop-front (c ∷ cs) bs = drop-front cs bs
+
+-- Names and reserved words
+
+lexed-letter : (c : ℕ) (l : List ℕ) → is_letter c ≡ true → lexed (c ∷ l) ≡ spelled_by (c ∷ l) (prefix_len is_name_byte (c ∷ l)) named
+unfolding lexed
+lexed-letter c l h = rw h refl
+
+lexed-digit : (c : ℕ) (l : List ℕ) → is_letter c ≡ false → is_digit c ≡ true → lexed (c ∷ l) ≡ spelled_by (c ∷ l) (prefix_len is_digit (c ∷ l)) numbered
+unfolding lexed
+lexed-digit c l h k = rw (h, k) refl
+
+pub lexed-run : (s bs : List ℕ) → Begins is_letter s → AllPass is_name_byte s → Stops is_name_byte bs → lexed (s ++ bs) ≡ record { token = named s; len = length s }
+lexed-run [] bs b a h = absurd b
+lexed-run (c ∷ cs) bs b a h =
+    let n : prefix_len is_name_byte ((c ∷ cs) ++ bs) ≡ length (c ∷ cs) = run-len is_name_byte (c ∷ cs) bs a h in
+    lexed-letter c (cs ++ bs) b ∙ (ap (λ (k : ℕ). spelled_by ((c ∷ cs) ++ bs) k named) n ∙ ap (λ (l : List ℕ). record { token = named l; len = length (c ∷ cs) }) (take-front (c ∷ cs) bs))
+
+named-name : (s : List ℕ) → length s ≤ 32 → word_of s ≡ None → named s ≡ token.Name (name_of s)
+unfolding named
+named-name s h w = let t : nat_lt 32 (length s) ≡ false = not-less 32 (length s) h in rw (t, w) refl
+  where
+    not-less : (a b : ℕ) → b ≤ a → nat_lt a b ≡ false
+    not-less a b h = grind arith
+
+pub lexed-name : (s bs : List ℕ) → length s ≤ 32 → Begins is_letter s → AllPass is_name_byte s → word_of s ≡ None → Stops is_name_byte bs → lexed (s ++ bs) ≡ record { token = token.Name (name_of s); len = length s }
+lexed-name s bs h b a w k = lexed-run s bs b a k ∙ ap (λ (t : Token). record { token = t; len = length s }) (named-name s h w)
+
+-- all of a name but its zeros is written
+written : (c : ℕ) → is_name_byte c ≡ true → is_written c ≡ true
+written c h = elim (c == 0) as (λ t. (c == 0) ≡ t → not t ≡ true) [
+  | true ↦ λ e. absurd (let z : c ≡ 0 = eqb-true c 0 e in let k : is_name_byte 0 ≡ true = subst (λ (b : ℕ). is_name_byte b ≡ true) z h in cc)
+  | false ↦ λ e. refl
+] refl
+
+all-written : (s : List ℕ) → AllPass is_name_byte s → AllPass is_written s
+all-written [] a = tt
+all-written (c ∷ cs) a = (written c a.0, all-written cs a.1)
+
+zeros-stop : (n : ℕ) → Stops is_written (replicate n 0)
+zeros-stop zero = tt
+zeros-stop (suc n) = refl
+
+pub text-name : (s : List ℕ) → AllPass is_name_byte s → name_text (name_of s) ≡ s
+unfolding name_text
+text-name s a =
+    let n : prefix_len is_written (s ++ replicate (32 - length s) 0) ≡ length s = run-len is_written s (replicate (32 - length s) 0) (all-written s a) (zeros-stop (32 - length s)) in
+    rw n (take-front s (replicate (32 - length s) 0))
+
+-- Numbers
+
+decimal_from-append : (n : ℕ) (ds es : List ℕ) → decimal_from n (ds ++ es) ≡ decimal_from (decimal_from n ds) es
+decimal_from-append n [] es = refl
+decimal_from-append n (d ∷ ds) es = decimal_from-append (n * 10 + (d - 48)) ds es
+
+all-append : (p : ℕ → Bool) (xs ys : List ℕ) → AllPass p xs → AllPass p ys → AllPass p (xs ++ ys)
+all-append p [] ys a b = b
+all-append p (x ∷ xs) ys a b = (a.0, all-append p xs ys a.1 b)
+
+begins-append : (p : ℕ → Bool) (xs ys : List ℕ) → Begins p xs → Begins p (xs ++ ys)
+begins-append p [] ys h = absurd h
+begins-append p (x ∷ xs) ys h = h
+
+digit-glyph : (n : ℕ) → n < 10 → is_digit (48 + n) ≡ true
+digit-glyph n h = let a : nat_le 48 (48 + n) ≡ true = le-leb 48 (48 + n) (omega arith) in let b : nat_le (48 + n) 57 ≡ true = le-leb (48 + n) 57 (omega arith) in rw (a, b) refl
+
+-- how a number is written
+abbrev Digits : ℕ → List ℕ → Type 0
+Digits n ds = Begins is_digit ds × AllPass is_digit ds × (decimal_from 0 ds ≡ n)
+
+digits : (n : ℕ) → n < 2 ^ 64 → Digits n (decimal_text n)
+digits = decimal_by_steps Digits
+    (λ n h. (digit-glyph n h, (digit-glyph n h, tt), omega arith))
+    (λ n ds h d. (
+        let l : n % 10 < 10 = omega arith in
+        (begins-append is_digit ds ((48 + n % 10) ∷ []) d.0, all-append is_digit ds ((48 + n % 10) ∷ []) d.1 (digit-glyph (n % 10) l, tt), decimal_from-append 0 ds ((48 + n % 10) ∷ []) ∙ ap (λ (m : ℕ). m * 10 + ((48 + n % 10) - 48)) d.2 ∙ omega arith)))
+
+digit-no-letter : (b : ℕ) → is_digit b ≡ true → is_letter b ≡ false
+digit-no-letter b h = grind arith
+
+lexed-digits : (s bs : List ℕ) → Begins is_digit s → AllPass is_digit s → Stops is_digit bs → lexed (s ++ bs) ≡ record { token = numbered s; len = length s }
+lexed-digits [] bs b a h = absurd b
+lexed-digits (c ∷ cs) bs b a h =
+    let n : prefix_len is_digit ((c ∷ cs) ++ bs) ≡ length (c ∷ cs) = run-len is_digit (c ∷ cs) bs a h in
+    let l : is_letter c ≡ false = digit-no-letter c b in
+    lexed-digit c (cs ++ bs) l b ∙ (ap (λ (k : ℕ). spelled_by ((c ∷ cs) ++ bs) k numbered) n ∙ ap (λ (l : List ℕ). record { token = numbered l; len = length (c ∷ cs) }) (take-front (c ∷ cs) bs))
+
+no-name-no-digit : (bs : List ℕ) → Stops is_name_byte bs → Stops is_digit bs
+no-name-no-digit [] h = tt
+no-name-no-digit (b ∷ bs) h = no-digit b h
+  where
+    no-digit : (b : ℕ) → is_name_byte b ≡ false → is_digit b ≡ false
+    no-digit b h = elim (is_digit b) as (λ t. (is_letter b || t) ≡ false → t ≡ false) [ true ↦ λ k. elim (is_letter b) as (λ u. (u || true) ≡ false → true ≡ false) [ true ↦ λ j. j | false ↦ λ j. j ] k | false ↦ λ k. refl ] h
+
+numbered-is : (n : ℕ) → n < 2 ^ 63 → (ds : List ℕ) → decimal_from 0 ds ≡ n → numbered ds ≡ token.Number (pos n)
+unfolding numbered decimal
+numbered-is n h ds e = let t : nat_lt n (2 ^ 63) ≡ true = lt-ltb n (2 ^ 63) h in rw (e, t) refl
+
+pub lexed-number : (n : ℕ) (bs : List ℕ) → n < 2 ^ 63 → Stops is_name_byte bs → lexed (signed_decimal (pos n) ++ bs) ≡ record { token = token.Number (pos n); len = length (signed_decimal (pos n)) }
+lexed-number n bs h k =
+    let d : Digits n (decimal_text n) = digits n (omega arith) in
+    lexed-digits (decimal_text n) bs d.0 d.1 (no-name-no-digit bs k) ∙ ap (λ (t : Token). record { token = t; len = length (decimal_text n) }) (numbered-is n h (decimal_text n) d.2)
+
+pub number-begins : (n : ℕ) → n < 2 ^ 63 → Begins is_digit (signed_decimal (pos n))
+number-begins n h = (digits n (omega arith)).0

@@ -1,0 +1,310 @@
+-- Scripts: the same of candidates, and of whole files.
+use Rattle.std.proofs.Common.{◌≡◌, ℕ, zero, suc, ◌+◌, List, [], ◌∷◌, ◌++◌, length, refl, sym, ◌∙◌, ap, Option, Some, None, Result, Ok, Err, Bool, true, false, cond, subst, nat_lt, ℤ, pos, negsuc, if◌then◌else◌, codes}
+use Rattle.std.specs.Prelude.{nat_le, ◌==◌, not, ◌&&◌}
+use Rattle.std.proofs.lemmas.Bool.{eqb-true}
+use Rattle.nest_lang.specs.declared.tree.Place.{Place}
+use Rattle.nest_lang.specs.declared.tree.Place.TheVariants as place
+use Rattle.nest_lang.specs.declared.tree.Expr.{Expr}
+use Rattle.nest_lang.specs.declared.tree.Stmt.{Stmt as Statement}
+use Rattle.nest_lang.specs.declared.tree.Stmt.TheVariants.{Let, Set, Store, If}
+use Rattle.nest_lang.specs.declared.tree.Head.{Head}
+use Rattle.nest_lang.specs.declared.tree.Head.TheVariants as head
+use Rattle.nest_lang.specs.declared.tree.Loop.{Loop as NestLoop}
+use Rattle.nest_lang.specs.declared.tree.Nest.{Nest}
+use Rattle.nest_lang.specs.declared.command.Command.{Command as NestCommand}
+use Rattle.nest_lang.specs.declared.command.Command.TheVariants.{Seq, Swap, Skew, Tile, Par, Wave}
+use Rattle.nest_tokens.specs.declared.token.Name.{Name as TokenName}
+use Rattle.nest_tokens.specs.declared.token.Mark.{Mark}
+use Rattle.nest_tokens.specs.declared.token.Mark.TheVariants as mark
+use Rattle.nest_tokens.specs.declared.token.Token.{Token}
+use Rattle.nest_tokens.specs.declared.token.Token.TheVariants as token
+use Rattle.nest_tokens.specs.declared.token.Spot.{Spot}
+use Rattle.nest_tokens.specs.Tokens.{is_mark}
+use Rattle.nest_tokens.specs.Lexing.{name_of}
+use Rattle.nest_tokens.proofs.Marks.{is_mark-true}
+use Rattle.nest_grammar.specs.declared.fault.TextFault.{TextFault}
+use Rattle.nest_grammar.specs.declared.fault.TextKind.{TextKind}
+use Rattle.nest_grammar.specs.declared.fault.TextKind.TheVariants as kind
+use Rattle.nest_grammar.specs.declared.version.Version.{Version}
+use Rattle.nest_grammar.specs.declared.version.Version.TheVariants.{One, Two as Several}
+use Rattle.nest_grammar.specs.declared.file.Scalar.{Scalar as FileScalar}
+use Rattle.nest_grammar.specs.declared.file.Item.{Item as FileItem}
+use Rattle.nest_grammar.specs.declared.file.Item.TheVariants.{Data, Ramp}
+use Rattle.nest_grammar.specs.declared.file.Unit.{Unit as NestUnit}
+use Rattle.nest_grammar.specs.declared.file.File.{File as NestFile}
+use Rattle.nest_grammar.specs.declared.opening.Opening.{Opening}
+use Rattle.nest_grammar.specs.declared.opening.Opening.TheVariants as opening
+use Rattle.nest_grammar.specs.declared.opening.LoopWord.{LoopWord}
+use Rattle.nest_grammar.specs.declared.opening.LoopWord.TheVariants as loop
+use Rattle.nest_grammar.specs.declared.opening.ItemWord.{ItemWord}
+use Rattle.nest_grammar.specs.declared.opening.ItemWord.TheVariants as thing
+use Rattle.nest_grammar.specs.declared.script.CommandWord.{CommandWord}
+use Rattle.nest_grammar.specs.declared.script.CommandWord.TheVariants as order
+use Rattle.nest_grammar.specs.Limits.{most_open, most_lets, most_ifs, most_words, most_scalars, most_nests, most_depth, most_candidates, most_commands, most_rows}
+use Rattle.nest_grammar.specs.Sights.{Sight, stands, Sees, here, first, skip, afresh, opens, numbered, bound, in_block, of_version}
+use Rattle.nest_grammar.specs.Readings.{Reading, after, ◌>>=◌, gives, refused, wrong, skipped, need, obeys, fewer, number_at, number_where, number as a_number, with_sign, minus, signed_where, signed, at_mark, many, end_at, end}
+use Rattle.nest_grammar.specs.Names.{Names, declared, place_of, unless_known, fresh_at, fresh, if_scalar, target, names_of}
+use Rattle.nest_grammar.specs.Expressions.{access, access_number, expression}
+use Rattle.nest_grammar.specs.Statements.{opening_of, local_room, local_number, braced, else_at, else_of, branches, statement, another, listed, statements, with_lets, block_begins, block}
+use Rattle.nest_grammar.specs.Loops.{loop_word, Loops, not_zero, stride_at, stride, heading, inside, Rest, rest_at, rest_of, has_any, body_end, around, loop_of, loop_at, loops}
+use Rattle.nest_grammar.specs.Scripts.{Script, word_spelling, word_of_name, command_word, may_follow, ruled, row, row_but, is_row, is_factor, is_size, marked, row_begins, next_row, rows, operands, command_at, command, next_command, script_at, script, candidate, candidates}
+use Rattle.nest_grammar.specs.Contents.{set_version, version_at, version, scalar, scalars, memory, item_word, value_begins, data_value, next_value, data_values, ramp_fits, item_of, item, items, outermost, unit, next_unit, other_units, units, contents}
+use Rattle.grammar_laws.specs.Phrases.{Production, File, Unit as AUnit, Scalar, Item, Loop, Body, Stmt, Expr as AnExpr, Sum, Term, Unary, Signed, Candidate, Command, Form, Nothing, Sign, Numeral, Number, Name, Verb, Then, Or, Many, The, ◌·◌, ◌∣◌, maybe, rule, Allows, nothing, sign, numeral, number, name, verb, both, one, other, none, the, shown, at_allowed}
+use Rattle.grammar_laws.proofs.Sentences.{Word, Starts, word-then, starts-then, word-starts, starts-as, word-many, word-maybe, word-sign, word-number, starts-sign, starts-number, nothing-then, then-nothing, regroup, one-then, At, Of, at-as, at-then, of-then, at-nothing, of-gives, at-last, Real, at-skipped, at-refused, of-wrong, by-token, by-test, at-obeys, at-access, at-taken, of-need, of-closed, of-many, Judged, of-judged, passed-one}
+use Rattle.grammar_laws.proofs.Viable.{word-expr, word-loop, word-name, word-signed, plain-real, of-number_where, of-signed_where, of-fresh}
+use Rattle.grammar_laws.proofs.Bodies.{both-left, both-right, regroup3, of-loops, starts-loop}
+
+-- Commands
+
+-- what stands behind a command's word
+abbrev Operands : CommandWord → Form
+Operands order.Seq = Number
+Operands order.Swap = Number · Number
+Operands order.Skew = Number · Number · The Signed
+Operands order.Tile = Number · Number
+Operands order.Par = Number · Many Number
+Operands order.Wave = Number · Many Number
+
+word-operands : (w : CommandWord) → Word (Operands w)
+word-operands order.Seq = word-number
+word-operands order.Swap = word-then word-number word-number
+word-operands order.Skew = word-then word-number (word-then word-number word-signed)
+word-operands order.Tile = word-then word-number word-number
+word-operands order.Par = word-then word-number word-many
+word-operands order.Wave = word-then word-number word-many
+
+command-is : (w : CommandWord) (ts : List Token) → Allows (Verb w · Operands w) ts → Allows (The Command) ts
+command-is order.Seq ts v = the (one v)
+command-is order.Swap ts v = the (other (one v))
+command-is order.Skew ts v = the (other (other (one v)))
+command-is order.Tile ts v = the (other (other (other (one v))))
+command-is order.Par ts v = the (other (other (other (other (one v)))))
+command-is order.Wave ts v = the (other (other (other (other (other v)))))
+
+word-command : Word (The Command)
+unfolding command_word word_of_name word_spelling
+word-command =
+    let t : Token = token.Name (name_of (codes "seq")) in
+    let q : command_word t ≡ Some order.Seq = refl in
+    (t ∷ token.Number (pos 0) ∷ [], the (one (both (verb q) number)))
+
+of-ruled : (rule : ℕ → Bool) → Of Number (ruled rule)
+of-ruled rule = of-number_where rule kind.Script
+
+number-real : (n : ℤ) → Real (token.Number n)
+number-real n k = cc
+
+at-next_row : (depth : ℕ) (u : Unit {0}) (ns : List ℕ) (s : Sight) (t : Token) → stands s ≡ t → row_begins t ≡ Some u → At Number (next_row depth u ns) s
+unfolding row_begins
+at-next_row depth u ns s (token.Number n) h k = at-obeys _ (nat_lt (length ns) most_rows) kind.Script (token.Number n) h (number-real n) starts-number (at-last (of-ruled (is_row depth) s) (λ m. of-gives (ns ++ m ∷ [])))
+at-next_row depth u ns s _ h k = absurd (cc)
+
+of-rows : (depth : ℕ) → Of (Number · Many Number) (rows depth)
+unfolding rows
+of-rows depth s = of-then (of-ruled (is_row depth) s) word-many (λ n. of-many row_begins (next_row depth) (λ u ns t k. at-next_row depth u ns t (stands t) refl k) (n ∷ []))
+
+of-operands : (depth : ℕ) (w : CommandWord) → Of (Operands w) (operands depth w)
+unfolding operands
+of-operands depth order.Seq s = at-last (of-ruled (λ n. nat_le n depth) s) (λ n. of-gives (Seq n))
+of-operands depth order.Swap s = of-then (of-ruled (is_row depth) s) word-number (λ a t. at-last (of-ruled (λ n. is_row depth n && not (n == a)) t) (λ b. of-gives (Swap a b)))
+of-operands depth order.Skew s = of-then (of-ruled (is_row depth) s) (word-then word-number word-signed) (λ a t. of-then (of-ruled (λ n. is_row depth n && not (n == a)) t) word-signed (λ b u. at-last (of-signed_where is_factor kind.Script u) (λ m. of-gives (Skew a b m))))
+of-operands depth order.Tile s = of-then (of-ruled (is_row depth) s) word-number (λ a t. at-last (of-ruled is_size t) (λ n. of-gives (Tile a (pos n))))
+of-operands depth order.Par s = at-last (of-rows depth s) (λ ns. of-gives (Par (marked ns)))
+of-operands depth order.Wave s = at-last (of-rows depth s) (λ ns. of-gives (Wave (marked ns)))
+
+verb-real : (t : Token) (w : CommandWord) → command_word t ≡ Some w → Real t
+unfolding command_word
+verb-real t w h k = cc
+
+at-command_at : (depth : ℕ) (cs : Script) (s : Sight) (t : Token) → stands s ≡ t → (o : Option CommandWord) → command_word t ≡ o → At (The Command) (command_at depth cs o) s
+at-command_at depth cs s t h (Some w) k =
+    let real : Real t = verb-real t w k in
+    let starts : Starts (Verb w · Operands w) t = starts-then ([], verb k) (word-operands w) in
+    at-as (command-is w) (at-obeys _ (nat_lt (length cs) most_commands) kind.Many t h real starts (at-obeys _ (may_follow w cs) kind.Script t h real starts (of-then (at-skipped t h real (verb k)) (word-operands w) (λ _. of-operands depth w))))
+at-command_at depth cs s t h None k = of-wrong word-command s
+
+of-command : (depth : ℕ) (cs : Script) → Of (The Command) (command depth cs)
+unfolding command
+of-command depth cs s = at-last (by-token (λ t. command_at depth cs (command_word t)) (λ t h. at-command_at depth cs s t h (command_word t) refl)) (λ c. of-gives (cs ++ c ∷ []))
+
+-- parts that begin with a sign
+
+at_mark-is : (m : Mark) (t : Token) (u : Unit {0}) (b : Bool) → is_mark m t ≡ b → at_mark m t ≡ Some u → t ≡ token.Plain m
+at_mark-is m t u true h k = is_mark-true m t h
+at_mark-is m t u false h k = absurd (let q : at_mark m t ≡ None = rw h refl in cc)
+
+of-at_mark : {A : Type 0} {e : Form} (m : Mark) (part : Unit {0} → A → Reading A) → ((u : Unit {0}) (a : A) (s : Sight) → Sees m s → At e (part u a) s) → (a : A) → Of (Many e) (many (at_mark m) part a)
+of-at_mark m part h a = of-many (at_mark m) part (λ u b s k. h u b s (at_mark-is m (stands s) u (is_mark m (stands s)) refl k)) a
+
+at-next_command : (depth : ℕ) (u : Unit {0}) (cs : Script) (s : Sight) → Sees mark.Semicolon s → At (Sign mark.Semicolon · The Command) (next_command depth u cs) s
+at-next_command depth u cs s h = of-then (at-skipped (token.Plain mark.Semicolon) h (plain-real mark.Semicolon) sign) word-command (λ _. of-command depth cs)
+
+abbrev Commands : Form
+Commands = The Command · Many (Sign mark.Semicolon · The Command)
+
+at-script_at : (depth : ℕ) (s : Sight) (b : Bool) → (b ≡ true → Sees mark.CloseBrace s) → At (maybe Commands · Sign mark.CloseBrace) (script_at depth b) s
+at-script_at depth s true h = at-as (λ ts v. both (other nothing) v) (at-last (at-skipped (token.Plain mark.CloseBrace) (h refl) (plain-real mark.CloseBrace) sign) (λ _. of-gives []))
+at-script_at depth s false h = at-as (λ ts v. both-left (λ xs w. one w) ts v) (of-then (of-then (of-command depth [] s) word-many (λ cs. of-at_mark mark.Semicolon (next_command depth) (at-next_command depth) cs)) word-sign (λ cs t. at-last (of-need mark.CloseBrace t) (λ _. of-gives cs)))
+
+of-script : (depth : ℕ) → Of (Sign mark.OpenBrace · maybe Commands · Sign mark.CloseBrace) (script depth)
+unfolding script
+of-script depth s = of-then (of-need mark.OpenBrace s) (word-then word-maybe word-sign) (λ _ t. by-token (λ x. script_at depth (is_mark mark.CloseBrace x)) (λ x h. at-script_at depth t (is_mark mark.CloseBrace x) (λ q. h ∙ is_mark-true mark.CloseBrace x q)))
+
+word-script : Word (Sign mark.OpenBrace · maybe Commands · Sign mark.CloseBrace)
+word-script = word-then word-sign (word-then word-maybe word-sign)
+
+at-candidate : (depth : ℕ) (u : Unit {0}) (scripts : List Script) (s : Sight) → Sees mark.Candidate s → At (The Candidate) (candidate depth u scripts) s
+at-candidate depth u scripts s h = at-as (λ ts v. the v) (at-obeys _ (nat_lt (length scripts) most_candidates) kind.Many (token.Plain mark.Candidate) h (plain-real mark.Candidate) (starts-then starts-sign word-script)
+    (of-then (at-skipped (token.Plain mark.Candidate) h (plain-real mark.Candidate) sign) word-script (λ _ t. at-last (of-script depth t) (λ cs. of-gives (scripts ++ cs ∷ [])))))
+
+of-candidates : (depth : ℕ) → Of (Many (The Candidate)) (candidates depth)
+unfolding candidates
+of-candidates depth = of-at_mark mark.Candidate (candidate depth) (at-candidate depth) []
+
+-- Scalars and items
+
+at-scalar : (u : Unit {0}) (cs : List FileScalar) (s : Sight) → Sees mark.Scalar s → At (The Scalar) (scalar u cs) s
+at-scalar u cs s h = at-as (λ ts v. the v) (at-obeys _ (nat_lt (length cs) most_scalars) kind.Many (token.Plain mark.Scalar) h (plain-real mark.Scalar) (starts-then starts-sign (word-then word-name (word-then word-sign word-signed)))
+    (of-then (at-skipped (token.Plain mark.Scalar) h (plain-real mark.Scalar) sign) (word-then word-name (word-then word-sign word-signed)) (λ _ t. of-then (of-fresh (names_of cs) t) (word-then word-sign word-signed) (λ n x. of-then (of-need mark.Assign x) word-signed (λ _ y. at-last (of-signed_where (λ v. true) kind.Range y) (λ v. of-gives (cs ++ record { name = n; value = v } ∷ [])))))))
+
+of-scalars : Of (Many (The Scalar)) scalars
+unfolding scalars
+of-scalars = of-at_mark mark.Scalar scalar at-scalar []
+
+of-memory : Of (Sign mark.Memory · Number) memory
+unfolding memory
+of-memory s = of-then (of-need mark.Memory s) word-number (λ _. of-number_where (λ n. nat_le n most_words) kind.Range)
+
+starts-value : (t : Token) → value_begins t ≡ true → Real t × Starts (The Signed) t
+starts-value (token.Number n) h = (number-real n, ([], the (both (other nothing) number)))
+starts-value (token.Plain mark.Minus) h = (plain-real mark.Minus, (token.Number (pos 0) ∷ [], the (both (one sign) number)))
+starts-value _ h = absurd (cc)
+
+of-data_value : (words address : ℕ) → Of (The Signed) (data_value words address)
+unfolding data_value
+of-data_value words address s = by-token (λ t s. if value_begins t then (obeys (nat_lt address words) kind.Range >>= λ _. signed) s else wrong s) (λ t h. by-test (value_begins t) (obeys (nat_lt address words) kind.Range >>= λ _. signed) wrong
+    (λ q. (let v = starts-value t q in at-obeys (λ _. signed) (nat_lt address words) kind.Range t h v.0 v.1 (of-signed_where (λ v. true) kind.Range s)))
+    (λ q. of-wrong word-signed s))
+
+at-next_value : (words address : ℕ) (u : Unit {0}) (vs : List ℤ) (s : Sight) → Sees mark.Comma s → At (Sign mark.Comma · The Signed) (next_value words address u vs) s
+at-next_value words address u vs s h = of-then (at-skipped (token.Plain mark.Comma) h (plain-real mark.Comma) sign) word-signed (λ _ t. at-last (of-data_value words (address + length vs) t) (λ v. of-gives (vs ++ v ∷ [])))
+
+of-data_values : (words address : ℕ) → Of (The Signed · Many (Sign mark.Comma · The Signed)) (data_values words address)
+unfolding data_values
+of-data_values words address s = of-then (of-data_value words address s) word-many (λ v. of-at_mark mark.Comma (next_value words address) (at-next_value words address) (v ∷ []))
+
+abbrev Given : ItemWord → Form
+Given thing.Data = Number · Sign mark.Colon · The Signed · Many (Sign mark.Comma · The Signed)
+Given thing.Ramp = Number · Number · Number · The Signed · The Signed
+
+word-given : (w : ItemWord) → Word (Given w)
+word-given thing.Data = word-then word-number (word-then word-sign (word-then word-signed word-many))
+word-given thing.Ramp = word-then word-number (word-then word-number (word-then word-number (word-then word-signed word-signed)))
+
+of-item_of : (words : ℕ) (w : ItemWord) → Of (Given w) (item_of words w)
+unfolding item_of
+of-item_of words thing.Data s = of-then (of-number_where (λ n. true) kind.Range s) (word-then word-sign (word-then word-signed word-many)) (λ first t. of-then (of-need mark.Colon t) (word-then word-signed word-many) (λ _ x. at-last (of-data_values words first x) (λ vs. of-gives (Data first vs))))
+of-item_of words thing.Ramp s = of-then (of-number_where (λ n. true) kind.Range s) (word-then word-number (word-then word-number (word-then word-signed word-signed))) (λ first t. of-then (of-number_where (λ n. true) kind.Range t) (word-then word-number (word-then word-signed word-signed)) (λ count x. of-then (of-number_where (λ n. not (n == 0)) kind.Range x) (word-then word-signed word-signed) (λ stride y. of-then (of-signed_where (λ v. true) kind.Range y) word-signed (λ start z. at-last (of-signed_where (ramp_fits words first count stride start) kind.Range z) (λ growth. of-gives (Ramp first count stride start growth))))))
+
+at-item : (words : ℕ) (is : List FileItem) (s : Sight) (t : Token) → stands s ≡ t → (w : ItemWord) → item_word t ≡ Some w → At (The Item) (item words w is) s
+unfolding item_word
+at-item words is s (token.Plain mark.Data) h thing.Data k = at-as (λ ts v. the (one v)) (of-then (at-skipped (token.Plain mark.Data) h (plain-real mark.Data) sign) (word-given thing.Data) (λ _ t. at-last (of-item_of words thing.Data t) (λ i. of-gives (is ++ i ∷ []))))
+at-item words is s (token.Plain mark.Ramp) h thing.Ramp k = at-as (λ ts v. the (other v)) (of-then (at-skipped (token.Plain mark.Ramp) h (plain-real mark.Ramp) sign) (word-given thing.Ramp) (λ _ t. at-last (of-item_of words thing.Ramp t) (λ i. of-gives (is ++ i ∷ []))))
+at-item words is s _ h w k = absurd (cc)
+
+of-items : (words : ℕ) → Of (Many (The Item)) (items words)
+unfolding items
+of-items words = of-many item_word (item words) (λ w is s k. at-item words is s (stands s) refl w k) []
+
+-- Nests
+
+of-outermost : (names : Names) → Of (The Loop) (outermost names)
+of-outermost names s = record { is = (of-loops (most_depth s.version) 0 names s).is }
+
+of-unit : (names : Names) → Of (The Loop · Many (The Candidate)) (unit names)
+unfolding unit
+of-unit names s = of-then (of-outermost names s) word-many (λ ls t. at-last (of-candidates (length ls.0) t) (λ scripts. of-gives (record { nest = record { loops = ls.0 }; names = ls.1; scripts = scripts })))
+
+at-next_unit : (names : Names) (w : LoopWord) (us : List NestUnit) (s : Sight) → loop_word (stands s) ≡ Some w → At (The AUnit) (next_unit names w us) s
+at-next_unit names w us s k = (let v = starts-loop (stands s) w k in at-as (λ ts x. the x) (at-obeys _ (nat_lt (length us) most_nests) kind.Many (stands s) refl v.0 (starts-then v.1 word-many)
+    (at-last (of-unit names s) (λ n. of-gives (us ++ n ∷ [])))))
+
+abbrev Nests : Version → Form
+Nests One = The Loop · Many (The Candidate)
+Nests Several = The AUnit · Many (The AUnit)
+
+word-unit : Word (The AUnit)
+word-unit = let w = word-then word-loop word-many in (w.0, the w.1)
+
+word-rest : (v : Version) → Word (Nests v)
+word-rest One = word-then word-loop word-many
+word-rest Several = word-then word-unit word-many
+
+of-units : (v : Version) (names : Names) → Of (Nests v) (units v names)
+unfolding units
+of-units One names s = at-last (of-unit names s) (λ n. of-gives (n ∷ []))
+of-units Several names s = of-then (at-as (λ ts x. the x) (of-unit names s)) word-many (λ n. of-many loop_word (next_unit names) (λ w us t k. at-next_unit names w us t k) (n ∷ []))
+
+-- Whole files
+
+at-end_at : (s : Sight) (t : Token) → At Nothing (end_at t) s
+at-end_at s token.End = of-gives tt s
+at-end_at s _ = of-wrong ([], nothing) s
+
+of-end : Of Nothing end
+unfolding end
+of-end s = by-token end_at (λ t h. at-end_at s t)
+
+abbrev Behind : Version → Form
+Behind v = Many (The Scalar) · Sign mark.Memory · Number · Many (The Item) · Nests v
+
+behind : Version → Reading NestFile
+behind v = scalars >>= λ cs. memory >>= λ words. items words >>= λ is. units v (names_of cs) >>= λ us. end >>= λ _. gives (record { version = v; scalars = cs; words = words; items = is; units = us })
+
+word-behind : (v : Version) → Word (Behind v)
+word-behind v = word-then word-many (word-then word-sign (word-then word-number (word-then word-many (word-rest v))))
+
+of-behind : (v : Version) → Of (Behind v) (behind v)
+unfolding behind
+of-behind v s = of-then (of-scalars s) (word-then word-sign (word-then word-number (word-then word-many (word-rest v)))) (λ cs t. at-as (λ ts x. regroup ts x) (of-then (of-memory t) (word-then word-many (word-rest v)) (λ words x. of-then (of-items words x) (word-rest v) (λ is y. at-last (of-units v (names_of cs) y) (λ us z. at-last (of-end z) (λ _. of-gives (record { version = v; scalars = cs; words = words; items = is; units = us })))))))
+
+abbrev Numbered : Form
+Numbered = (Numeral 1 · Behind One) ∣ (Numeral 2 · Behind Several)
+
+word-numbered : Word Numbered
+word-numbered = let w = word-behind One in (token.Number (pos 1) ∷ w.0, one (both numeral w.1))
+
+numeral-is : (n m : ℕ) → (n == m) ≡ true → Allows (Numeral m) (token.Number (pos n) ∷ [])
+numeral-is n m h = let e : n ≡ m = eqb-true n m h in subst (λ (k : ℕ). Allows (Numeral m) (token.Number (pos k) ∷ [])) (sym e) numeral
+
+at-versioned : (v : Version) (m : ℕ) (n : ℕ) (s : Sight) → stands s ≡ token.Number (pos n) → (n == m) ≡ true → At (Numeral m · Behind v) (set_version v >>= behind) s
+unfolding skip
+at-versioned v m n s h q = at-then {r = set_version v} behind (record { is = passed-one v (Numeral m) s (of_version v (skip s)) (token.Number (pos n)) refl refl h (number-real (pos n)) (numeral-is n m q) }) (word-behind v) (λ x k. (
+    let j : ◌≡◌ {A = Result (Version × Sight) TextFault} (set_version v s) (Ok x) = k in let e : x.0 ≡ v = cc in subst (λ (u : Version). At (Behind v) (behind u) x.1) (sym e) (of-behind v x.1)))
+
+at-numbered : (n : ℕ) (s : Sight) → stands s ≡ token.Number (pos n) → (b c : Bool) → (n == 1) ≡ b → (n == 2) ≡ c → At Numbered ((if b then set_version One else (if c then set_version Several else refused kind.Version)) >>= behind) s
+unfolding refused
+at-numbered n s h true c p q = at-as (λ ts v. one v) (at-versioned One 1 n s h p)
+at-numbered n s h false true p q = at-as (λ ts v. other v) (at-versioned Several 2 n s h q)
+at-numbered n s h false false p q = record { is = (of-judged {A = Version} kind.Version refl word-numbered s).is }
+
+at-version_at : (s : Sight) (t : Token) → stands s ≡ t → At Numbered (version_at t >>= behind) s
+unfolding refused
+at-version_at s (token.Number (pos n)) h = at-numbered n s h (n == 1) (n == 2) refl refl
+at-version_at s _ h = record { is = (of-wrong {A = Version} word-numbered s).is }
+
+after-after : {A B C : Type 0} (r : Result (A × Sight) TextFault) (f : A → Reading B) (g : B → Reading C) → after (after r f) g ≡ after r (λ a u. after (f a u) g)
+after-after (Ok x) f g = refl
+after-after (Err e) f g = refl
+
+file-is : (ts : List Token) → Allows (Sign mark.Nest · Numbered) ts → Allows (The File) ts
+file-is _ (both u (one v)) = the (one (both u v))
+file-is _ (both u (other v)) = the (other (both u v))
+
+-- a whole file
+pub of-contents : Of (The File) contents
+unfolding contents version behind
+of-contents s = record {
+  is = subst (λ (y : Result (NestFile × Sight) TextFault). Judged (The File) y s.size s.left) (sym (after-after (need mark.Nest s) (λ _ u. version_at (stands u) u) behind))
+      (at-as file-is (of-then {f = λ _ u. after (version_at (stands u) u) behind} (of-need mark.Nest s) word-numbered (λ _ u. by-token (λ t. version_at t >>= behind) (at-version_at u)))).is;
+}

@@ -1,0 +1,43 @@
+//! The reading of a text and the grammar say the same; examples.
+
+ghost use Rattle.grammar_laws.specs.Examples.{FaultExamples, ReadingExamples};
+ghost use Rattle.grammar_laws.specs.Refusals.{LimitExamples, RuleExamples};
+ghost use Rattle.grammar_laws.specs.Rules.{FilesKeepRules};
+ghost use Rattle.grammar_laws.specs.Laws.{FaultOrFile, OneReading, ReadingIsTheGrammar};
+
+/// A text reads as a file exactly where the grammar, as a relation between a text and a file, says that it is
+/// this file.
+#[tactic(auto, using(crate::proofs::Main::laws))]
+pub fn reading_is_the_grammar()
+    ensures { ReadingIsTheGrammar }
+{}
+
+/// A text is at most one file.
+#[tactic(auto, using(crate::proofs::Main::laws))]
+pub fn one_reading()
+    ensures { OneReading }
+{}
+
+/// A text has a fault exactly where it is no file.
+pub fn fault_or_file()
+    ensures { FaultOrFile }
+{}
+
+/// Texts with the files that they are, texts with a fault of each kind, and texts one step past each limit and
+/// each rule, each computed by hand.
+#[tactic(auto, using(crate::proofs::Computed::examples, crate::proofs::Refusals::refusals))]
+pub fn examples()
+    ensures readings { ReadingExamples }
+    ensures faults { FaultExamples }
+    ensures limits { LimitExamples }
+    ensures rules { RuleExamples }
+{}
+
+/// Every file that a text is keeps these rules: it has at most 16 scalars, whose names are a letter and then
+/// letters, digits and `_`, at most 32 bytes; at most 1,048,576 words; items that set words of the memory
+/// alone, to values of an i64; one to eight nests, each of one to six loops with no stride 0 and a statement
+/// in the innermost body.
+#[tactic(auto, using(crate::proofs::Rules::rules_kept))]
+pub fn files_keep_rules()
+    ensures { FilesKeepRules }
+{}

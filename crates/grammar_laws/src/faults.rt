@@ -1,0 +1,25 @@
+//! Where faults stand.
+
+ghost use Rattle.grammar_laws.specs.Beginnings.{ContentsFaultNotTooEarly, FaultNotTooEarly};
+ghost use Rattle.grammar_laws.specs.Phrases.{FaultNotTooLate, ReadTextIsSentence};
+
+/// A fault is not too early: it stands at a token of the text, or at its end, and each text that has the
+/// same tokens up to and with this one has the same fault.
+#[tactic(auto, using(crate::proofs::Early::early))]
+pub fn not_too_early()
+    ensures text { FaultNotTooEarly }
+    ensures sight { ContentsFaultNotTooEarly }
+{}
+
+/// A fault is not too late: the tokens before it begin a sentence of the grammar. Where a kind that comes
+/// behind `Expected` and `Version` judges a token, so do the tokens up to and with that one. And the tokens
+/// of a text that is read are a sentence.
+///
+/// A sentence is what the productions allow as they are written. The rules on names, numbers and how many
+/// there may be are left out: that these are judged at the first token that breaks them is said by the
+/// readings alone, production by production.
+#[tactic(auto, using(crate::proofs::Late::late))]
+pub fn not_too_late()
+    ensures fault { FaultNotTooLate }
+    ensures read { ReadTextIsSentence }
+{}
