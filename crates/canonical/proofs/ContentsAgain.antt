@@ -71,7 +71,7 @@ unfolding skip
 scalars-kept scalars_none = refl
 scalars-kept (scalars_more {cs} {n} {v} {s} {t} {u} i k len h f g j) = signed-kept (skip (skip (skip t))) v u j ∙ scalars-kept i
 
-values-last : (vs : List ℤ) (v : ℤ) → 0 < length vs → value_list (vs ++ v ∷ []) ≡ value_list vs ++ next_value v
+pub values-last : (vs : List ℤ) (v : ℤ) → 0 < length vs → value_list (vs ++ v ∷ []) ≡ value_list vs ++ next_value v
 unfolding value_list
 values-last [] v h = absurd (omega arith)
 values-last (x ∷ vs) v h = ap (λ (l : List Piece). signed_operand x ++ l) (flat_map-last next_value vs v) ∙ sym (append_assoc (signed_operand x) (flat_map next_value vs) (next_value v))
@@ -80,7 +80,7 @@ length-last : (vs : List ℤ) (v : ℤ) → 0 < length (vs ++ v ∷ [])
 length-last [] v = omega arith
 length-last (x ∷ vs) v = omega arith
 
-values-some : (words fst : ℕ) {s : Sight} {vs : List ℤ} {t : Sight} → IsValues words fst s vs t → 0 < length vs
+pub values-some : (words fst : ℕ) {s : Sight} {vs : List ℤ} {t : Sight} → IsValues words fst s vs t → 0 < length vs
 values-some words fst (values_one h i) = omega arith
 values-some words fst (values_more {vs} {v} i k h j) = length-last vs v
 

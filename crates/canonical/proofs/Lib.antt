@@ -17,3 +17,4 @@ pub mod ScriptsAgain
 pub mod ContentsAgain
 pub mod Proper
 pub mod ProperFile
+pub mod TextLaws

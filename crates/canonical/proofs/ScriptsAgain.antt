@@ -77,15 +77,15 @@ command-kept depth cs (par k i) = rows-kept depth i
 command-kept depth cs (wave k i) = rows-kept depth i
 
 -- commands with semicolons between them
-abbrev body : Script → List Piece
+abbrev pub body : Script → List Piece
 body [] = []
 body (c ∷ cs) = command_of c ++ flat_map next_command cs
 
-body-last : (cs : Script) (c : Command) → 0 < length cs → body (cs ++ c ∷ []) ≡ body cs ++ next_command c
+pub body-last : (cs : Script) (c : Command) → 0 < length cs → body (cs ++ c ∷ []) ≡ body cs ++ next_command c
 body-last [] c h = absurd (omega arith)
 body-last (x ∷ cs) c h = ap (λ (l : List Piece). command_of x ++ l) (flat_map-last next_command cs c) ∙ sym (append_assoc (command_of x) (flat_map next_command cs) (next_command c))
 
-commands-body : (cs : Script) → 0 < length cs → commands_of cs ≡ body cs ++ Space ∷ []
+pub commands-body : (cs : Script) → 0 < length cs → commands_of cs ≡ body cs ++ Space ∷ []
 unfolding commands_of
 commands-body [] h = absurd (omega arith)
 commands-body (c ∷ cs) h = refl
@@ -94,7 +94,7 @@ length-last : (cs : Script) (c : Command) → 0 < length (cs ++ c ∷ [])
 length-last [] c = omega arith
 length-last (x ∷ cs) c = omega arith
 
-commands-some : (depth : ℕ) {s : Sight} {cs : Script} {t : Sight} → IsCommands depth s cs t → 0 < length cs
+pub commands-some : (depth : ℕ) {s : Sight} {cs : Script} {t : Sight} → IsCommands depth s cs t → 0 < length cs
 commands-some depth (command_one i) = omega arith
 commands-some depth (command_more {cs} {c} i k len j) = length-last cs c
 

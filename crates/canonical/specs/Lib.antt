@@ -8,3 +8,4 @@ pub mod Loops
 pub mod Scripts
 pub mod Contents
 pub mod Layout
+pub mod Laws

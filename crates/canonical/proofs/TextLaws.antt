@@ -1,0 +1,26 @@
+-- The laws on canonical texts.
+use Rattle.std.proofs.Common.{◌≡◌, List, length, ap, sym, ◌∙◌, Ok}
+use Rattle.nest_grammar.specs.declared.file.File.{File}
+use Rattle.nest_grammar.specs.Contents.{reading}
+use Rattle.grammar_laws.proofs.Contents.{reads-reading, reading-reads}
+use Rattle.canonical.specs.Contents.{canonical}
+use Rattle.canonical.specs.Laws.{TokensAreWords, ReadIsWritten, RoundTrip, WritesTheSame}
+use Rattle.canonical.proofs.ContentsAgain.{reads-again}
+use Rattle.canonical.proofs.LayoutFile.{file-layout}
+use Rattle.canonical.proofs.ProperFile.{reads-written, reads-walks}
+
+pub tokens-are-words : TokensAreWords
+tokens-are-words file h = file-layout file h
+
+pub read-is-written : ReadIsWritten
+read-is-written text file h = reads-written text file (reading-reads text file h)
+
+pub round-trip : RoundTrip
+round-trip text file h k =
+    let r = reading-reads text file h in
+    reads-reading (canonical file) file (reads-again text file r (canonical file) k (reads-walks text file r))
+
+pub writes-the-same : WritesTheSame
+writes-the-same text file again h k r = let q = round-trip text file h k in let e : again ≡ file = cc in ap canonical e
+
+pub ruleset laws = (tokens-are-words, read-is-written, round-trip, writes-the-same)
