@@ -1,0 +1,5 @@
+pub mod Many
+pub mod Local
+pub mod Productions
+pub mod Chains
+pub mod Accesses

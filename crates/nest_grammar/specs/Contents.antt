@@ -1,11 +1,9 @@
 -- Contents: scalars, the memory and its items, nests and whole files, each production as a reading. The
 -- reading of a text is its file, or its first fault.
-use Rattle.std.specs.Prelude.{◌≡◌, ℕ, zero, suc, ◌+◌, ◌*◌, ℤ, ◌+ℤ◌, ◌*ℤ◌, pos, negsuc, List, [], ◌∷◌, ◌++◌, length, Option, Some, None, Result, Ok, Err, Bool, true, false, not, ◌&&◌, ◌==◌, nat_le, nat_lt, if◌then◌else◌}
-use Rattle.nest_lang.specs.declared.tree.Nest.{Nest}
+use Rattle.std.specs.Prelude.{ℕ, zero, suc, ◌+◌, ◌*◌, ℤ, ◌+ℤ◌, ◌*ℤ◌, pos, negsuc, List, [], ◌∷◌, ◌++◌, length, Option, Some, None, Result, Ok, Err, Bool, true, false, not, ◌&&◌, ◌==◌, nat_le, nat_lt, if◌then◌else◌}
 use Rattle.nest_tokens.specs.declared.token.Mark.TheVariants as mark
 use Rattle.nest_tokens.specs.declared.token.Token.{Token}
 use Rattle.nest_tokens.specs.declared.token.Token.TheVariants as token
-use Rattle.nest_tokens.specs.Tokens.{is_mark}
 use Rattle.nest_grammar.specs.declared.version.Version.{Version}
 use Rattle.nest_grammar.specs.declared.version.Version.TheVariants.{One, Two}
 use Rattle.nest_grammar.specs.declared.file.Scalar.{Scalar}
@@ -20,7 +18,7 @@ use Rattle.nest_grammar.specs.declared.fault.TextFault.{TextFault}
 use Rattle.nest_grammar.specs.declared.fault.TextKind.TheVariants as kind
 use Rattle.nest_grammar.specs.Limits.{most_bytes, most_words, most_scalars, most_nests, most_depth}
 use Rattle.nest_grammar.specs.Sights.{Sight, stands, skip, of_version, start}
-use Rattle.nest_grammar.specs.Readings.{Reading, after, ◌>>=◌, gives, refused, wrong, skipped, need, obeys, fewer, number, number_where, signed, signed_where, at_mark, many, end}
+use Rattle.nest_grammar.specs.Readings.{Reading, ◌>>=◌, gives, refused, wrong, skipped, need, obeys, fewer, number, number_where, signed, signed_where, at_mark, many, end}
 use Rattle.nest_grammar.specs.Names.{Names, fresh, names_of}
 use Rattle.nest_grammar.specs.Loops.{Loops, loops, loop_word}
 use Rattle.nest_grammar.specs.Scripts.{candidates}

@@ -1,5 +1,5 @@
 -- Expressions: each production as a reading.
-use Rattle.std.specs.Prelude.{◌≡◌, ℕ, zero, suc, ◌+◌, List, [], ◌∷◌, Option, Some, None, Result, Ok, Err, Bool, if◌then◌else◌, nat_lt}
+use Rattle.std.specs.Prelude.{ℕ, zero, suc, ◌+◌, Option, Some, None, Ok, if◌then◌else◌, nat_lt}
 use Rattle.nest_lang.specs.declared.tree.Place.{Place}
 use Rattle.nest_lang.specs.declared.tree.Op.{Op}
 use Rattle.nest_lang.specs.declared.tree.Op.TheVariants as op
@@ -14,8 +14,8 @@ use Rattle.nest_grammar.specs.declared.opening.Start.{Start}
 use Rattle.nest_grammar.specs.declared.opening.Start.TheVariants as start
 use Rattle.nest_grammar.specs.declared.fault.TextKind.TheVariants as kind
 use Rattle.nest_grammar.specs.Limits.{most_tokens, most_open, most_accesses}
-use Rattle.nest_grammar.specs.Sights.{Sight, stands, spend, afresh, opens, numbered}
-use Rattle.nest_grammar.specs.Readings.{Reading, after, ◌>>=◌, gives, refused, wrong, obeys, many}
+use Rattle.nest_grammar.specs.Sights.{stands, spend, afresh, opens, numbered}
+use Rattle.nest_grammar.specs.Readings.{Reading, ◌>>=◌, gives, refused, wrong, many}
 use Rattle.nest_grammar.specs.Names.{Names, place_of}
 
 -- how an operand begins

@@ -1,5 +1,5 @@
 -- Loops: each production as a reading.
-use Rattle.std.specs.Prelude.{◌≡◌, ℕ, zero, suc, ℤ, pos, List, [], ◌∷◌, ◌++◌, Option, Some, None, Result, Ok, Bool, true, false, not, if◌then◌else◌}
+use Rattle.std.specs.Prelude.{ℕ, zero, suc, ℤ, pos, List, [], ◌∷◌, ◌++◌, Option, Some, None, Bool, true, false, not, if◌then◌else◌}
 use Rattle.nest_lang.specs.declared.tree.Place.TheVariants as place
 use Rattle.nest_lang.specs.declared.tree.Stmt.{Stmt}
 use Rattle.nest_lang.specs.declared.tree.Head.{Head}
@@ -15,8 +15,8 @@ use Rattle.nest_grammar.specs.declared.file.LoopNames.{LoopNames}
 use Rattle.nest_grammar.specs.declared.opening.LoopWord.{LoopWord}
 use Rattle.nest_grammar.specs.declared.opening.LoopWord.TheVariants as word
 use Rattle.nest_grammar.specs.declared.fault.TextKind.TheVariants as kind
-use Rattle.nest_grammar.specs.Sights.{Sight, stands}
-use Rattle.nest_grammar.specs.Readings.{Reading, after, ◌>>=◌, gives, refused, wrong, skipped, need, obeys, signed_where}
+use Rattle.nest_grammar.specs.Sights.{stands}
+use Rattle.nest_grammar.specs.Readings.{Reading, ◌>>=◌, gives, refused, wrong, skipped, need, obeys, signed_where}
 use Rattle.nest_grammar.specs.Names.{Names, declared, fresh}
 use Rattle.nest_grammar.specs.Expressions.{expression}
 use Rattle.nest_grammar.specs.Statements.{block, block_begins}

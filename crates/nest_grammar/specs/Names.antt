@@ -1,5 +1,5 @@
 -- Names: which are visible, and what each stands for.
-use Rattle.std.specs.Prelude.{◌≡◌, ℕ, zero, suc, ◌+◌, List, [], ◌∷◌, ◌++◌, Option, Some, None, Bool, if◌then◌else◌}
+use Rattle.std.specs.Prelude.{ℕ, ◌+◌, List, [], ◌∷◌, Option, Some, None, if◌then◌else◌}
 use Rattle.std.specs.Str.{bytes_eq}
 use Rattle.nest_lang.specs.declared.tree.Place.{Place}
 use Rattle.nest_lang.specs.declared.tree.Place.TheVariants as place
@@ -9,7 +9,7 @@ use Rattle.nest_tokens.specs.declared.token.Token.TheVariants as token
 use Rattle.nest_grammar.specs.declared.file.Declared.{Declared}
 use Rattle.nest_grammar.specs.declared.file.Scalar.{Scalar}
 use Rattle.nest_grammar.specs.declared.fault.TextKind.TheVariants as kind
-use Rattle.nest_grammar.specs.Readings.{Reading, refused, wrong, skipped, gives, ◌>>=◌, after}
+use Rattle.nest_grammar.specs.Readings.{Reading, refused, wrong, skipped, gives, ◌>>=◌}
 use Rattle.nest_grammar.specs.Sights.{stands}
 
 -- the names that are visible, in the order in which they were declared

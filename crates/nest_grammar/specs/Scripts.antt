@@ -1,5 +1,5 @@
 -- Scripts: each production of candidates as a reading.
-use Rattle.std.specs.Prelude.{◌≡◌, ℕ, ◌+◌, ℤ, pos, negsuc, List, [], ◌∷◌, ◌++◌, length, Option, Some, None, Result, Ok, Bool, true, false, not, ◌&&◌, ◌==◌, nat_le, nat_lt, if◌then◌else◌, codes}
+use Rattle.std.specs.Prelude.{ℕ, ◌+◌, ℤ, pos, negsuc, List, [], ◌∷◌, ◌++◌, length, Option, Some, None, Bool, true, false, not, ◌&&◌, ◌==◌, nat_le, nat_lt, if◌then◌else◌, codes}
 use Rattle.std.specs.List.{find}
 use Rattle.std.specs.Str.{bytes_eq}
 use Rattle.arrayvec.specs.ArrayVec.{ArrayVec}
@@ -15,8 +15,8 @@ use Rattle.nest_grammar.specs.declared.script.CommandWord.{CommandWord}
 use Rattle.nest_grammar.specs.declared.script.CommandWord.TheVariants as word
 use Rattle.nest_grammar.specs.declared.fault.TextKind.TheVariants as kind
 use Rattle.nest_grammar.specs.Limits.{most_candidates, most_commands, most_skews, most_rows}
-use Rattle.nest_grammar.specs.Sights.{Sight, stands}
-use Rattle.nest_grammar.specs.Readings.{Reading, after, ◌>>=◌, gives, refused, wrong, skipped, need, obeys, fewer, number_where, signed_where, at_mark, many}
+use Rattle.nest_grammar.specs.Sights.{stands}
+use Rattle.nest_grammar.specs.Readings.{Reading, ◌>>=◌, gives, wrong, skipped, need, obeys, fewer, number_where, signed_where, at_mark, many}
 
 -- a script: the commands of a candidate
 abbrev pub Script : Type 0

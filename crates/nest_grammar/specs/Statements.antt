@@ -1,5 +1,5 @@
 -- Statements: each production as a reading.
-use Rattle.std.specs.Prelude.{◌≡◌, ℕ, zero, suc, List, [], ◌∷◌, ◌++◌, length, Option, Some, None, Result, Ok, Bool, true, false}
+use Rattle.std.specs.Prelude.{ℕ, zero, suc, List, [], ◌∷◌, ◌++◌, length, Option, Some, None, Ok, Bool, true, false}
 use Rattle.nest_lang.specs.declared.tree.Place.TheVariants as place
 use Rattle.nest_lang.specs.declared.tree.Stmt.{Stmt}
 use Rattle.nest_lang.specs.declared.tree.Stmt.TheVariants.{Let, Set, Store, If}
@@ -12,8 +12,8 @@ use Rattle.nest_grammar.specs.declared.opening.Opening.{Opening}
 use Rattle.nest_grammar.specs.declared.opening.Opening.TheVariants as opening
 use Rattle.nest_grammar.specs.declared.fault.TextKind.TheVariants as kind
 use Rattle.nest_grammar.specs.Limits.{most_lets, most_ifs}
-use Rattle.nest_grammar.specs.Sights.{Sight, stands, bound, in_block}
-use Rattle.nest_grammar.specs.Readings.{Reading, after, ◌>>=◌, gives, refused, skipped, need, fewer, many}
+use Rattle.nest_grammar.specs.Sights.{stands, bound, in_block}
+use Rattle.nest_grammar.specs.Readings.{Reading, ◌>>=◌, gives, refused, skipped, need, fewer, many}
 use Rattle.nest_grammar.specs.Names.{Names, declared, fresh, target}
 use Rattle.nest_grammar.specs.Expressions.{expression, access, access_number}
 
