@@ -1,10 +1,10 @@
 //! The memory and the first values of its words.
 
-ghost use Rattle.std.specs.Prelude.{◌≡◌, ◌<◌, ◌++◌, ◌∷◌, ◌^◌, List, length, IfOk, OnOk};
-ghost use Rattle.nest_grammar.specs.Contents.{memory, item_word, value_begins, data_value, data_values, ramp_fits, item_of, item, items};
+ghost use Rattle.std.specs.Prelude.{◌≡◌, ◌<◌, ◌^◌, OnOk};
+ghost use Rattle.nest_grammar.specs.Contents.{memory, item_word, value_begins, data_value, data_values, ramp_fits, item_of, items};
 ghost use Rattle.nest_grammar.specs.declared.opening.ItemWord.TheVariants.{Data as DataWord, Ramp as RampWord};
-ghost use Rattle.nest_grammar.specs.declared.file.Item.{Item as Entry};
-ghost use Rattle.nest_text.specs.Answers.{Gives, GivesAs};
+ghost use Rattle.nest_grammar.specs.Sights.{skip};
+ghost use Rattle.nest_text.specs.Answers.{Gives};
 
 use crate::limits::MOST_WORDS;
 use crate::reader::{Reader, signed_value};
@@ -14,6 +14,7 @@ use nest_tokens::{Mark, Token};
 use sqlite_items::Items;
 
 /// The word that an item begins with.
+#[tactic(auto, unfolding(nest_grammar::specs::Contents::item_word))]
 fn item_word(token: Token) -> Option<ItemWord>
     ensures { result ≡ item_word token }
 {
@@ -50,6 +51,7 @@ fn ramp_fits(words: u64, first: u64, count: u64, stride: u64, start: i64, growth
 
 impl<'a> Reader<'a> {
     /// Reads `memory` and its number of words.
+    #[tactic(auto, using(crate::proofs::Steps::numbers), unfolding(nest_grammar::specs::Contents::memory, nest_grammar::specs::Readings::obeys))]
     pub fn memory(&mut self) -> Result<usize, ReadRefusal>
         ensures { Gives result self.new (memory self.old) }
     {
@@ -60,6 +62,7 @@ impl<'a> Reader<'a> {
     }
 
     /// Reads a value for the word at an address.
+    #[tactic(auto, unfolding(nest_grammar::specs::Contents::data_value, nest_grammar::specs::Readings::obeys, nest_grammar::specs::Readings::refused))]
     fn data_value(&mut self, words: usize, address: u64) -> Result<i64, ReadRefusal>
         ensures read { Gives result self.new (data_value words address self.old) }
         ensures within { OnOk result (address < words) }
@@ -72,6 +75,7 @@ impl<'a> Reader<'a> {
     }
 
     /// Reads values for the words from an address on.
+    #[tactic(auto, using(crate::proofs::Marked::value_loop), unfolding(nest_grammar::specs::Contents::data_values))]
     fn data_values(&mut self, words: usize, first: u64) -> Result<Items<i64>, ReadRefusal>
         requires { first < 2 ^ 63 }
         ensures { Gives result self.new (data_values words first self.old) }
@@ -88,6 +92,7 @@ impl<'a> Reader<'a> {
     }
 
     /// Reads what stands behind `data`.
+    #[tactic(auto, unfolding(nest_grammar::specs::Contents::item_of))]
     fn data(&mut self, words: usize) -> Result<Item, ReadRefusal>
         ensures { Gives result self.new (item_of words DataWord self.old) }
     {
@@ -98,6 +103,7 @@ impl<'a> Reader<'a> {
     }
 
     /// Reads what stands behind `ramp`.
+    #[tactic(auto, using(crate::proofs::Steps::growths), unfolding(nest_grammar::specs::Contents::item_of))]
     fn ramp(&mut self, words: usize) -> Result<Item, ReadRefusal>
         ensures { Gives result self.new (item_of words RampWord self.old) }
     {
@@ -107,7 +113,8 @@ impl<'a> Reader<'a> {
         self.pass(stride != 0, TextKind::Range)?;
         let start = self.signed()?;
         let negative = self.sign();
-        let growth = signed_value(negative, self.number_here()?);
+        let number = self.number_here()?;
+        let growth = signed_value(negative, number);
         let fits = ramp_fits(words as u64, first, count, stride, start, growth);
         self.pass(fits, TextKind::Range)?;
         Ok(Item::Ramp {
@@ -121,7 +128,7 @@ impl<'a> Reader<'a> {
 
     /// Reads an item that begins with this word.
     fn item(&mut self, words: usize, word: ItemWord) -> Result<Item, ReadRefusal>
-        ensures { (before : List Entry) → GivesAs (λ i. before ++ i ∷ []) result self.new (item words word before self.old) }
+        ensures { Gives result self.new (item_of words word (skip self.old)) }
     {
         self.skip();
         match word {
@@ -131,6 +138,7 @@ impl<'a> Reader<'a> {
     }
 
     /// Reads the items of a memory of so many words.
+    #[tactic(auto, using(crate::proofs::Marked::item_loop), unfolding(nest_grammar::specs::Contents::items))]
     pub fn items(&mut self, words: usize) -> Result<Items<Item>, ReadRefusal>
         ensures { Gives result self.new (items words self.old) }
     {
