@@ -1,5 +1,6 @@
 -- Steps: productions in the words of the reader.
-use Rattle.std.proofs.Common.{◌≡◌, ℕ, zero, suc, ◌+◌, ◌<◌, ◌≤◌, ℤ, pos, negsuc, List, [], ◌∷◌, ◌++◌, length, take, refl, sym, ◌∙◌, ap, arith, Option, Some, None, Result, Ok, Err, Bool, true, false, nat_le, not, ◌==◌, if◌then◌else◌}
+use Rattle.std.proofs.Common.{◌≡◌, ℕ, zero, suc, ◌+◌, ◌<◌, ◌≤◌, ℤ, pos, negsuc, List, [], ◌∷◌, ◌++◌, length, take, drop, replicate, ◌-◌, refl, sym, ◌∙◌, ap, arith, Option, Some, None, Result, Ok, Err, Bool, true, false, nat_le, not, ◌==◌, if◌then◌else◌}
+use Rattle.std.proofs.lemmas.List.{drop-replicate}
 use Rattle.nest_lang.specs.declared.tree.Place.{Place}
 use Rattle.nest_lang.specs.declared.tree.Expr.{Expr}
 use Rattle.nest_lang.specs.declared.tree.Expr.TheVariants.{Neg, Load}
@@ -14,10 +15,13 @@ use Rattle.nest_grammar.specs.declared.fault.TextKind.TheVariants as kind
 use Rattle.nest_grammar.specs.declared.opening.Start.{Start}
 use Rattle.nest_grammar.specs.declared.opening.Start.TheVariants as start
 use Rattle.nest_grammar.specs.Sights.{Sight, here, stands, skip, of_version}
-use Rattle.nest_grammar.specs.Readings.{Reading, need, after, ◌>>=◌, gives, refused, wrong, skipped, unexpected, obeys, number_at, number_where, number, minus, with_sign, signed_where}
+use Rattle.nest_grammar.specs.Readings.{Reading, need, after, ◌>>=◌, gives, refused, wrong, skipped, unexpected, obeys, number_at, number_where, number, minus, with_sign, signed, signed_where}
 use Rattle.nest_grammar.specs.declared.version.Version.{Version}
 use Rattle.nest_grammar.specs.declared.version.Version.TheVariants.{One, Two}
-use Rattle.nest_grammar.specs.Contents.{set_version, version_at, ramp_fits}
+use Rattle.nest_grammar.specs.Contents.{set_version, version_at, ramp_fits, item_of}
+use Rattle.nest_grammar.specs.declared.file.Item.{Item}
+use Rattle.nest_grammar.specs.declared.file.Item.TheVariants.{Ramp}
+use Rattle.nest_grammar.specs.declared.opening.ItemWord.TheVariants as item
 use Rattle.nest_grammar.specs.Loops.{not_zero}
 use Rattle.nest_grammar.specs.Scripts.{is_factor}
 use Rattle.nest_grammar.specs.Names.{Names, place_of, unless_known, fresh_at, fresh}
@@ -117,7 +121,8 @@ pub ruleset factors = (factor-takes, factor-refuses, signed-none)
 not_zero-is : (b : Bool) (n : ℕ) → not_zero (with_sign b n) ≡ not (n == 0)
 not_zero-is true zero = refl
 not_zero-is true (suc n) = let e : (suc n == 0) ≡ false = grind arith in rw e refl
-not_zero-is false n = refl
+not_zero-is false zero = refl
+not_zero-is false (suc n) = let e : nat_le (suc n) 0 ≡ false = grind arith in let k : (suc n == 0) ≡ false = grind arith in rw (e, k) refl
 
 pub step-takes : (s t u : Sight) (b : Bool) (n : ℕ) → minus s ≡ Ok (b, t) → number_of (stands t) ≡ Some n → passed (not (n == 0)) kind.Range t ≡ Ok (tt, u) → signed_where not_zero kind.Range s ≡ Ok (with_sign b n, u)
 step-takes s t u b n m h p = signed-taken not_zero kind.Range s t u b n m h (ap (λ (x : Bool). passed x kind.Range t) (not_zero-is b n) ∙ p)
@@ -126,6 +131,12 @@ pub step-refuses : (s t : Sight) (b : Bool) (n : ℕ) (f : TextFault) → minus 
 step-refuses s t b n f m h p = signed-broken not_zero kind.Range s t b n f m h (ap (λ (x : Bool). passed x kind.Range t) (not_zero-is b n) ∙ p)
 
 pub ruleset steps = (step-takes, step-refuses, signed-none)
+
+signed-takes : (rule : ℤ → Bool) (what : TextKind) (s t u : Sight) (b : Bool) (n : ℕ) (v : ℤ) (r : Bool) → minus s ≡ Ok (b, t) → number_of (stands t) ≡ Some n → v ≡ with_sign b n → passed r what t ≡ Ok (tt, u) → rule v ≡ r → signed_where rule what s ≡ Ok (v, u)
+signed-takes rule what s t u b n v r m h k p q = signed-taken rule what s t u b n m h (ap (λ (x : ℤ). passed (rule x) what t) (sym k) ∙ ap (λ (x : Bool). passed x what t) q ∙ p) ∙ ap (λ (x : ℤ). Ok (x, u)) (sym k)
+
+signed-refuses : (rule : ℤ → Bool) (what : TextKind) (s t : Sight) (b : Bool) (n : ℕ) (v : ℤ) (r : Bool) (f : TextFault) → minus s ≡ Ok (b, t) → number_of (stands t) ≡ Some n → v ≡ with_sign b n → passed r what t ≡ Err f → rule v ≡ r → signed_where rule what s ≡ Err f
+signed-refuses rule what s t b n v r f m h k p q = signed-broken rule what s t b n f m h (ap (λ (x : ℤ). passed (rule x) what t) (sym k) ∙ ap (λ (x : Bool). passed x what t) q ∙ p)
 
 -- the growth of a ramp that fits
 pub growth-takes : (words first count stride : ℕ) (start v : ℤ) (s t u : Sight) (b r : Bool) (n : ℕ) → minus s ≡ Ok (b, t) → number_of (stands t) ≡ Some n → v ≡ with_sign b n → r ≡ ramp_fits words first count stride start v → passed r kind.Range t ≡ Ok (tt, u) → signed_where (ramp_fits words first count stride start) kind.Range s ≡ Ok (v, u)
@@ -141,7 +152,27 @@ stride-takes s t n h k = number-taken (λ i. not (i == 0)) kind.Range s t n h k
 pub stride-refuses : (s : Sight) (n : ℕ) (f : TextFault) → number_of (stands s) ≡ Some n → passed (not (n == 0)) kind.Range s ≡ Err f → number_where (λ i. not (i == 0)) kind.Range s ≡ Err f
 stride-refuses s n f h k = number-broken (λ i. not (i == 0)) kind.Range s n f h k
 
-pub ruleset growths = (stride-takes, stride-refuses, number-none, growth-takes, growth-refuses, signed-none)
+pub ruleset growths = (growth-takes, growth-refuses, signed-none)
+
+-- a ramp, part by part
+pub ramp-reads : (words first count stride : ℕ) (start growth : ℤ) (s t u v w x : Sight) → number s ≡ Ok (first, t) → number t ≡ Ok (count, u) → number_of (stands u) ≡ Some stride → passed (not (stride == 0)) kind.Range u ≡ Ok (tt, v) → signed v ≡ Ok (start, w) → signed_where (ramp_fits words first count stride start) kind.Range w ≡ Ok (growth, x) → item_of words item.Ramp s ≡ Ok (Ramp first count stride start growth, x)
+unfolding item_of
+ramp-reads words first count stride start growth s t u v w x a b h p d e = rw (a, b, stride-takes u v stride h p, d, e) refl
+
+pub ramp-refuses : (words first count stride : ℕ) (start : ℤ) (s t u v w : Sight) (f : TextFault) → number s ≡ Ok (first, t) → number t ≡ Ok (count, u) → number_of (stands u) ≡ Some stride → passed (not (stride == 0)) kind.Range u ≡ Ok (tt, v) → signed v ≡ Ok (start, w) → signed_where (ramp_fits words first count stride start) kind.Range w ≡ Err f → item_of words item.Ramp s ≡ Err f
+unfolding item_of
+ramp-refuses words first count stride start s t u v w f a b h p d e = rw (a, b, stride-takes u v stride h p, d, e) refl
+
+-- the same, where numbers were copied
+pub ramp-copies : (words first count stride : ℕ) (start growth b g : ℤ) (s t u v w x : Sight) → b ≡ start → g ≡ growth → number s ≡ Ok (first, t) → number t ≡ Ok (count, u) → number_of (stands u) ≡ Some stride → passed (not (stride == 0)) kind.Range u ≡ Ok (tt, v) → signed v ≡ Ok (start, w) → signed_where (ramp_fits words first count stride b) kind.Range w ≡ Ok (growth, x) → item_of words item.Ramp s ≡ Ok (Ramp first count stride b g, x)
+ramp-copies words first count stride start growth b g s t u v w x p q c d e f h k =
+    ramp-reads words first count stride b g s t u v w x c d e f (h ∙ ap (λ (z : ℤ). Ok (z, w)) (sym p)) (k ∙ ap (λ (z : ℤ). Ok (z, x)) (sym q))
+
+pub ramp-errs : (words first count stride : ℕ) (start b : ℤ) (s t u v w x : Sight) (e : ReadRefusal) → b ≡ start → number s ≡ Ok (first, t) → number t ≡ Ok (count, u) → number_of (stands u) ≡ Some stride → passed (not (stride == 0)) kind.Range u ≡ Ok (tt, v) → signed v ≡ Ok (start, w) → Gives {A = ℤ} (Err e) x (signed_where (ramp_fits words first count stride b) kind.Range w) → Gives {A = Item} (Err e) x (item_of words item.Ramp s)
+ramp-errs words first count stride start b s t u v w x NoMemory p c d i f h k = tt
+ramp-errs words first count stride start b s t u v w x (Text e) p c d i f h k = ramp-refuses words first count stride b s t u v w e c d i f (h ∙ ap (λ (z : ℤ). Ok (z, w)) (sym p)) k
+
+pub ruleset ramps = (stride-takes, stride-refuses, number-none)
 
 -- Expressions
 
@@ -273,3 +304,9 @@ unfolding version_by refused
 version-none s f h k = version_at-is (stands s) s ∙ (rw (h, k) refl)
 
 pub ruleset versions = (version-known, version-unknown, version-none)
+
+-- Words of commands
+
+-- a word with zeros behind it
+pub padded-is : (s new z : List ℕ) → z ≡ s → new ≡ z → new ++ drop (length z) (replicate 32 0) ≡ s ++ replicate (32 - length s) 0
+padded-is s new z q n = rw (n, q, drop-replicate {X = ℕ} (length s) 32 0)

@@ -4,6 +4,8 @@ ghost use Rattle.std.specs.Prelude.{◌≡◌, ◌<◌, ◌^◌, OnOk};
 ghost use Rattle.nest_grammar.specs.Contents.{memory, item_word, value_begins, data_value, data_values, ramp_fits, item_of, items};
 ghost use Rattle.nest_grammar.specs.declared.opening.ItemWord.TheVariants.{Data as DataWord, Ramp as RampWord};
 ghost use Rattle.nest_grammar.specs.Sights.{skip};
+ghost use Rattle.nest_grammar.specs.Readings.{signed_where};
+ghost use Rattle.nest_grammar.specs.declared.fault.TextKind.TheVariants.{Range as RangeKind};
 ghost use Rattle.nest_text.specs.Answers.{Gives};
 
 use crate::limits::MOST_WORDS;
@@ -102,8 +104,29 @@ impl<'a> Reader<'a> {
         Ok(Item::Data { first, values })
     }
 
+    /// Goes past the growth of a ramp that stays within so many words, with its values within i64.
+    #[tactic(auto, using(crate::proofs::Steps::growths))]
+    fn growth(
+        &mut self,
+        words: u64,
+        first: u64,
+        count: u64,
+        stride: u64,
+        start: i64,
+    ) -> Result<i64, ReadRefusal>
+        requires sizes { (first < 2 ^ 63) × (count < 2 ^ 63) × (stride < 2 ^ 63) }
+        ensures { Gives result self.new (signed_where (ramp_fits words first count stride start) RangeKind self.old) }
+    {
+        let negative = self.sign();
+        let number = self.number_here()?;
+        let growth = signed_value(negative, number);
+        let fits = ramp_fits(words, first, count, stride, start, growth);
+        self.pass(fits, TextKind::Range)?;
+        Ok(growth)
+    }
+
     /// Reads what stands behind `ramp`.
-    #[tactic(auto, using(crate::proofs::Steps::growths), unfolding(nest_grammar::specs::Contents::item_of))]
+    #[tactic(auto, using(crate::proofs::Steps::ramps), unfolding(nest_grammar::specs::Contents::item_of))]
     fn ramp(&mut self, words: usize) -> Result<Item, ReadRefusal>
         ensures { Gives result self.new (item_of words RampWord self.old) }
     {
@@ -112,11 +135,7 @@ impl<'a> Reader<'a> {
         let stride = self.number_here()?;
         self.pass(stride != 0, TextKind::Range)?;
         let start = self.signed()?;
-        let negative = self.sign();
-        let number = self.number_here()?;
-        let growth = signed_value(negative, number);
-        let fits = ramp_fits(words as u64, first, count, stride, start, growth);
-        self.pass(fits, TextKind::Range)?;
+        let growth = self.growth(words as u64, first, count, stride, start)?;
         Ok(Item::Ramp {
             first,
             count,
