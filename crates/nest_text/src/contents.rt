@@ -98,11 +98,7 @@ impl<'a> Reader<'a> {
     }
 
     /// Reads a nest behind so many others.
-    fn next_unit(
-        &mut self,
-        names: &mut Vec<Declared>,
-        before: &[Unit],
-    ) -> Result<Unit, ReadRefusal>
+    fn next_unit(&mut self, names: &mut Vec<Declared>, before: &[Unit]) -> Result<Unit, ReadRefusal>
         ensures read { GivesAs (λ u. before.now ++ u ∷ []) result self.new (next_unit names.old.items ForWord before.now self.old) }
         ensures kept { OnOk result (names.new.items ≡ names.old.items) }
     {

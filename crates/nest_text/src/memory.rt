@@ -1,7 +1,7 @@
 //! The memory and the first values of its words.
 
-ghost use Rattle.std.specs.Prelude.{◌≡◌, ◌<◌, ◌^◌, OnOk};
-ghost use Rattle.nest_grammar.specs.Contents.{memory, item_word, value_begins, data_value, data_values, ramp_fits, item_of, items};
+ghost use Rattle.std.specs.Prelude.{◌≡◌, ◌+◌, ◌*◌, ◌<◌, ◌≤◌, ◌^◌, ◌+ℤ◌, ◌*ℤ◌, pos, unsigned_abs, OnOk};
+ghost use Rattle.nest_grammar.specs.Contents.{memory, item_word, value_begins, data_value, data_values, is_i64, ramp_fits, item_of, items};
 ghost use Rattle.nest_grammar.specs.declared.opening.ItemWord.TheVariants.{Data as DataWord, Ramp as RampWord};
 ghost use Rattle.nest_grammar.specs.Sights.{skip};
 ghost use Rattle.nest_grammar.specs.Readings.{signed_where};
@@ -38,6 +38,38 @@ fn value_begins(token: Token) -> bool
     }
 }
 
+/// The address so many strides behind a first one.
+fn last_address(first: u64, stride: u64, steps: u64) -> u128
+    requires sizes { (first < 2 ^ 63) × (stride < 2 ^ 63) × (steps < 2 ^ 63) }
+    ensures { result ≡ first + stride * steps }
+{
+    u128::from(first) + u128::from(stride) * u128::from(steps)
+}
+
+/// What so many steps of a growth come to.
+fn grown(growth: i64, steps: u64) -> i128
+    requires { steps < 2 ^ 63 }
+    ensures value { result ≡ growth *ℤ pos steps }
+    ensures size { unsigned_abs result ≤ 2 ^ 126 }
+{
+    i128::from(growth) * i128::from(steps)
+}
+
+/// The value so many steps of a growth behind a first one.
+fn last_value(start: i64, growth: i64, steps: u64) -> i128
+    requires { steps < 2 ^ 63 }
+    ensures { result ≡ start +ℤ growth *ℤ pos steps }
+{
+    i128::from(start) + grown(growth, steps)
+}
+
+/// Whether a number is an i64.
+fn is_i64(value: i128) -> bool
+    ensures { result ≡ is_i64 value }
+{
+    i128::from(i64::MIN) <= value && value <= i128::from(i64::MAX)
+}
+
 /// Whether a ramp stays within so many words, and its values within i64.
 fn ramp_fits(words: u64, first: u64, count: u64, stride: u64, start: i64, growth: i64) -> bool
     requires sizes { (first < 2 ^ 63) × (count < 2 ^ 63) × (stride < 2 ^ 63) }
@@ -46,9 +78,8 @@ fn ramp_fits(words: u64, first: u64, count: u64, stride: u64, start: i64, growth
     if count == 0 {
         return true;
     }
-    let last = u128::from(first) + u128::from(stride) * u128::from(count - 1);
-    let value = i128::from(start) + i128::from(growth) * i128::from(count - 1);
-    last < u128::from(words) && i128::from(i64::MIN) <= value && value <= i128::from(i64::MAX)
+    let last = last_address(first, stride, count - 1);
+    last < u128::from(words) && is_i64(last_value(start, growth, count - 1))
 }
 
 impl<'a> Reader<'a> {
