@@ -1,0 +1,5 @@
+pub mod Sighted
+pub mod Steps
+pub mod Listing
+pub mod Marked
+pub mod Levels

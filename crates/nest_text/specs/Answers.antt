@@ -1,10 +1,11 @@
 -- Answers of the reader.
-use Rattle.std.specs.Prelude.{◌≡◌, ℕ, pos, List, Result, Ok, Err, Bool}
+use Rattle.std.specs.Prelude.{◌≡◌, ℕ, pos, Result, Ok, Err, Option, Some, None, Bool}
+use Rattle.nest_tokens.specs.declared.token.Token.{Token}
 use Rattle.nest_tokens.specs.declared.token.Token.TheVariants as token
 use Rattle.nest_grammar.specs.declared.fault.TextFault.{TextFault}
 use Rattle.nest_grammar.specs.declared.fault.TextKind.{TextKind}
-use Rattle.nest_grammar.specs.Sights.{Sight, stands}
-use Rattle.nest_grammar.specs.Readings.{Reading, after, ◌>>=◌, wrong, obeys, skipped}
+use Rattle.nest_grammar.specs.Sights.{Sight, here, stands}
+use Rattle.nest_grammar.specs.Readings.{Reading, after, ◌>>=◌, unexpected, obeys, skipped}
 use Rattle.nest_text.specs.declared.refusal.ReadRefusal.{ReadRefusal}
 use Rattle.nest_text.specs.declared.refusal.ReadRefusal.TheVariants.{Text, NoMemory}
 
@@ -24,11 +25,16 @@ GivesAs f (Err (Text e)) new read = read ≡ Err e
 abbrev pub passed : Bool → TextKind → Reading (Unit {0})
 passed rule what = obeys rule what >>= λ _. skipped
 
+-- the number that a token is
+unfoldable pub number_of : Token → Option ℕ
+number_of (token.Number (pos n)) = Some n
+number_of _ = None
+
 -- the number that stands here, or that none does
 abbrev pub NumberHere : Result ℕ ReadRefusal → Sight → Type 0
-NumberHere (Ok n) s = stands s ≡ token.Number (pos n)
-NumberHere (Err NoMemory) s = Unit {0}
-NumberHere (Err (Text f)) s = ((n : ℕ) → stands s ≡ token.Number (pos n) → ⊥) × (wrong {A = ℕ} s ≡ Err f)
+NumberHere (Ok n) s = number_of (stands s) ≡ Some n
+NumberHere (Err NoMemory) s = ⊥
+NumberHere (Err (Text f)) s = (number_of (stands s) ≡ None) × (f ≡ record { at = (here s).at; what = unexpected (stands s) })
 
 -- the same for a whole text: its file, or its first fault
 abbrev pub Answers : {A : Type 0} → Result A ReadRefusal → Result A TextFault → Type 0

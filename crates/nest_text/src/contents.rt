@@ -1,12 +1,12 @@
 //! Scalars, nests and whole files.
 
-ghost use Rattle.std.specs.Prelude.{◌≡◌, ◌<◌, ◌++◌, ◌∷◌, [], List, length, IfOk, OnOk};
+ghost use Rattle.std.specs.Prelude.{◌≡◌, ◌<◌, ◌++◌, ◌∷◌, [], length, IfOk, OnOk};
 ghost use Rattle.nest_grammar.specs.Names.{names_of};
 ghost use Rattle.nest_grammar.specs.Contents.{version, scalar, scalars, unit, next_unit, other_units, units, contents};
 ghost use Rattle.nest_grammar.specs.declared.version.Version.TheVariants.{Two as VersionTwo};
-ghost use Rattle.nest_grammar.specs.declared.file.Unit.{Unit as NestUnit};
-ghost use Rattle.nest_grammar.specs.declared.opening.LoopWord.{LoopWord as Word};
+ghost use Rattle.nest_grammar.specs.declared.opening.LoopWord.TheVariants.{For as ForWord};
 ghost use Rattle.nest_text.specs.Answers.{Gives, GivesAs};
+ghost use Rattle.nest_text.specs.Parts.{version_of};
 
 use crate::limits::{MOST_NESTS, MOST_SCALARS, most_depth};
 use crate::nesting::loop_word;
@@ -17,23 +17,38 @@ use nest_lang::{Nest, Place};
 use nest_tokens::Mark;
 use sqlite_items::Items;
 
+/// The version of this number.
+#[tactic(auto, unfolding(crate::specs::Parts::version_of))]
+fn version_of(number: u64) -> Option<Version>
+    ensures { result ≡ version_of number }
+{
+    match number {
+        1 => Some(Version::One),
+        2 => Some(Version::Two),
+        _ => None,
+    }
+}
+
 impl<'a> Reader<'a> {
     /// Reads `nest` and the version.
+    #[tactic(auto, using(crate::proofs::Steps::versions), unfolding(nest_grammar::specs::Contents::version, nest_grammar::specs::Readings::refused))]
     fn version(&mut self) -> Result<Version, ReadRefusal>
         ensures { Gives result self.new (version self.old) }
     {
         self.need(Mark::Nest)?;
-        let version = match self.number_here()? {
-            1 => Version::One,
-            2 => Version::Two,
-            _ => return Err(ReadRefusal::Text(self.fault(TextKind::Version))),
-        };
-        self.skip();
-        self.version = version;
-        Ok(version)
+        let number = self.number_here()?;
+        match version_of(number) {
+            Some(version) => {
+                self.skip();
+                self.version = version;
+                Ok(version)
+            }
+            None => Err(ReadRefusal::Text(self.fault(TextKind::Version))),
+        }
     }
 
     /// Reads a scalar behind others with these names.
+    #[tactic(auto, unfolding(nest_grammar::specs::Readings::obeys))]
     fn scalar(&mut self, scalars: &[Scalar], names: &[Declared]) -> Result<Scalar, ReadRefusal>
         requires { names.now ≡ names_of scalars.now }
         ensures read { GivesAs (λ c. scalars.now ++ c ∷ []) result self.new (scalar tt scalars.now self.old) }
@@ -48,6 +63,7 @@ impl<'a> Reader<'a> {
     }
 
     /// Reads the scalars, and adds their names.
+    #[tactic(auto, using(crate::proofs::Marked::scalar_loop), unfolding(nest_grammar::specs::Contents::scalars))]
     fn scalars(&mut self, names: &mut Vec<Declared>) -> Result<Items<Scalar>, ReadRefusal>
         requires { names.old.items ≡ [] }
         ensures read { Gives result self.new (scalars self.old) }
@@ -66,6 +82,7 @@ impl<'a> Reader<'a> {
     }
 
     /// Reads a nest and its candidates.
+    #[tactic(auto, unfolding(nest_grammar::specs::Contents::unit))]
     fn unit(&mut self, names: &mut Vec<Declared>) -> Result<Unit, ReadRefusal>
         ensures read { Gives result self.new (unit names.old.items self.old) }
         ensures kept { OnOk result (names.new.items ≡ names.old.items) }
@@ -81,19 +98,16 @@ impl<'a> Reader<'a> {
     }
 
     /// Reads a nest behind so many others.
-    fn next_unit(
-        &mut self,
-        names: &mut Vec<Declared>,
-        count: usize,
-    ) -> Result<Unit, ReadRefusal>
-        ensures read { (word : Word) (before : List NestUnit) → length before ≡ count → GivesAs (λ u. before ++ u ∷ []) result self.new (next_unit names.old.items word before self.old) }
+    fn next_unit(&mut self, names: &mut Vec<Declared>, before: &[Unit]) -> Result<Unit, ReadRefusal>
+        ensures read { GivesAs (λ u. before.now ++ u ∷ []) result self.new (next_unit names.old.items ForWord before.now self.old) }
         ensures kept { OnOk result (names.new.items ≡ names.old.items) }
     {
-        self.obey(count < MOST_NESTS, TextKind::Many)?;
+        self.obey(before.len() < MOST_NESTS, TextKind::Many)?;
         self.unit(names)
     }
 
     /// Reads the nests of a file of version 2.
+    #[tactic(auto, using(crate::proofs::Marked::unit_loop))]
     fn several_units(
         &mut self,
         names: &mut Vec<Declared>,
@@ -103,13 +117,14 @@ impl<'a> Reader<'a> {
         ensures kept { OnOk result (names.new.items ≡ names.old.items) }
     {
         'units: while let Some(_) = loop_word(self.token()) {
-            let unit = self.next_unit(names, units.len())?;
+            let unit = self.next_unit(names, units.as_slice())?;
             units.push(unit)?;
         }
         Ok(units)
     }
 
     /// Reads the nests of a file.
+    #[tactic(auto, unfolding(nest_grammar::specs::Contents::units))]
     fn units(
         &mut self,
         version: Version,
@@ -127,6 +142,7 @@ impl<'a> Reader<'a> {
     }
 
     /// Reads all of a file.
+    #[tactic(auto, unfolding(nest_grammar::specs::Contents::contents))]
     pub fn contents(&mut self) -> Result<File, ReadRefusal>
         ensures { Gives result self.new (contents self.old) }
     {

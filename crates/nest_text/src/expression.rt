@@ -1,9 +1,11 @@
 //! Expressions.
 
-ghost use Rattle.std.specs.Prelude.{◌≡◌, ◌<◌, IfOk};
+ghost use Rattle.std.specs.Prelude.{◌≡◌, ◌<◌, IfOk, OnOk, Ok};
+ghost use Rattle.nest_grammar.specs.Names.{place_of};
 ghost use Rattle.nest_lang.specs.declared.tree.Expr.TheVariants.{Two};
-ghost use Rattle.nest_grammar.specs.Expressions.{start_of, product_of, addition_of, comparison_of, taken, closed, access, access_number, entered, unary, term, sum, expr, expression};
+ghost use Rattle.nest_grammar.specs.Expressions.{start_of, product_of, addition_of, comparison_of, taken, closed, access, access_number, if_visible, entered, unary, term, sum, expr, expression};
 ghost use Rattle.nest_text.specs.Answers.{Gives};
+ghost use Rattle.nest_text.specs.Parts.{load};
 
 use crate::limits::{MOST_OPEN, MOST_TOKENS, most_accesses};
 use crate::reader::Reader;
@@ -16,6 +18,7 @@ use sqlite_items::Boxed;
 use std::alloc::{AllocError, Global};
 
 /// How an operand begins that begins with this token.
+#[tactic(auto, unfolding(nest_grammar::specs::Expressions::start_of))]
 fn start_of(token: Token) -> Start
     ensures { result ≡ start_of token }
 {
@@ -30,6 +33,7 @@ fn start_of(token: Token) -> Start
 }
 
 /// The operator of a term that this token is.
+#[tactic(auto, unfolding(nest_grammar::specs::Expressions::product_of))]
 fn product_of(token: Token) -> Option<Op>
     ensures { result ≡ product_of token }
 {
@@ -42,6 +46,7 @@ fn product_of(token: Token) -> Option<Op>
 }
 
 /// The operator of a sum that this token is.
+#[tactic(auto, unfolding(nest_grammar::specs::Expressions::addition_of))]
 fn addition_of(token: Token) -> Option<Op>
     ensures { result ≡ addition_of token }
 {
@@ -53,6 +58,7 @@ fn addition_of(token: Token) -> Option<Op>
 }
 
 /// The comparison that this token is.
+#[tactic(auto, unfolding(nest_grammar::specs::Expressions::comparison_of))]
 fn comparison_of(token: Token) -> Option<Op>
     ensures { result ≡ comparison_of token }
 {
@@ -75,6 +81,7 @@ fn two(alloc: Global, op: Op, left: Expr, right: Expr) -> Result<Expr, AllocErro
 
 impl<'a> Reader<'a> {
     /// Goes past one more token of the expression.
+    #[tactic(auto, unfolding(nest_grammar::specs::Expressions::taken, nest_grammar::specs::Readings::refused, nest_grammar::specs::Sights::skip))]
     fn take(&mut self) -> Result<(), ReadRefusal>
         ensures { Gives result self.new (taken self.old) }
     {
@@ -88,6 +95,7 @@ impl<'a> Reader<'a> {
     }
 
     /// Goes past this sign, a token of the expression.
+    #[tactic(auto, unfolding(nest_grammar::specs::Expressions::closed, nest_grammar::specs::Readings::refused))]
     fn close(&mut self, mark: Mark) -> Result<(), ReadRefusal>
         ensures { Gives result self.new (closed mark self.old) }
     {
@@ -99,8 +107,10 @@ impl<'a> Reader<'a> {
     }
 
     /// One more access of the block is begun.
+    #[tactic(auto, unfolding(nest_grammar::specs::Expressions::access, nest_grammar::specs::Readings::refused))]
     pub fn begin_access(&mut self) -> Result<(), ReadRefusal>
-        ensures { Gives result self.new (access self.old) }
+        ensures read { Gives result self.new (access self.old) }
+        ensures begun { OnOk result (self.new.accesses < self.new.opened) }
     {
         if self.opened < most_accesses(self.version) {
             self.opened += 1;
@@ -111,12 +121,16 @@ impl<'a> Reader<'a> {
     }
 
     /// The number of an access that was begun, from 1.
-    pub fn number_access(&mut self) -> u8 {
+    pub fn number_access(&mut self) -> u8
+        requires { self.old.accesses < self.old.opened }
+        ensures { access_number self.old ≡ Ok (result, self.new) }
+    {
         self.accesses += 1;
         self.accesses
     }
 
     /// Goes past a token behind which something stands one deeper.
+    #[tactic(auto, unfolding(nest_grammar::specs::Expressions::entered, nest_grammar::specs::Readings::refused))]
     fn enter(&mut self, depth: usize) -> Result<usize, ReadRefusal>
         ensures read { Gives result self.new (entered depth self.old) }
         ensures less { IfOk result (λ below. below < depth) }
@@ -129,7 +143,10 @@ impl<'a> Reader<'a> {
     }
 
     /// Reads a name that is visible.
-    fn variable(&mut self, names: &[Declared], name: Name) -> Result<Expr, ReadRefusal> {
+    #[tactic(auto, unfolding(nest_grammar::specs::Readings::refused))]
+    fn variable(&mut self, names: &[Declared], name: Name) -> Result<Expr, ReadRefusal>
+        ensures { Gives result self.new (if_visible (place_of names.now name) self.old) }
+    {
         match place_of(names, name) {
             Some(place) => {
                 self.take()?;
@@ -141,7 +158,10 @@ impl<'a> Reader<'a> {
 
     /// Reads a load.
     #[cycle(expression)]
-    fn load(&mut self, names: &[Declared], depth: usize) -> Result<Expr, ReadRefusal> {
+    #[tactic(auto, using(crate::proofs::Steps::load_room))]
+    fn load(&mut self, names: &[Declared], depth: usize) -> Result<Expr, ReadRefusal>
+        ensures { Gives result self.new (load names.now depth self.old) }
+    {
         self.begin_access()?;
         let depth = self.enter(depth)?;
         let address = self.expr(names, depth)?;
@@ -153,6 +173,7 @@ impl<'a> Reader<'a> {
     /// Reads a number, a name, or what begins with a `-`, a parenthesis or a bracket, where so many more
     /// of these may be open.
     #[cycle(expression)]
+    #[tactic(auto, using(crate::proofs::Steps::units), unfolding(nest_grammar::specs::Readings::refused))]
     fn unary(&mut self, names: &[Declared], depth: usize) -> Result<Expr, ReadRefusal>
         ensures { Gives result self.new (unary names.now depth self.old) }
     {
@@ -180,6 +201,7 @@ impl<'a> Reader<'a> {
 
     /// Reads operands between operators of a term, grouped to the left.
     #[cycle(expression)]
+    #[tactic(auto, using(nest_grammar::proofs::Chains::operator_chains), unfolding(nest_grammar::specs::Expressions::term))]
     fn term(&mut self, names: &[Declared], depth: usize) -> Result<Expr, ReadRefusal>
         ensures { Gives result self.new (term names.now depth self.old) }
     {
@@ -194,6 +216,7 @@ impl<'a> Reader<'a> {
 
     /// Reads terms between operators of a sum, grouped to the left.
     #[cycle(expression)]
+    #[tactic(auto, using(nest_grammar::proofs::Chains::operator_chains), unfolding(nest_grammar::specs::Expressions::sum))]
     fn sum(&mut self, names: &[Declared], depth: usize) -> Result<Expr, ReadRefusal>
         ensures { Gives result self.new (sum names.now depth self.old) }
     {
@@ -208,6 +231,7 @@ impl<'a> Reader<'a> {
 
     /// Reads a sum, or two of them with a comparison between.
     #[cycle(expression)]
+    #[tactic(auto, unfolding(nest_grammar::specs::Expressions::expr))]
     fn expr(&mut self, names: &[Declared], depth: usize) -> Result<Expr, ReadRefusal>
         ensures { Gives result self.new (expr names.now depth self.old) }
     {
@@ -223,6 +247,7 @@ impl<'a> Reader<'a> {
     }
 
     /// Reads a whole expression.
+    #[tactic(auto, unfolding(nest_grammar::specs::Expressions::expression))]
     pub fn expression(&mut self, names: &[Declared]) -> Result<Expr, ReadRefusal>
         ensures { Gives result self.new (expression names.now self.old) }
     {

@@ -20,6 +20,7 @@ pub struct NestFile {
 }
 
 /// Reads a text by the productions.
+#[tactic(auto, unfolding(nest_grammar::specs::Contents::reading))]
 fn read_whole(alloc: Global, text: &[u8]) -> Result<File, ReadRefusal>
     ensures { Answers result (reading text.now) }
 {

@@ -1,10 +1,12 @@
 //! The memory and the first values of its words.
 
-ghost use Rattle.std.specs.Prelude.{◌≡◌, ◌<◌, ◌++◌, ◌∷◌, ◌^◌, List, length, IfOk, OnOk};
-ghost use Rattle.nest_grammar.specs.Contents.{memory, item_word, value_begins, data_value, data_values, ramp_fits, item_of, item, items};
+ghost use Rattle.std.specs.Prelude.{◌≡◌, ◌+◌, ◌*◌, ◌<◌, ◌≤◌, ◌^◌, ◌+ℤ◌, ◌*ℤ◌, pos, unsigned_abs, OnOk};
+ghost use Rattle.nest_grammar.specs.Contents.{memory, item_word, value_begins, data_value, data_values, is_i64, ramp_fits, item_of, items};
 ghost use Rattle.nest_grammar.specs.declared.opening.ItemWord.TheVariants.{Data as DataWord, Ramp as RampWord};
-ghost use Rattle.nest_grammar.specs.declared.file.Item.{Item as Entry};
-ghost use Rattle.nest_text.specs.Answers.{Gives, GivesAs};
+ghost use Rattle.nest_grammar.specs.Sights.{skip};
+ghost use Rattle.nest_grammar.specs.Readings.{signed_where};
+ghost use Rattle.nest_grammar.specs.declared.fault.TextKind.TheVariants.{Range as RangeKind};
+ghost use Rattle.nest_text.specs.Answers.{Gives};
 
 use crate::limits::MOST_WORDS;
 use crate::reader::{Reader, signed_value};
@@ -14,6 +16,7 @@ use nest_tokens::{Mark, Token};
 use sqlite_items::Items;
 
 /// The word that an item begins with.
+#[tactic(auto, unfolding(nest_grammar::specs::Contents::item_word))]
 fn item_word(token: Token) -> Option<ItemWord>
     ensures { result ≡ item_word token }
 {
@@ -35,6 +38,38 @@ fn value_begins(token: Token) -> bool
     }
 }
 
+/// The address so many strides behind a first one.
+fn last_address(first: u64, stride: u64, steps: u64) -> u128
+    requires sizes { (first < 2 ^ 63) × (stride < 2 ^ 63) × (steps < 2 ^ 63) }
+    ensures { result ≡ first + stride * steps }
+{
+    u128::from(first) + u128::from(stride) * u128::from(steps)
+}
+
+/// What so many steps of a growth come to.
+fn grown(growth: i64, steps: u64) -> i128
+    requires { steps < 2 ^ 63 }
+    ensures value { result ≡ growth *ℤ pos steps }
+    ensures size { unsigned_abs result ≤ 2 ^ 126 }
+{
+    i128::from(growth) * i128::from(steps)
+}
+
+/// The value so many steps of a growth behind a first one.
+fn last_value(start: i64, growth: i64, steps: u64) -> i128
+    requires { steps < 2 ^ 63 }
+    ensures { result ≡ start +ℤ growth *ℤ pos steps }
+{
+    i128::from(start) + grown(growth, steps)
+}
+
+/// Whether a number is an i64.
+fn is_i64(value: i128) -> bool
+    ensures { result ≡ is_i64 value }
+{
+    i128::from(i64::MIN) <= value && value <= i128::from(i64::MAX)
+}
+
 /// Whether a ramp stays within so many words, and its values within i64.
 fn ramp_fits(words: u64, first: u64, count: u64, stride: u64, start: i64, growth: i64) -> bool
     requires sizes { (first < 2 ^ 63) × (count < 2 ^ 63) × (stride < 2 ^ 63) }
@@ -43,13 +78,13 @@ fn ramp_fits(words: u64, first: u64, count: u64, stride: u64, start: i64, growth
     if count == 0 {
         return true;
     }
-    let last = u128::from(first) + u128::from(stride) * u128::from(count - 1);
-    let value = i128::from(start) + i128::from(growth) * i128::from(count - 1);
-    last < u128::from(words) && i128::from(i64::MIN) <= value && value <= i128::from(i64::MAX)
+    let last = last_address(first, stride, count - 1);
+    last < u128::from(words) && is_i64(last_value(start, growth, count - 1))
 }
 
 impl<'a> Reader<'a> {
     /// Reads `memory` and its number of words.
+    #[tactic(auto, using(crate::proofs::Steps::numbers), unfolding(nest_grammar::specs::Contents::memory, nest_grammar::specs::Readings::obeys))]
     pub fn memory(&mut self) -> Result<usize, ReadRefusal>
         ensures { Gives result self.new (memory self.old) }
     {
@@ -60,6 +95,7 @@ impl<'a> Reader<'a> {
     }
 
     /// Reads a value for the word at an address.
+    #[tactic(auto, unfolding(nest_grammar::specs::Contents::data_value, nest_grammar::specs::Readings::obeys, nest_grammar::specs::Readings::refused))]
     fn data_value(&mut self, words: usize, address: u64) -> Result<i64, ReadRefusal>
         ensures read { Gives result self.new (data_value words address self.old) }
         ensures within { OnOk result (address < words) }
@@ -72,6 +108,7 @@ impl<'a> Reader<'a> {
     }
 
     /// Reads values for the words from an address on.
+    #[tactic(auto, using(crate::proofs::Marked::value_loop), unfolding(nest_grammar::specs::Contents::data_values))]
     fn data_values(&mut self, words: usize, first: u64) -> Result<Items<i64>, ReadRefusal>
         requires { first < 2 ^ 63 }
         ensures { Gives result self.new (data_values words first self.old) }
@@ -88,6 +125,7 @@ impl<'a> Reader<'a> {
     }
 
     /// Reads what stands behind `data`.
+    #[tactic(auto, unfolding(nest_grammar::specs::Contents::item_of))]
     fn data(&mut self, words: usize) -> Result<Item, ReadRefusal>
         ensures { Gives result self.new (item_of words DataWord self.old) }
     {
@@ -97,7 +135,29 @@ impl<'a> Reader<'a> {
         Ok(Item::Data { first, values })
     }
 
+    /// Goes past the growth of a ramp that stays within so many words, with its values within i64.
+    #[tactic(auto, using(crate::proofs::Steps::growths))]
+    fn growth(
+        &mut self,
+        words: u64,
+        first: u64,
+        count: u64,
+        stride: u64,
+        start: i64,
+    ) -> Result<i64, ReadRefusal>
+        requires sizes { (first < 2 ^ 63) × (count < 2 ^ 63) × (stride < 2 ^ 63) }
+        ensures { Gives result self.new (signed_where (ramp_fits words first count stride start) RangeKind self.old) }
+    {
+        let negative = self.sign();
+        let number = self.number_here()?;
+        let growth = signed_value(negative, number);
+        let fits = ramp_fits(words, first, count, stride, start, growth);
+        self.pass(fits, TextKind::Range)?;
+        Ok(growth)
+    }
+
     /// Reads what stands behind `ramp`.
+    #[tactic(auto, using(crate::proofs::Steps::ramps), unfolding(nest_grammar::specs::Contents::item_of))]
     fn ramp(&mut self, words: usize) -> Result<Item, ReadRefusal>
         ensures { Gives result self.new (item_of words RampWord self.old) }
     {
@@ -106,10 +166,7 @@ impl<'a> Reader<'a> {
         let stride = self.number_here()?;
         self.pass(stride != 0, TextKind::Range)?;
         let start = self.signed()?;
-        let negative = self.sign();
-        let growth = signed_value(negative, self.number_here()?);
-        let fits = ramp_fits(words as u64, first, count, stride, start, growth);
-        self.pass(fits, TextKind::Range)?;
+        let growth = self.growth(words as u64, first, count, stride, start)?;
         Ok(Item::Ramp {
             first,
             count,
@@ -121,7 +178,7 @@ impl<'a> Reader<'a> {
 
     /// Reads an item that begins with this word.
     fn item(&mut self, words: usize, word: ItemWord) -> Result<Item, ReadRefusal>
-        ensures { (before : List Entry) → GivesAs (λ i. before ++ i ∷ []) result self.new (item words word before self.old) }
+        ensures { Gives result self.new (item_of words word (skip self.old)) }
     {
         self.skip();
         match word {
@@ -131,6 +188,7 @@ impl<'a> Reader<'a> {
     }
 
     /// Reads the items of a memory of so many words.
+    #[tactic(auto, using(crate::proofs::Marked::item_loop), unfolding(nest_grammar::specs::Contents::items))]
     pub fn items(&mut self, words: usize) -> Result<Items<Item>, ReadRefusal>
         ensures { Gives result self.new (items words self.old) }
     {

@@ -11,7 +11,7 @@ use nest_grammar::{Declared, LoopNames, LoopWord, TextKind};
 use nest_lang::{Head, Loop, Place, Stmt};
 use nest_tokens::{Mark, Name, Token};
 use sqlite_items::Items;
-use std::alloc::{AllocError, Global};
+use std::alloc::{AllocError, AllocFailed, Global};
 
 /// Loops, the outermost first, and their names.
 pub type Loops = (Items<Loop>, Items<LoopNames>);
@@ -20,6 +20,7 @@ pub type Loops = (Items<Loop>, Items<LoopNames>);
 type Block = (Items<Stmt>, Items<Name>);
 
 /// The word that a loop begins with.
+#[tactic(auto, unfolding(nest_grammar::specs::Loops::loop_word))]
 pub fn loop_word(token: Token) -> Option<LoopWord>
     ensures { result ≡ loop_word token }
 {
@@ -60,20 +61,21 @@ fn declare(
     names: &mut Vec<Declared>,
     level: u8,
     counter: Option<Name>,
-) -> Result<(), ReadRefusal>
+) -> Result<(), AllocFailed<Declared>>
     ensures { OnOk result (names.new.items ≡ inside names.old.items level counter) }
 {
-    if let Some(name) = counter {
-        names.push(Declared {
+    match counter {
+        Some(name) => names.push(Declared {
             name,
             place: Place::Counter(level),
-        })?;
+        }),
+        None => Ok(()),
     }
-    Ok(())
 }
 
 impl<'a> Reader<'a> {
     /// Reads the step of a `for`, which is 1 where none is written.
+    #[tactic(auto, using(crate::proofs::Steps::steps))]
     fn stride(&mut self) -> Result<i64, ReadRefusal>
         ensures { Gives result self.new (stride self.old) }
     {
@@ -83,9 +85,8 @@ impl<'a> Reader<'a> {
         self.skip();
         let negative = self.sign();
         let number = self.number_here()?;
-        let stride = signed_value(negative, number);
-        self.pass(stride != 0, TextKind::Range)?;
-        Ok(stride)
+        self.pass(number != 0, TextKind::Range)?;
+        Ok(signed_value(negative, number))
     }
 
     /// Reads the head of a `for`, with the name of its turns.
@@ -128,6 +129,7 @@ impl<'a> Reader<'a> {
     }
 
     /// Reads the `}` of a body with these statements before its inner loops.
+    #[tactic(auto, using(crate::proofs::Levels::bodies), unfolding(nest_grammar::specs::Loops::body_end, nest_grammar::specs::Readings::refused))]
     fn body_end(&mut self, pre: &[Stmt], inner: &[Loop]) -> Result<(), ReadRefusal>
         ensures { Gives result self.new (body_end pre.now inner.now self.old) }
     {
@@ -165,6 +167,7 @@ impl<'a> Reader<'a> {
 
     /// Reads a loop that begins with this word, in which so many levels more are allowed.
     #[cycle(nesting)]
+    #[tactic(auto, using(crate::proofs::Levels::insides))]
     fn loop_of(
         &mut self,
         names: &mut Vec<Declared>,
@@ -190,6 +193,7 @@ impl<'a> Reader<'a> {
 
     /// Reads a loop at a level, from 0, where so many levels are allowed.
     #[cycle(nesting)]
+    #[tactic(auto, using(crate::proofs::Levels::levels))]
     pub fn loops(
         &mut self,
         names: &mut Vec<Declared>,

@@ -1,9 +1,9 @@
 //! What is still to be read of a text, and the steps that every production takes.
 
-ghost use Rattle.std.specs.Prelude.{◌≡◌, ◌<◌, ◌^◌, length, IfOk, pos, Ok, zero};
+ghost use Rattle.std.specs.Prelude.{◌≡◌, ◌<◌, ◌^◌, length, IfOk, OnOk, IfSome, Ok, true};
 ghost use Rattle.nest_grammar.specs.Sights.{Sight, here, stands, skip, start, in_block, of_version};
-ghost use Rattle.nest_grammar.specs.Readings.{unexpected, need, obeys, minus, with_sign, signed, end};
-ghost use Rattle.nest_text.specs.Answers.{Gives, passed, NumberHere};
+ghost use Rattle.nest_grammar.specs.Readings.{unexpected, need, obeys, number, minus, with_sign, signed, end};
+ghost use Rattle.nest_text.specs.Answers.{Gives, passed, number_of, NumberHere};
 
 use crate::refusal::ReadRefusal;
 use nest_grammar::{TextFault, TextKind, Version};
@@ -27,9 +27,12 @@ pub struct Reader<'a> {
 }
 
 impl<'a> Model for Reader<'a> {
+    ghost use Rattle.std.specs.Prelude.{◌≤◌};
     ghost use Rattle.nest_grammar.specs.Sights.{Sight};
 
     ghost Value = { Sight };
+
+    ghost invariant = { λ r. (r.accesses ≤ r.opened) × (r.opened ≤ 64) };
 
     ghost view = { λ r. record { left = r.cursor.left; size = r.cursor.size; version = r.version; spent = r.spent; opened = r.opened; accesses = r.accesses; lets = r.lets } };
 }
@@ -43,6 +46,24 @@ fn unexpected_token(token: Token) -> TextKind
         Token::Bad(BadToken::Number) => TextKind::Number,
         Token::Bad(BadToken::Name) => TextKind::Name,
         _ => TextKind::Expected,
+    }
+}
+
+/// The number that this token is.
+#[tactic(auto, unfolding(crate::specs::Answers::number_of))]
+fn number_of(token: Token) -> Option<u64>
+    ensures value { result ≡ number_of token }
+    ensures fits { IfSome result (λ n. n < 2 ^ 63) }
+{
+    match token {
+        Token::Number(number) => {
+            if number < 0 {
+                None
+            } else {
+                Some(number as u64)
+            }
+        }
+        _ => None,
     }
 }
 
@@ -75,6 +96,7 @@ impl<'a> Reader<'a> {
     }
 
     /// The token here.
+    #[tactic(auto, using(crate::proofs::Sighted::sights), unfolding(nest_tokens::specs::Ahead::here, nest_grammar::specs::Sights::here))]
     pub fn token(&self) -> Token
         ensures { result ≡ stands self.now }
     {
@@ -82,6 +104,7 @@ impl<'a> Reader<'a> {
     }
 
     /// Goes past the token here; at the end it stays.
+    #[tactic(auto, using(crate::proofs::Sighted::sights), unfolding(nest_tokens::specs::Ahead::past, nest_grammar::specs::Sights::skip))]
     pub fn skip(&mut self)
         ensures { self.new ≡ skip self.old }
     {
@@ -98,6 +121,7 @@ impl<'a> Reader<'a> {
     }
 
     /// The token here is at fault.
+    #[tactic(auto, using(crate::proofs::Sighted::sights), unfolding(nest_tokens::specs::Ahead::here, nest_grammar::specs::Sights::here))]
     pub fn fault(&self, what: TextKind) -> TextFault
         ensures { result ≡ record { at = (here self.now).at; what = what } }
     {
@@ -115,6 +139,7 @@ impl<'a> Reader<'a> {
     }
 
     /// Goes past this sign or word.
+    #[tactic(auto, unfolding(nest_grammar::specs::Readings::need, nest_grammar::specs::Readings::refused))]
     pub fn need(&mut self, mark: Mark) -> Result<(), ReadRefusal>
         ensures { Gives result self.new (need mark self.old) }
     {
@@ -127,8 +152,10 @@ impl<'a> Reader<'a> {
     }
 
     /// Sees that a rule of the token here is kept.
+    #[tactic(auto, unfolding(nest_grammar::specs::Readings::obeys, nest_grammar::specs::Readings::refused))]
     pub fn obey(&self, rule: bool, what: TextKind) -> Result<(), ReadRefusal>
-        ensures { Gives result self.now (obeys rule what self.now) }
+        ensures read { Gives result self.now (obeys rule what self.now) }
+        ensures kept { OnOk result (rule ≡ true) }
     {
         if rule {
             Ok(())
@@ -139,7 +166,8 @@ impl<'a> Reader<'a> {
 
     /// Goes past the token here, where a rule of it is kept.
     pub fn pass(&mut self, rule: bool, what: TextKind) -> Result<(), ReadRefusal>
-        ensures { Gives result self.new (passed rule what self.old) }
+        ensures read { Gives result self.new (passed rule what self.old) }
+        ensures kept { OnOk result (rule ≡ true) }
     {
         self.obey(rule, what)?;
         self.skip();
@@ -147,24 +175,30 @@ impl<'a> Reader<'a> {
     }
 
     /// The number here; it is not taken yet.
+    #[tactic(auto, unfolding(nest_grammar::specs::Readings::refused))]
     pub fn number_here(&self) -> Result<u64, ReadRefusal>
         ensures here { NumberHere result self.now }
         ensures fits { IfOk result (λ n. n < 2 ^ 63) }
     {
-        match self.token() {
-            Token::Number(number) if number >= 0 => Ok(number as u64),
-            _ => Err(ReadRefusal::Text(self.unexpected())),
+        match number_of(self.token()) {
+            Some(number) => Ok(number),
+            None => Err(ReadRefusal::Text(self.unexpected())),
         }
     }
 
     /// Goes past a number.
-    pub fn number(&mut self) -> Result<u64, ReadRefusal> {
+    #[tactic(auto, using(crate::proofs::Steps::any_number))]
+    pub fn number(&mut self) -> Result<u64, ReadRefusal>
+        ensures read { Gives result self.new (number self.old) }
+        ensures fits { IfOk result (λ n. n < 2 ^ 63) }
+    {
         let number = self.number_here()?;
         self.skip();
         Ok(number)
     }
 
     /// Goes past a `-`, where one stands here, and says whether.
+    #[tactic(auto, unfolding(nest_grammar::specs::Readings::minus))]
     pub fn sign(&mut self) -> bool
         ensures { minus self.old ≡ Ok (result, self.new) }
     {
@@ -176,6 +210,7 @@ impl<'a> Reader<'a> {
     }
 
     /// Goes past a number with or without a `-` before it.
+    #[tactic(auto, unfolding(nest_grammar::specs::Readings::signed_where))]
     pub fn signed(&mut self) -> Result<i64, ReadRefusal>
         ensures { Gives result self.new (signed self.old) }
     {
@@ -185,6 +220,7 @@ impl<'a> Reader<'a> {
     }
 
     /// Sees that the text ends here.
+    #[tactic(auto, unfolding(nest_grammar::specs::Readings::end, nest_grammar::specs::Readings::refused))]
     pub fn end(&self) -> Result<(), ReadRefusal>
         ensures { Gives result self.now (end self.now) }
     {

@@ -1,13 +1,12 @@
 //! Candidates and their scripts.
 
-ghost use Rattle.std.specs.Prelude.{◌≡◌, ◌<◌, ◌≤◌, ◌++◌, ◌∷◌, ℕ, pos, List, length, IfOk, OnOk, nat_le};
+ghost use Rattle.std.specs.Prelude.{◌≡◌, ◌<◌, ◌≤◌, ◌++◌, ◌∷◌, [], length, OnOk, nat_le};
 ghost use Rattle.nest_tokens.specs.Lexing.{name_of};
 ghost use Rattle.nest_grammar.specs.Readings.{signed_where};
 ghost use Rattle.nest_grammar.specs.declared.fault.TextKind.TheVariants.{Script as ScriptKind};
 ghost use Rattle.nest_grammar.specs.Scripts.{word_spelling, word_of_name, command_word, how_many, is_seq, is_skew, may_follow, row, row_but, ruled, is_factor, is_size, row_begins, next_row, rows, operands, command, script, candidate, candidates};
 ghost use Rattle.nest_grammar.specs.declared.script.CommandWord.TheVariants.{Swap as SwapWord, Skew as SkewWord, Tile as TileWord};
 ghost use Rattle.nest_text.specs.Answers.{Gives, GivesAs};
-ghost use Rattle.nest_lang.specs.declared.command.Command.{Command as Step};
 ghost use Rattle.nest_text.specs.Parts.{commands, tile_size};
 
 use crate::limits::{MOST_CANDIDATES, MOST_COMMANDS, MOST_ROWS, MOST_SKEWS};
@@ -33,6 +32,7 @@ const WORDS: [CommandWord; 6] = [
 ];
 
 /// How a command's word is spelled.
+#[tactic(auto, unfolding(nest_grammar::specs::Scripts::word_spelling))]
 fn spelling(word: CommandWord) -> &'static [u8]
     ensures spelled { result.now ≡ word_spelling word }
     ensures short { length result.now ≤ 32 }
@@ -58,6 +58,7 @@ fn padded(word: CommandWord) -> [u8; 32]
 }
 
 /// The command's word that a name is.
+#[tactic(auto, unfolding(nest_grammar::specs::Scripts::word_of_name))]
 fn word_of_name(name: Name) -> Option<CommandWord>
     ensures { result ≡ word_of_name name }
 {
@@ -68,6 +69,7 @@ fn word_of_name(name: Name) -> Option<CommandWord>
 }
 
 /// The command's word that a token is.
+#[tactic(auto, unfolding(nest_grammar::specs::Scripts::command_word))]
 fn command_word(token: Token) -> Option<CommandWord>
     ensures { result ≡ command_word token }
 {
@@ -81,20 +83,26 @@ fn command_word(token: Token) -> Option<CommandWord>
 fn seqs(commands: &[Command]) -> usize
     ensures { result ≡ how_many is_seq commands.now }
 {
-    commands
-        .iter()
-        .filter(|command| matches!(command, Command::Seq(_)))
-        .count()
+    let mut count = 0;
+    for command in commands {
+        if let Command::Seq(_) = command {
+            count += 1;
+        }
+    }
+    count
 }
 
 /// How many commands are a `skew`.
 fn skews(commands: &[Command]) -> usize
     ensures { result ≡ how_many is_skew commands.now }
 {
-    commands
-        .iter()
-        .filter(|command| matches!(command, Command::Skew(_, _, _)))
-        .count()
+    let mut count = 0;
+    for command in commands {
+        if let Command::Skew(_, _, _) = command {
+            count += 1;
+        }
+    }
+    count
 }
 
 /// Whether a command of this word may stand behind these: `seq` stands at most once, and `skew` at most
@@ -110,6 +118,7 @@ fn may_follow(word: CommandWord, commands: &[Command]) -> bool
 }
 
 /// Sees whether another row's number begins with this token.
+#[tactic(auto, unfolding(nest_grammar::specs::Scripts::row_begins))]
 fn row_begins(token: Token) -> Option<()>
     ensures { result ≡ row_begins token }
 {
@@ -121,6 +130,7 @@ fn row_begins(token: Token) -> Option<()>
 
 impl<'a> Reader<'a> {
     /// Goes past the number of a row.
+    #[tactic(auto, using(crate::proofs::Steps::numbers))]
     fn row(&mut self, depth: u8) -> Result<u8, ReadRefusal>
         ensures { Gives result self.new (row depth self.old) }
     {
@@ -130,6 +140,7 @@ impl<'a> Reader<'a> {
     }
 
     /// Goes past the number of another row than this one.
+    #[tactic(auto, using(crate::proofs::Steps::numbers))]
     fn row_but(&mut self, depth: u8, other: u8) -> Result<u8, ReadRefusal>
         ensures { Gives result self.new (row_but depth other self.old) }
     {
@@ -140,6 +151,7 @@ impl<'a> Reader<'a> {
     }
 
     /// Goes past the number of leading rows.
+    #[tactic(auto, using(crate::proofs::Steps::numbers))]
     fn leading(&mut self, depth: u8) -> Result<u8, ReadRefusal>
         ensures { Gives result self.new (ruled (λ n. nat_le n depth) self.old) }
     {
@@ -149,6 +161,7 @@ impl<'a> Reader<'a> {
     }
 
     /// Goes past the factor of a `skew`.
+    #[tactic(auto, using(crate::proofs::Steps::factors))]
     fn factor(&mut self) -> Result<i64, ReadRefusal>
         ensures { Gives result self.new (signed_where is_factor ScriptKind self.old) }
     {
@@ -159,6 +172,7 @@ impl<'a> Reader<'a> {
     }
 
     /// Goes past the size of a tile.
+    #[tactic(auto, using(crate::proofs::Steps::numbers))]
     fn size(&mut self) -> Result<i64, ReadRefusal>
         ensures { Gives result self.new (tile_size self.old) }
     {
@@ -168,15 +182,17 @@ impl<'a> Reader<'a> {
     }
 
     /// Goes past the number of a row behind so many others.
-    fn next_row(&mut self, depth: u8, count: usize) -> Result<u8, ReadRefusal>
-        ensures read { (before : List ℕ) → length before ≡ count → GivesAs (λ n. before ++ n ∷ []) result self.new (next_row depth tt before self.old) }
-        ensures room { OnOk result (count < 6) }
+    #[tactic(auto, unfolding(nest_grammar::specs::Readings::obeys))]
+    fn next_row(&mut self, depth: u8, before: &[u8]) -> Result<u8, ReadRefusal>
+        ensures read { GivesAs (λ n. before.now ++ n ∷ []) result self.new (next_row depth tt before.now self.old) }
+        ensures room { OnOk result (length before.now < 6) }
     {
-        self.obey(count < MOST_ROWS, TextKind::Script)?;
+        self.obey(before.len() < MOST_ROWS, TextKind::Script)?;
         self.row(depth)
     }
 
     /// Reads the numbers of rows.
+    #[tactic(auto, using(crate::proofs::Marked::row_loop), unfolding(nest_grammar::specs::Scripts::rows))]
     fn rows(&mut self, depth: u8) -> Result<ArrayVec<u8, 6>, ReadRefusal>
         ensures { GivesAs (λ rows. rows.items) result self.new (rows depth self.old) }
     {
@@ -184,12 +200,13 @@ impl<'a> Reader<'a> {
         let first = self.row(depth)?;
         rows.push(first);
         'rows: while let Some(()) = row_begins(self.token()) {
-            let row = self.next_row(depth, rows.len())?;
+            let row = self.next_row(depth, rows.as_slice())?;
             rows.push(row);
         }
         Ok(rows)
     }
 
+    #[tactic(auto, unfolding(nest_grammar::specs::Scripts::operands))]
     fn swap(&mut self, depth: u8) -> Result<Command, ReadRefusal>
         ensures { Gives result self.new (operands depth SwapWord self.old) }
     {
@@ -198,6 +215,7 @@ impl<'a> Reader<'a> {
         Ok(Command::Swap(first, second))
     }
 
+    #[tactic(auto, unfolding(nest_grammar::specs::Scripts::operands))]
     fn skew(&mut self, depth: u8) -> Result<Command, ReadRefusal>
         ensures { Gives result self.new (operands depth SkewWord self.old) }
     {
@@ -207,6 +225,7 @@ impl<'a> Reader<'a> {
         Ok(Command::Skew(row, other, factor))
     }
 
+    #[tactic(auto, unfolding(nest_grammar::specs::Scripts::operands))]
     fn tile(&mut self, depth: u8) -> Result<Command, ReadRefusal>
         ensures { Gives result self.new (operands depth TileWord self.old) }
     {
@@ -216,6 +235,7 @@ impl<'a> Reader<'a> {
     }
 
     /// Reads what stands behind a command's word.
+    #[tactic(auto, unfolding(nest_grammar::specs::Scripts::operands))]
     fn operands(&mut self, depth: u8, word: CommandWord) -> Result<Command, ReadRefusal>
         ensures { Gives result self.new (operands depth word self.old) }
     {
@@ -230,6 +250,7 @@ impl<'a> Reader<'a> {
     }
 
     /// Reads a command behind others of its script.
+    #[tactic(auto, unfolding(nest_grammar::specs::Scripts::command, nest_grammar::specs::Readings::refused))]
     fn command(&mut self, depth: u8, before: &[Command]) -> Result<Command, ReadRefusal>
         ensures { GivesAs (λ c. before.now ++ c ∷ []) result self.new (command depth before.now self.old) }
     {
@@ -242,6 +263,7 @@ impl<'a> Reader<'a> {
     }
 
     /// Reads commands with a `;` between them.
+    #[tactic(auto, using(crate::proofs::Marked::command_loop))]
     fn commands(&mut self, depth: u8) -> Result<Items<Command>, ReadRefusal>
         ensures { Gives result self.new (commands depth self.old) }
     {
@@ -257,6 +279,7 @@ impl<'a> Reader<'a> {
     }
 
     /// Reads the script of a candidate.
+    #[tactic(auto, unfolding(nest_grammar::specs::Scripts::script))]
     fn script(&mut self, depth: u8) -> Result<Items<Command>, ReadRefusal>
         ensures { Gives result self.new (script depth self.old) }
     {
@@ -271,21 +294,26 @@ impl<'a> Reader<'a> {
     }
 
     /// Reads a candidate behind so many others.
-    fn candidate(&mut self, depth: u8, count: usize) -> Result<Items<Command>, ReadRefusal>
-        ensures { (before : List (List Step)) → length before ≡ count → GivesAs (λ cs. before ++ cs ∷ []) result self.new (candidate depth tt before self.old) }
+    fn candidate(
+        &mut self,
+        depth: u8,
+        before: &[Items<Command>],
+    ) -> Result<Items<Command>, ReadRefusal>
+        ensures { GivesAs (λ cs. before.now ++ cs ∷ []) result self.new (candidate depth tt before.now self.old) }
     {
-        self.obey(count < MOST_CANDIDATES, TextKind::Many)?;
+        self.obey(before.len() < MOST_CANDIDATES, TextKind::Many)?;
         self.skip();
         self.script(depth)
     }
 
     /// Reads the candidates of a nest of this depth.
+    #[tactic(auto, using(crate::proofs::Marked::candidate_loop), unfolding(nest_grammar::specs::Scripts::candidates))]
     pub fn candidates(&mut self, depth: u8) -> Result<Items<Items<Command>>, ReadRefusal>
         ensures { Gives result self.new (candidates depth self.old) }
     {
         let mut candidates = Items::new(self.alloc);
         'candidates: while self.token().is(Mark::Candidate) {
-            let candidate = self.candidate(depth, candidates.len())?;
+            let candidate = self.candidate(depth, candidates.as_slice())?;
             candidates.push(candidate)?;
         }
         Ok(candidates)

@@ -1,10 +1,10 @@
 //! Statements and blocks.
 
-ghost use Rattle.std.specs.Prelude.{◌≡◌, length, take, OnOk};
+ghost use Rattle.std.specs.Prelude.{◌≡◌, ◌<◌, length, take, OnOk, IfOk};
 ghost use Rattle.nest_grammar.specs.Statements.{opening_of, statement, braced, else_of, statements, block};
 ghost use Rattle.nest_grammar.specs.declared.opening.Opening.TheVariants.{Let as Letting, Name as Naming, Store as Storing};
 ghost use Rattle.nest_text.specs.Answers.{Gives, GivesAs};
-ghost use Rattle.nest_text.specs.Parts.{simple, choice};
+ghost use Rattle.nest_text.specs.Parts.{simple, within, choice};
 
 use crate::limits::{MOST_IFS, MOST_LETS};
 use crate::reader::Reader;
@@ -15,6 +15,7 @@ use nest_tokens::{Mark, Name, Token};
 use sqlite_items::Items;
 
 /// How a statement begins that begins with this token. None where none does.
+#[tactic(auto, unfolding(nest_grammar::specs::Statements::opening_of))]
 fn opening_of(token: Token) -> Option<Opening>
     ensures { result ≡ opening_of token }
 {
@@ -29,14 +30,16 @@ fn opening_of(token: Token) -> Option<Opening>
 
 impl<'a> Reader<'a> {
     /// Reads a `let`. Its name is visible from behind it on.
+    #[tactic(auto, using(crate::proofs::Steps::lets, crate::proofs::Listing::keeping), unfolding(nest_grammar::specs::Readings::obeys, nest_grammar::specs::Sights::skip))]
     fn let_statement(&mut self, names: &mut Vec<Declared>) -> Result<Stmt, ReadRefusal>
         ensures read { GivesAs (λ st. (st, names.new.items)) result self.new (simple names.old.items Letting self.old) }
         ensures kept { OnOk result (take (length names.old.items) names.new.items ≡ names.old.items) }
     {
-        self.obey(self.lets.len() < MOST_LETS, TextKind::Many)?;
+        let number = self.lets.len();
+        self.obey(number < MOST_LETS, TextKind::Many)?;
+        let number = number as u8;
         self.skip();
         let name = self.fresh(names.as_slice())?;
-        let number = self.lets.len() as u8;
         self.lets.push(name)?;
         self.need(Mark::Assign)?;
         let value = self.expression(names.as_slice())?;
@@ -58,6 +61,7 @@ impl<'a> Reader<'a> {
     }
 
     /// Reads a store. It is numbered behind the loads of its address and its value.
+    #[tactic(auto, using(crate::proofs::Steps::store_room))]
     fn store(&mut self, names: &[Declared]) -> Result<Stmt, ReadRefusal>
         ensures { GivesAs (λ st. (st, names.now)) result self.new (simple names.now Storing self.old) }
     {
@@ -71,19 +75,30 @@ impl<'a> Reader<'a> {
         Ok(Stmt::Store(access, address, value))
     }
 
-    /// Reads a choice, where so many may stand within one another.
-    #[cycle(statement)]
-    fn choice(&mut self, names: &mut Vec<Declared>, depth: usize) -> Result<Stmt, ReadRefusal>
-        ensures read { Gives result self.new (choice depth names.old.items self.old) }
-        ensures kept { OnOk result (names.new.items ≡ names.old.items) }
+    /// Goes past a token behind which something stands one deeper.
+    #[tactic(auto, unfolding(crate::specs::Parts::within, nest_grammar::specs::Readings::refused))]
+    fn deeper(&mut self, depth: usize) -> Result<usize, ReadRefusal>
+        ensures read { Gives result self.new (within depth self.old) }
+        ensures less { IfOk result (λ below. below < depth) }
     {
         if depth == 0 {
             return Err(ReadRefusal::Text(self.fault(TextKind::Deep)));
         }
         self.skip();
+        Ok(depth - 1)
+    }
+
+    /// Reads a choice, where so many may stand within one another.
+    #[cycle(statement)]
+    #[tactic(auto, using(crate::proofs::Steps::choices))]
+    fn choice(&mut self, names: &mut Vec<Declared>, depth: usize) -> Result<Stmt, ReadRefusal>
+        ensures read { Gives result self.new (choice depth names.old.items self.old) }
+        ensures kept { OnOk result (names.new.items ≡ names.old.items) }
+    {
+        let depth = self.deeper(depth)?;
         let condition = self.expression(names.as_slice())?;
-        let first = self.braced(names, depth - 1)?;
-        let second = self.otherwise(names, depth - 1)?;
+        let first = self.braced(names, depth)?;
+        let second = self.otherwise(names, depth)?;
         Ok(Stmt::If(condition, first, second))
     }
 
@@ -142,6 +157,7 @@ impl<'a> Reader<'a> {
 
     /// Reads statements. The names that they declare are visible up to their end.
     #[cycle(statement)]
+    #[tactic(auto, using(crate::proofs::Listing::listings))]
     fn statements(
         &mut self,
         names: &mut Vec<Declared>,
@@ -161,6 +177,7 @@ impl<'a> Reader<'a> {
     }
 
     /// Reads the statements of a block, with the names of its locals.
+    #[tactic(auto, unfolding(nest_grammar::specs::Statements::block))]
     pub fn block(
         &mut self,
         names: &mut Vec<Declared>,

@@ -17,7 +17,10 @@ fn seen(alloc: Global, text: &[u8]) -> Result<String, Fail> {
 static TEXTS: [(&str, &str); 3] = [
     ("nest 2", "6 Expected"),
     ("nest 3", "5 Version"),
-    ("nest 1 memory 300 for i = 0 below 100 { [200 + i] = [i] + 1 }", "read"),
+    (
+        "nest 1 memory 300 for i = 0 below 100 { [200 + i] = [i] + 1 }",
+        "read",
+    ),
 ];
 
 #[test]

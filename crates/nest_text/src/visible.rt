@@ -11,6 +11,7 @@ use nest_lang::Place;
 use nest_tokens::{Name, Token};
 
 /// What a name stands for, where it is visible.
+#[tactic(auto, unfolding(nest_grammar::specs::Names::place_of))]
 pub fn place_of(names: &[Declared], name: Name) -> Option<Place>
     ensures { result ≡ place_of names.now name }
 {
@@ -24,6 +25,7 @@ pub fn place_of(names: &[Declared], name: Name) -> Option<Place>
 
 impl<'a> Reader<'a> {
     /// Goes past a name that is declared here.
+    #[tactic(auto, unfolding(nest_grammar::specs::Names::fresh, nest_grammar::specs::Readings::refused))]
     pub fn fresh(&mut self, names: &[Declared]) -> Result<Name, ReadRefusal>
         ensures { Gives result self.new (fresh names.now self.old) }
     {
@@ -40,6 +42,7 @@ impl<'a> Reader<'a> {
     }
 
     /// Goes past the name of a scalar that is given a value, and gives the scalar's number.
+    #[tactic(auto, unfolding(nest_grammar::specs::Names::target, nest_grammar::specs::Readings::refused))]
     pub fn target(&mut self, names: &[Declared], name: Name) -> Result<u8, ReadRefusal>
         ensures { Gives result self.new (target names.now name self.old) }
     {
