@@ -71,8 +71,8 @@ digits : (n : ℕ) → n < 2 ^ 64 → Digits n (decimal_text n)
 digits = decimal_by_steps Digits
     (λ n h. (digit-glyph n h, (digit-glyph n h, tt), omega arith))
     (λ n ds h d. (
-        let l : n % 10 < 10 = omega arith in
-        (begins-append is_digit ds ((48 + n % 10) ∷ []) d.0, all-append is_digit ds ((48 + n % 10) ∷ []) d.1 (digit-glyph (n % 10) l, tt), decimal_from-append 0 ds ((48 + n % 10) ∷ []) ∙ ap (λ (m : ℕ). m * 10 + ((48 + n % 10) - 48)) d.2 ∙ omega arith)))
+    let l : n % 10 < 10 = omega arith in
+    (begins-append is_digit ds ((48 + n % 10) ∷ []) d.0, all-append is_digit ds ((48 + n % 10) ∷ []) d.1 (digit-glyph (n % 10) l, tt), decimal_from-append 0 ds ((48 + n % 10) ∷ []) ∙ ap (λ (m : ℕ). m * 10 + ((48 + n % 10) - 48)) d.2 ∙ omega arith)))
 
 digit-no-letter : (b : ℕ) → is_digit b ≡ true → is_letter b ≡ false
 digit-no-letter b h = grind arith

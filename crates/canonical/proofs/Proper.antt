@@ -178,6 +178,7 @@ nothing_proper l depth = proper-none
 
 mutual
   unfolding skip
+
   pub statement-proper : (l : Labels) {d : ℕ} {names : Names} {s : Sight} {st : Stmt} {ns : Names} {t : Sight} → IsStmt d names s st ns t → Agrees names l → Extends t.lets l.lets → Good s → ((depth : ℕ) → Proper (statement_of l st depth)) × Good t
   statement-proper l (let_ {d} {names} {n} {e} {s} {t} {u} h r k f q g i) agree ext good =
       let j : IsExpression names (skip (bound n (skip (skip s)))) e u = subst (λ (x : Sight). IsExpression names (skip x) e u) q i in
