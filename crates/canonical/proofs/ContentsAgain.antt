@@ -172,9 +172,10 @@ length-more (y ∷ pre) x = ap suc (length-more pre x)
 
 pub named-from : (l : Labels) (pre xs : List LoopNames) → l.loops ≡ pre ++ xs → Named l (length pre) xs
 named-from l pre [] h = tt
-named-from l pre (x ∷ xs) h =
-    (ap (λ (z : List LoopNames). slice_get z (length pre)) h ∙ slice-at pre x xs,
-     subst (λ (n : ℕ). Named l n xs) (length-more pre x) (named-from l (pre ++ x ∷ []) xs (h ∙ sym (append_assoc pre (x ∷ []) xs))))
+named-from l pre (x ∷ xs) h = (
+  ap (λ (z : List LoopNames). slice_get z (length pre)) h ∙ slice-at pre x xs,
+  subst (λ (n : ℕ). Named l n xs) (length-more pre x) (named-from l (pre ++ x ∷ []) xs (h ∙ sym (append_assoc pre (x ∷ []) xs))),
+)
 
 abbrev pub UnitArrives : Version → Names → Sight → NestUnit → List Spot → Version → Type 0
 UnitArrives version names s n m v = (t : Sight) × IsUnit version names s n t × (t.size ≡ s.size) × (t.left ≡ m) × (t.version ≡ v)

@@ -9,10 +9,12 @@ use Rattle.nest_tokens.specs.Tokens.{spelling}
 use Rattle.nest_tokens.specs.Lexing.{is_letter, is_digit, is_name_byte, is_blank, between, gap, name_of, Lexed, lexed, spots, tokens_from}
 use Rattle.nest_tokens.specs.Division.{Begins, Stops}
 use Rattle.nest_tokens.proofs.Places.{tokens-gap, tokens-cons}
-use Rattle.canonical.specs.Pieces.{Piece, Word, Space, Indent, Newline, name_text, token_text, piece_text, text_of}
+use Rattle.nest_tokens.specs.Spellings.{name_text}
+use Rattle.canonical.specs.Pieces.{Piece, Word, Space, Indent, Newline, token_text, piece_text, text_of}
 use Rattle.canonical.specs.Layout.{words, IsWritten, AllWritten}
 use Rattle.canonical.proofs.Walking.{Walks}
-use Rattle.canonical.proofs.LayoutTokens.{drop-front, lexed-name, text-name, lexed-number, number-begins}
+use Rattle.nest_tokens.proofs.Spelled.{name_text-name_of}
+use Rattle.canonical.proofs.LayoutTokens.{drop-front, lexed-name, lexed-number, number-begins}
 use Rattle.canonical.proofs.LayoutMarks.{is_word, lexed-word, is_equals, sign-begins, word-begins, lexed-sign}
 
 -- behind a space or a line's end, behind a name, a number or a reserved word, behind a sign
@@ -169,7 +171,7 @@ mark-stops mark.Else bs h = refl
 token-stops : (t : Token) (bs : List ℕ) → IsWritten t → with_equals t ≡ false → Stops is_equals (token_text t ++ bs)
 unfolding token_text
 token-stops (token.Name n) bs w h =
-    let e : name_text n ≡ w.0 = ap name_text w.1 ∙ text-name w.0 w.4 in
+    let e : name_text n ≡ w.0 = ap name_text w.1 ∙ name_text-name_of w.0 w.4 in
     rw e (begins-stops is_letter is_equals letter-no-equals w.0 bs w.3)
 token-stops (token.Number z) bs w h = rw (w.1) (begins-stops is_digit is_equals digit-no-equals _ bs (number-begins w.0 w.2))
 token-stops (token.Plain m) bs w h = mark-stops m bs h
@@ -245,7 +247,7 @@ sign-begun _ h = absurd (cc)
 token-read : (t : Token) (ps : List Piece) (size : ℕ) → IsWritten t → Laid (behind (is_sign t)) ps → AllWritten ps → shown (tokens_from size (token_text t ++ text_of ps)) ≡ t ∷ shown (tokens_from size (text_of ps))
 unfolding token_text is_sign
 token-read (token.Name n) ps size w h a =
-    let e : name_text n ≡ w.0 = ap name_text w.1 ∙ text-name w.0 w.4 in
+    let e : name_text n ≡ w.0 = ap name_text w.1 ∙ name_text-name_of w.0 w.4 in
     let k : Stops is_name_byte (text_of ps) = worded-stops ps h in
     rw (e, w.1) (token-from (token.Name (name_of w.0)) w.0 (text_of ps) size is_letter letter-begins w.3 (lexed-name w.0 (text_of ps) w.2 w.3 w.4 w.5 k))
 token-read (token.Number z) ps size w h a =

@@ -10,18 +10,9 @@ use Rattle.nest_tokens.specs.declared.token.Token.TheVariants as token
 use Rattle.nest_tokens.specs.Tokens.{word_of}
 use Rattle.nest_tokens.specs.Lexing.{is_letter, is_digit, is_name_byte, decimal_from, decimal, numbered, name_of, named, spelled_by, lexed}
 use Rattle.nest_tokens.specs.Division.{Begins, Stops, AllPass}
-use Rattle.canonical.specs.Pieces.{name_text, is_written}
+use Rattle.nest_tokens.proofs.Spelled.{run-len, take-front}
 
 -- Runs
-
-run-len : (p : ℕ → Bool) (s bs : List ℕ) → AllPass p s → Stops p bs → prefix_len p (s ++ bs) ≡ length s
-run-len p [] [] a h = refl
-run-len p [] (b ∷ bs) a h = rw h refl
-run-len p (c ∷ cs) bs a h = rw (a.0) (ap (λ (n : ℕ). 1 + n) (run-len p cs bs a.1 h) ∙ omega arith)
-
-take-front : (s bs : List ℕ) → take (length s) (s ++ bs) ≡ s
-take-front [] bs = refl
-take-front (c ∷ cs) bs = ap (λ (l : List ℕ). c ∷ l) (take-front cs bs)
 
 pub drop-front : (s bs : List ℕ) → drop (length s) (s ++ bs) ≡ bs
 drop-front [] bs = refl
@@ -52,27 +43,6 @@ named-name s h w = let t : nat_lt 32 (length s) ≡ false = not-less 32 (length 
 
 pub lexed-name : (s bs : List ℕ) → length s ≤ 32 → Begins is_letter s → AllPass is_name_byte s → word_of s ≡ None → Stops is_name_byte bs → lexed (s ++ bs) ≡ record { token = token.Name (name_of s); len = length s }
 lexed-name s bs h b a w k = lexed-run s bs b a k ∙ ap (λ (t : Token). record { token = t; len = length s }) (named-name s h w)
-
--- all of a name but its zeros is written
-written : (c : ℕ) → is_name_byte c ≡ true → is_written c ≡ true
-written c h = elim (c == 0) as (λ t. (c == 0) ≡ t → not t ≡ true) [
-  | true ↦ λ e. absurd (let z : c ≡ 0 = eqb-true c 0 e in let k : is_name_byte 0 ≡ true = subst (λ (b : ℕ). is_name_byte b ≡ true) z h in cc)
-  | false ↦ λ e. refl
-] refl
-
-all-written : (s : List ℕ) → AllPass is_name_byte s → AllPass is_written s
-all-written [] a = tt
-all-written (c ∷ cs) a = (written c a.0, all-written cs a.1)
-
-zeros-stop : (n : ℕ) → Stops is_written (replicate n 0)
-zeros-stop zero = tt
-zeros-stop (suc n) = refl
-
-pub text-name : (s : List ℕ) → AllPass is_name_byte s → name_text (name_of s) ≡ s
-unfolding name_text
-text-name s a =
-    let n : prefix_len is_written (s ++ replicate (32 - length s) 0) ≡ length s = run-len is_written s (replicate (32 - length s) 0) (all-written s a) (zeros-stop (32 - length s)) in
-    rw n (take-front s (replicate (32 - length s) 0))
 
 -- Numbers
 

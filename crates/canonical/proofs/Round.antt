@@ -158,9 +158,10 @@ whole-bare l names e a b u v _ (held {d} f k x o i) = absurd (let q : fits (prin
 -- round an expression that is read between u + 1 and v tokens stand parentheses
 parens-again : (l : Labels) (names : Names) (e : Expr) (a b : Counts) (u v d : ℕ) → u < most_tokens → v < most_tokens → Again l names Whole e a b (u + 1) v d → Again l names Unary e a b u (v + 1) (suc d)
 parens-again l names e a b u v d r o x =
-    elim (fits (printed l e).group Unary) as (λ c. fits (printed l e).group Unary ≡ c → Again l names Unary e a b u (v + 1) (suc d))
-    [ true ↦ λ q. bare q (bare-looser l names d e a b u (v + 1) (u + 1) v (omega arith) (omega arith) (whole-bare l names e a b (u + 1) v d x))
-    | false ↦ λ q. held q r (whole-bare l names e a b (u + 1) v d x) o (omega arith) ] refl
+    elim (fits (printed l e).group Unary) as (λ c. fits (printed l e).group Unary ≡ c → Again l names Unary e a b u (v + 1) (suc d)) [
+      | true ↦ λ q. bare q (bare-looser l names d e a b u (v + 1) (u + 1) v (omega arith) (omega arith) (whole-bare l names e a b (u + 1) v d x))
+      | false ↦ λ q. held q r (whole-bare l names e a b (u + 1) v d x) o (omega arith)
+    ] refl
 
 two-again : (l : Labels) (names : Names) (o : Op) (x y : Expr) (a b c : Counts) (u v z d : ℕ)
     → v < most_tokens
@@ -214,8 +215,8 @@ tabled : (l : Labels) (names : Names) (o : Op) (made lft rgt : Group) (operator 
 tabled l names o made lft rgt operator x y a b c u v z d h r join f g =
     subst (λ (k : Group). Again l names k (Two o x y) a c u z d) h.0
     (two-again l names o x y a b c u v z d r (λ s t k i at q j.
-      subst (λ (n : Group). Is names (part_of n) d s (Two o x y) k) (sym h.0)
-      (join s t k (subst (λ (n : Group). Is names (part_of n) d s x t) h.1 i) (ap operator at ∙ h.3) q (subst (λ (n : Group). Is names (part_of n) d (spend t) y k) h.2 j)))
+    subst (λ (n : Group). Is names (part_of n) d s (Two o x y) k) (sym h.0)
+    (join s t k (subst (λ (n : Group). Is names (part_of n) d s x t) h.1 i) (ap operator at ∙ h.3) q (subst (λ (n : Group). Is names (part_of n) d (spend t) y k) h.2 j)))
     (subst (λ (k : Group). Again l names k x a b u v d) (sym h.1) f)
     (subst (λ (k : Group). Again l names k y b c (v + 1) z d) (sym h.2) g))
 

@@ -57,6 +57,7 @@ extends-by xs ys h = ([], h ∙ sym (append-nil xs))
 
 mutual
   unfolding skip
+
   pub statement-grows : {d : ℕ} {names : Names} {s : Sight} {st : Stmt} {ns : Names} {t : Sight} → IsStmt d names s st ns t → Extends s.lets t.lets
   statement-grows (let_ {d} {names} {n} {e} {s} {t} {u} h r k f q g i) = (n ∷ [], lets-kept names i ∙ ap (λ (x : Sight). x.lets) q)
   statement-grows (set {d} {k} {names} {n} {e} {s} {t} h f g i) = extends-by s.lets t.lets (lets-kept names i)
@@ -252,13 +253,15 @@ list-one-more l d names ms ns xs st a b c f g depth s2 m k w =
 
 mutual
   unfolding skip statement_lines
+
   pub statement-again : (l : Labels) {d : ℕ} {names : Names} {s : Sight} {st : Stmt} {ns : Names} {t : Sight} → IsStmt d names s st ns t → Agrees names l → Extends t.lets l.lets → Agrees ns l × StatementClaim l d names st ns (counts s) (counts t)
   statement-again l (let_ {d} {names} {n} {e} {s} {t} {u} h r k f q g i) agree ext =
       let j : IsExpression names (skip (bound n (skip (skip s)))) e u = subst (λ (x : Sight). IsExpression names (skip x) e u) q i in
       let grown : Extends (s.lets ++ n ∷ []) l.lets = extends-through (s.lets ++ n ∷ []) u.lets l.lets (extends-by (s.lets ++ n ∷ []) u.lets (lets-kept names j)) ext in
-      let lab : label l (place.Local (length s.lets)) ≡ n = local-label l s.lets n grown in
-      (agrees-more names (declared n (place.Local (length s.lets))) l agree lab,
-       λ depth s2 m c w. let-again l d names n e s u agree lab r f j depth s2 m c (subst (λ (ps : List Piece). Walks ps s2.size s2.left m) (statement-let l (length s.lets) e depth) w))
+      let lab : label l (place.Local (length s.lets)) ≡ n = local-label l s.lets n grown in (
+        agrees-more names (declared n (place.Local (length s.lets))) l agree lab,
+        λ depth s2 m c w. let-again l d names n e s u agree lab r f j depth s2 m c (subst (λ (ps : List Piece). Walks ps s2.size s2.left m) (statement-let l (length s.lets) e depth) w),
+      )
   statement-again l (set {d} {k} {names} {n} {e} {s} {t} h f g i) agree ext =
       (agree, λ depth s2 m c w. set-again l d k names n e s t agree f i depth s2 m c (subst (λ (ps : List Piece). Walks ps s2.size s2.left m) (statement-set l k e depth) w))
   statement-again l (store {d} {names} {a} {e} {s} {t} {u} h r i g k j) agree ext =

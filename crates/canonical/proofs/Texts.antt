@@ -9,7 +9,8 @@ use Rattle.nest_tokens.specs.declared.token.Mark.{Mark}
 use Rattle.nest_tokens.specs.declared.token.Name.{Name}
 use Rattle.nest_tokens.specs.declared.token.Token.TheVariants as token
 use Rattle.nest_tokens.specs.Tokens.{spelling}
-use Rattle.canonical.specs.Pieces.{Piece, Word, Space, Indent, Newline, name_text, token_text, piece_text, text_of, plain, name, number, signed, spaced, line}
+use Rattle.nest_tokens.specs.Spellings.{name_text}
+use Rattle.canonical.specs.Pieces.{Piece, Word, Space, Indent, Newline, token_text, piece_text, text_of, plain, name, number, signed, spaced, line}
 
 pub text-nil : text_of [] ≡ []
 unfolding text_of

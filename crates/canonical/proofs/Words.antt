@@ -1,10 +1,10 @@
 -- The words of commands.
 use Rattle.std.proofs.Common.{◌≡◌, List, refl}
 use Rattle.nest_tokens.specs.Lexing.{name_of}
+use Rattle.nest_tokens.specs.Spellings.{name_text}
 use Rattle.nest_grammar.specs.declared.script.CommandWord.{CommandWord}
 use Rattle.nest_grammar.specs.declared.script.CommandWord.TheVariants as word
 use Rattle.nest_grammar.specs.Scripts.{word_spelling}
-use Rattle.canonical.specs.Pieces.{name_text}
 
 -- a command's word has no zeros, so that all of it is written
 pub word-text : (w : CommandWord) → name_text (name_of (word_spelling w)) ≡ word_spelling w

@@ -1,6 +1,6 @@
 -- Pieces: what a canonical text is made of.
-use Rattle.std.specs.Prelude.{ℕ, suc, ◌*◌, ℤ, pos, negsuc, List, [], ◌∷◌, ◌++◌, take, replicate, Bool, not, ◌==◌}
-use Rattle.std.specs.List.{prefix_len, flat_map}
+use Rattle.std.specs.Prelude.{ℕ, suc, ◌*◌, ℤ, pos, negsuc, List, [], ◌∷◌, ◌++◌, replicate}
+use Rattle.std.specs.List.{flat_map}
 use Rattle.std.specs.Fmt.{signed_decimal}
 use Rattle.nest_tokens.specs.declared.token.Name.{Name}
 use Rattle.nest_tokens.specs.declared.token.Mark.{Mark}
@@ -8,6 +8,7 @@ use Rattle.nest_tokens.specs.declared.token.Mark.TheVariants as mark
 use Rattle.nest_tokens.specs.declared.token.Token.{Token}
 use Rattle.nest_tokens.specs.declared.token.Token.TheVariants as token
 use Rattle.nest_tokens.specs.Tokens.{spelling}
+use Rattle.nest_tokens.specs.Spellings.{name_text}
 
 -- a token, one space, the indent of a line, which is two spaces for each open brace, or a line's end
 pub data Piece : Type 0 where
@@ -15,13 +16,6 @@ pub data Piece : Type 0 where
   Space : Piece
   Indent : ℕ → Piece
   Newline : Piece
-
-abbrev pub is_written : ℕ → Bool
-is_written b = not (b == 0)
-
--- the bytes of a name: those before its zeros
-unfoldable pub name_text : Name → List ℕ
-name_text n = take (prefix_len is_written n.bytes) n.bytes
 
 -- how a token is written; none is written that is not one
 unfoldable pub token_text : Token → List ℕ

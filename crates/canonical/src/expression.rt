@@ -71,11 +71,7 @@ fn write_bare(labels: &Labels<'_>, expr: &Expr, page: &mut Page) -> Result<(), A
 
 /// Writes a whole expression.
 #[tactic(auto, unfolding(crate::specs::Expressions::expression_of))]
-pub fn write_expression(
-    labels: &Labels<'_>,
-    expr: &Expr,
-    page: &mut Page,
-) -> Result<(), AllocError>
+pub fn write_expression(labels: &Labels<'_>, expr: &Expr, page: &mut Page) -> Result<(), AllocError>
     ensures { OnOk result (page.new ≡ page.old ++ text_of (expression_of (labels_of labels.now) expr.now)) }
 {
     write_grouped(labels, expr, Group::Whole, page)

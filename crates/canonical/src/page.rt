@@ -1,10 +1,10 @@
 //! A text that is written piece by piece.
 
-ghost use Rattle.std.specs.Prelude.{◌≡◌, ◌++◌, ◌∷◌, [], ◌*◌, ◌+◌, ◌≤◌, length, replicate, OnOk, IfOk};
-ghost use Rattle.std.specs.List.{prefix_len};
+ghost use Rattle.std.specs.Prelude.{◌≡◌, ◌++◌, ◌∷◌, [], ◌*◌, ◌+◌, replicate, OnOk, IfOk};
 ghost use Rattle.std.specs.Fmt.{decimal, signed_decimal};
 ghost use Rattle.nest_tokens.specs.Tokens.{spelling};
-ghost use Rattle.canonical.specs.Pieces.{is_written, name_text, spaced, text_of};
+ghost use Rattle.nest_tokens.specs.Spellings.{name_text};
+ghost use Rattle.canonical.specs.Pieces.{spaced, text_of};
 
 use nest_tokens::{Mark, Name};
 use std::alloc::{AllocError, Global};
@@ -76,12 +76,10 @@ impl Page {
     }
 
     /// Writes a name.
-    #[tactic(auto, unfolding(crate::specs::Pieces::name_text))]
     pub fn name(&mut self, name: Name) -> Result<(), AllocError>
         ensures { OnOk result (self.new ≡ self.old ++ name_text name) }
     {
-        let len = name_len(&name.bytes);
-        self.text(&name.bytes[..len])
+        self.text(name.text())
     }
 
     /// Writes a number.
@@ -116,21 +114,6 @@ impl Page {
     {
         self.text(b"\n")
     }
-}
-
-/// Whether a byte is none of the zeros behind a name.
-fn is_written(byte: u8) -> bool
-    ensures { result ≡ is_written byte }
-{
-    byte != 0
-}
-
-/// How many bytes of a name are written.
-fn name_len(name: &[u8]) -> usize
-    ensures value { result ≡ prefix_len is_written name.now }
-    ensures within { result ≤ length name.now }
-{
-    name.iter().take_while(|byte| is_written(**byte)).count()
 }
 
 /// One more open brace. An indent of so many spaces finds no memory.

@@ -20,11 +20,7 @@ fn i() -> Expr {
 }
 
 fn two(alloc: Global, op: Op, left: Expr, right: Expr) -> Result<Expr, AllocError> {
-    Ok(Expr::Two(
-        op,
-        Boxed::new(alloc, left)?,
-        Boxed::new(alloc, right)?,
-    ))
+    Ok(Expr::Two(op, Boxed::new(alloc, left)?, Boxed::new(alloc, right)?))
 }
 
 fn minus(alloc: Global, operand: Expr) -> Result<Expr, AllocError> {

@@ -5,3 +5,4 @@ pub mod Names
 pub mod Places
 pub mod Computed
 pub mod Dividing
+pub mod Spelled

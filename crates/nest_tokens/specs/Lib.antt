@@ -4,3 +4,4 @@ pub mod Ahead
 pub mod Placed
 pub mod Division
 pub mod Examples
+pub mod Spellings

@@ -1,6 +1,6 @@
 //! The tokens of texts, and where they stand.
 
-use crate::{BadToken, Cursor, Mark, Token};
+use crate::{BadToken, Cursor, Mark, Name, Token};
 use std::alloc::{AllocError, Global};
 use std::test::Fail;
 
@@ -97,5 +97,17 @@ fn marks(rt: HostRuntime) -> Result<(), Fail> {
     assert!(rt; Token::Plain(Mark::Less).is(Mark::Less));
     assert!(rt; !Token::Plain(Mark::Less).is(Mark::AtMost));
     assert!(rt; !Token::End.is(Mark::Less));
+    Ok(())
+}
+
+#[test]
+fn text_of_a_name(rt: HostRuntime) -> Result<(), Fail> {
+    let mut bytes = [0; 32];
+    bytes[0] = b'a';
+    bytes[1] = b'1';
+    let short = Name { bytes };
+    assert_eq!(rt; short.text(), b"a1".as_slice());
+    let long = Name { bytes: [b'z'; 32] };
+    assert_eq!(rt; long.text(), [b'z'; 32].as_slice());
     Ok(())
 }

@@ -1,7 +1,9 @@
 //! Tokens: what they are and how the signs and the reserved words are spelled.
 
-ghost use Rattle.std.specs.Prelude.{◌≡◌, length};
+ghost use Rattle.std.specs.Prelude.{◌≡◌, ◌≤◌, length};
+ghost use Rattle.std.specs.List.{prefix_len};
 ghost use Rattle.nest_tokens.specs.Tokens.{spelling, is_mark, word_of, sign_at};
+ghost use Rattle.nest_tokens.specs.Spellings.{is_written, name_text};
 
 /// The most bytes of a name.
 pub const LONGEST_NAME: usize = 32;
@@ -118,6 +120,32 @@ const WORDS: [Mark; 13] = [
     Mark::If,
     Mark::Else,
 ];
+
+/// Whether a byte of a name is none of the zeros behind it.
+fn is_written(byte: u8) -> bool
+    ensures { result ≡ is_written byte }
+{
+    byte != 0
+}
+
+/// How many bytes stand before the zeros.
+fn written_len(bytes: &[u8]) -> usize
+    ensures value { result ≡ prefix_len is_written bytes.now }
+    ensures within { result ≤ length bytes.now }
+{
+    bytes.iter().take_while(|byte| is_written(**byte)).count()
+}
+
+impl Name {
+    /// The bytes of the name, without the zeros behind them.
+    #[tactic(auto, unfolding(crate::specs::Spellings::name_text))]
+    pub fn text(&self) -> &[u8]
+        ensures { result.now ≡ name_text self.now }
+    {
+        let len = written_len(&self.bytes);
+        &self.bytes[..len]
+    }
+}
 
 impl Mark {
     /// The bytes of the sign or word.
