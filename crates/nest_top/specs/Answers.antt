@@ -11,7 +11,7 @@ use Rattle.nest_grammar.specs.declared.file.File.{File}
 use Rattle.nest_grammar.specs.Files.{first_store, nests_of}
 use Rattle.nest_grammar.specs.Contents.{reading}
 use Rattle.canonical.specs.Contents.{canonical}
-use Rattle.canonical.specs.Pieces.{name_text}
+use Rattle.nest_tokens.specs.Spellings.{name_text}
 use Rattle.report.specs.Faults.{refusal_line}
 use Rattle.report.specs.Outcomes.{IsOutcome}
 use Rattle.command_line.specs.declared.command.Command.{Command}
