@@ -1,16 +1,15 @@
 -- Loops within loops.
-use Rattle.std.proofs.Common.{◌≡◌, ℕ, zero, suc, ◌+◌, ◌-◌, ◌<◌, ◌≤◌, List, [], ◌∷◌, ◌++◌, length, take, refl, sym, ◌∙◌, ap, arith, add-one, Option, Some, None, Result, Ok, Err, Bool, true, false, not, ◌&&◌, ◌==◌}
+use Rattle.std.proofs.Common.{◌≡◌, ℕ, zero, suc, ◌+◌, ◌-◌, ◌<◌, List, [], ◌∷◌, ◌++◌, length, take, refl, sym, ◌∙◌, ap, arith, add-one, Option, Some, None, Err, false, not, ◌&&◌, ◌==◌}
 use Rattle.std.proofs.lemmas.List.{append-nil as append_nil}
 use Rattle.nest_lang.specs.declared.tree.Stmt.{Stmt}
 use Rattle.nest_lang.specs.declared.tree.Loop.{Loop}
 use Rattle.nest_tokens.specs.declared.token.Name.{Name}
-use Rattle.nest_grammar.specs.declared.fault.TextFault.{TextFault}
 use Rattle.nest_grammar.specs.declared.fault.TextKind.TheVariants as kind
 use Rattle.nest_grammar.specs.declared.opening.LoopWord.{LoopWord}
 use Rattle.nest_grammar.specs.Sights.{Sight, here, stands}
-use Rattle.nest_grammar.specs.Readings.{Reading, refused, wrong, unexpected}
+use Rattle.nest_grammar.specs.Readings.{refused, unexpected}
 use Rattle.nest_grammar.specs.Names.{Names}
-use Rattle.nest_grammar.specs.Loops.{Loops, loop_word, loop_at, loop_of, loops, inside, has_any}
+use Rattle.nest_grammar.specs.Loops.{loop_word, loop_of, loops, inside, has_any}
 
 -- a loop where a level is left
 pub loops-below : (d level : ℕ) (names : Names) (w : LoopWord) (s : Sight) → 0 < d → loop_word (stands s) ≡ Some w → loops d level names s ≡ loop_of (loops (d - 1) (level + 1)) level names w s

@@ -1,14 +1,13 @@
 -- Statements one behind another, and the names that they let be seen.
-use Rattle.std.proofs.Common.{◌≡◌, ℕ, zero, suc, ◌+◌, ◌<◌, ◌≤◌, List, [], ◌∷◌, ◌++◌, length, length-take, take, refl, sym, ◌∙◌, ap, arith, Option, Some, None, Result, Ok, Err}
+use Rattle.std.proofs.Common.{◌≡◌, ℕ, zero, suc, ◌<◌, ◌≤◌, List, [], ◌∷◌, ◌++◌, length, length-take, take, refl, sym, ◌∙◌, ap, arith, Some, None, Result, Ok, Err}
 use Rattle.nest_lang.specs.declared.tree.Stmt.{Stmt}
-use Rattle.nest_grammar.specs.declared.file.Declared.{Declared}
 use Rattle.nest_grammar.specs.declared.fault.TextFault.{TextFault}
 use Rattle.nest_grammar.specs.declared.fault.TextKind.TheVariants as kind
 use Rattle.nest_grammar.specs.declared.opening.Opening.{Opening}
 use Rattle.nest_grammar.specs.Sights.{Sight, stands}
 use Rattle.nest_grammar.specs.Readings.{Reading, after, gives, many}
 use Rattle.nest_grammar.specs.Names.{Names}
-use Rattle.nest_grammar.specs.Statements.{opening_of, statement, another, listed, statements, branches}
+use Rattle.nest_grammar.specs.Statements.{opening_of, statement, another, statements}
 use Rattle.nest_grammar.proofs.Many.{many-stop}
 use Rattle.nest_grammar.proofs.Productions.{Part, starts, part-skipped, part-refused, local-branches, local-statements}
 use Rattle.nest_grammar.proofs.Chains.{statement-goes, statement-fails, statement-shorter}

@@ -1,6 +1,5 @@
 -- Parts one behind another, each behind a sign or a word.
-use Rattle.std.proofs.Common.{◌≡◌, ℕ, ◌+◌, ◌<◌, arith, ℤ, List, [], ◌∷◌, ◌++◌, length, refl, sym, ◌∙◌, ap, Option, Some, None, Result, Ok, Err, Bool, true, false}
-use Rattle.nest_lang.specs.declared.command.Command.{Command}
+use Rattle.std.proofs.Common.{◌≡◌, ℕ, ◌+◌, ◌<◌, arith, ℤ, List, [], ◌∷◌, ◌++◌, length, refl, sym, ◌∙◌, ap, Option, Some, None, Result, Ok, Err, true, false}
 use Rattle.nest_lang.specs.declared.tree.Place.TheVariants as place
 use Rattle.nest_tokens.specs.declared.token.Mark.{Mark}
 use Rattle.nest_tokens.specs.declared.token.Mark.TheVariants as mark
@@ -14,7 +13,7 @@ use Rattle.nest_grammar.specs.declared.opening.LoopWord.{LoopWord}
 use Rattle.nest_grammar.specs.declared.opening.LoopWord.TheVariants as word
 use Rattle.nest_grammar.specs.declared.opening.ItemWord.{ItemWord}
 use Rattle.nest_grammar.specs.Sights.{Sight, stands, skip}
-use Rattle.nest_grammar.specs.Readings.{Reading, after, gives, at_mark, many}
+use Rattle.nest_grammar.specs.Readings.{Reading, at_mark, many}
 use Rattle.nest_grammar.specs.Names.{Names, declared, scalars_from, names_of}
 use Rattle.nest_grammar.specs.Loops.{loop_word}
 use Rattle.nest_grammar.specs.Scripts.{Script, row_begins, next_row, command, next_command, candidate}

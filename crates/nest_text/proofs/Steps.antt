@@ -1,10 +1,9 @@
 -- Steps: productions in the words of the reader.
-use Rattle.std.proofs.Common.{◌≡◌, ℕ, zero, suc, ◌+◌, ◌<◌, ◌≤◌, ℤ, pos, negsuc, List, [], ◌∷◌, ◌++◌, length, take, drop, replicate, ◌-◌, refl, sym, ◌∙◌, ap, arith, Option, Some, None, Result, Ok, Err, Bool, true, false, nat_le, not, ◌==◌, if◌then◌else◌}
+use Rattle.std.proofs.Common.{◌≡◌, ℕ, zero, suc, ◌+◌, ◌<◌, ◌≤◌, ℤ, pos, negsuc, List, ◌++◌, length, drop, replicate, ◌-◌, refl, sym, ◌∙◌, ap, arith, Option, Some, None, Result, Ok, Err, Bool, true, false, nat_le, not, ◌==◌, if◌then◌else◌}
 use Rattle.std.proofs.lemmas.List.{drop-replicate}
 use Rattle.nest_lang.specs.declared.tree.Place.{Place}
 use Rattle.nest_lang.specs.declared.tree.Expr.{Expr}
 use Rattle.nest_lang.specs.declared.tree.Expr.TheVariants.{Neg, Load}
-use Rattle.nest_lang.specs.declared.tree.Stmt.{Stmt}
 use Rattle.nest_tokens.specs.declared.token.Name.{Name}
 use Rattle.nest_tokens.specs.declared.token.Token.{Token}
 use Rattle.nest_tokens.specs.declared.token.Token.TheVariants as token
@@ -61,11 +60,6 @@ pub number-none : (rule : ℕ → Bool) (what : TextKind) (s : Sight) (f : TextF
 unfolding refused
 number-none rule what s f h k = number-is rule what s ∙ (rw (h, k) refl)
 
--- the same, where memory may have run out
-pub number-err : (rule : ℕ → Bool) (what : TextKind) (s t u : Sight) (n : ℕ) (e : ReadRefusal) → number_of (stands s) ≡ Some n → Gives {A = Unit {0}} (Err e) t (passed (rule n) what s) → Gives {A = ℕ} (Err e) u (number_where rule what s)
-number-err rule what s t u n NoMemory h k = tt
-number-err rule what s t u n (Text f) h k = number-broken rule what s n f h k
-
 -- a number, whichever
 pub number-any : (s : Sight) (n : ℕ) → number_of (stands s) ≡ Some n → number s ≡ Ok (n, skip s)
 unfolding obeys
@@ -74,10 +68,6 @@ number-any s n h = number-is (λ i. true) kind.Range s ∙ (rw h refl)
 -- the same in the words of the reader, where the rule is what was tested
 pub number-takes : (rule : ℕ → Bool) (what : TextKind) (s t : Sight) (n : ℕ) (b : Bool) → number_of (stands s) ≡ Some n → passed b what s ≡ Ok (tt, t) → rule n ≡ b → number_where rule what s ≡ Ok (n, t)
 number-takes rule what s t n b h k q = number-taken rule what s t n h (ap (λ (x : Bool). passed x what s) q ∙ k)
-
-pub number-breaks : (rule : ℕ → Bool) (what : TextKind) (s t u : Sight) (n : ℕ) (b : Bool) (e : ReadRefusal) → number_of (stands s) ≡ Some n → Gives {A = Unit {0}} (Err e) t (passed b what s) → rule n ≡ b → Gives {A = ℕ} (Err e) u (number_where rule what s)
-number-breaks rule what s t u n b NoMemory h k q = tt
-number-breaks rule what s t u n b (Text f) h k q = number-broken rule what s n f h (ap (λ (x : Bool). passed x what s) q ∙ k)
 
 pub number-refuses : (rule : ℕ → Bool) (what : TextKind) (s : Sight) (n : ℕ) (b : Bool) (f : TextFault) → number_of (stands s) ≡ Some n → passed b what s ≡ Err f → rule n ≡ b → number_where rule what s ≡ Err f
 number-refuses rule what s n b f h k q = number-broken rule what s n f h (ap (λ (x : Bool). passed x what s) q ∙ k)
@@ -98,10 +88,6 @@ signed-broken rule what s t b n f m h k = rw (m, number-broken (λ i. rule (with
 pub signed-none : (rule : ℤ → Bool) (what : TextKind) (s t : Sight) (b : Bool) (f : TextFault) → minus s ≡ Ok (b, t) → number_of (stands t) ≡ None → f ≡ record { at = (here t).at; what = unexpected (stands t) } → signed_where rule what s ≡ Err f
 unfolding signed_where
 signed-none rule what s t b f m h k = rw (m, number-none (λ i. rule (with_sign b i)) what t f h k) refl
-
-pub signed-err : (rule : ℤ → Bool) (what : TextKind) (s t u v : Sight) (b : Bool) (n : ℕ) (e : ReadRefusal) → minus s ≡ Ok (b, t) → number_of (stands t) ≡ Some n → Gives {A = Unit {0}} (Err e) u (passed (rule (with_sign b n)) what t) → Gives {A = ℤ} (Err e) v (signed_where rule what s)
-signed-err rule what s t u v b n NoMemory m h k = tt
-signed-err rule what s t u v b n (Text f) m h k = signed-broken rule what s t b n f m h k
 
 -- a number from -8 to 8
 is_factor-is : (b : Bool) (n : ℕ) → is_factor (with_sign b n) ≡ nat_le n 8

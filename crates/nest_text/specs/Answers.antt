@@ -5,7 +5,7 @@ use Rattle.nest_tokens.specs.declared.token.Token.TheVariants as token
 use Rattle.nest_grammar.specs.declared.fault.TextFault.{TextFault}
 use Rattle.nest_grammar.specs.declared.fault.TextKind.{TextKind}
 use Rattle.nest_grammar.specs.Sights.{Sight, here, stands}
-use Rattle.nest_grammar.specs.Readings.{Reading, after, ◌>>=◌, unexpected, obeys, skipped}
+use Rattle.nest_grammar.specs.Readings.{Reading, ◌>>=◌, unexpected, obeys, skipped}
 use Rattle.nest_text.specs.declared.refusal.ReadRefusal.{ReadRefusal}
 use Rattle.nest_text.specs.declared.refusal.ReadRefusal.TheVariants.{Text, NoMemory}
 

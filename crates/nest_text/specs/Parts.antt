@@ -1,17 +1,13 @@
 -- Parts: readings that the reader does in functions of their own.
-use Rattle.std.specs.Prelude.{◌≡◌, ℕ, ℤ, pos, zero, suc, List, [], ◌∷◌, ◌++◌, Bool, true, false, ◌==◌, Option, Some, None}
+use Rattle.std.specs.Prelude.{ℕ, ℤ, pos, zero, suc, [], Bool, true, false, ◌==◌, Option, Some, None}
 use Rattle.nest_lang.specs.declared.tree.Expr.{Expr}
-use Rattle.nest_lang.specs.declared.tree.Expr.TheVariants.{Load}
 use Rattle.nest_lang.specs.declared.tree.Stmt.{Stmt}
-use Rattle.nest_lang.specs.declared.tree.Head.{Head}
-use Rattle.nest_tokens.specs.declared.token.Name.{Name}
 use Rattle.nest_tokens.specs.declared.token.Mark.TheVariants as mark
 use Rattle.nest_grammar.specs.declared.opening.Opening.{Opening}
 use Rattle.nest_grammar.specs.declared.fault.TextKind.TheVariants as kind
 use Rattle.nest_grammar.specs.declared.version.Version.{Version}
 use Rattle.nest_grammar.specs.declared.version.Version.TheVariants.{One, Two}
-use Rattle.nest_grammar.specs.Sights.{Sight}
-use Rattle.nest_grammar.specs.Readings.{Reading, after, ◌>>=◌, gives, refused, skipped, at_mark, many}
+use Rattle.nest_grammar.specs.Readings.{Reading, ◌>>=◌, gives, refused, skipped, at_mark, many}
 use Rattle.nest_grammar.specs.Scripts.{Script, ruled, is_size, command, next_command}
 use Rattle.nest_grammar.specs.Names.{Names}
 use Rattle.nest_grammar.specs.declared.opening.Start.TheVariants as start

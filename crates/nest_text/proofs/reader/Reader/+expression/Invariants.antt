@@ -1,4 +1,4 @@
-use Rattle.std.proofs.Common.{◌≡◌, ℕ, ◌+◌, ◌*◌, length}
+use Rattle.std.proofs.Common.{◌≡◌, ◌+◌, ◌*◌, length}
 use Rattle.nest_grammar.specs.Readings.{many}
 use Rattle.nest_grammar.specs.Expressions.{product_of, addition_of, operated, unary, term, sum}
 use Rattle.nest_text.proofs.reader.Reader.+expression.Given as goal

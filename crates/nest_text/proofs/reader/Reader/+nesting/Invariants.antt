@@ -1,4 +1,4 @@
-use Rattle.std.proofs.Common.{◌≡◌, ℕ, ◌+◌, ◌*◌}
+use Rattle.std.proofs.Common.{◌+◌, ◌*◌}
 use Rattle.nest_text.proofs.reader.Reader.+nesting.Given as goal
 
 abbrev pub decreases-rest : goal.decreases-rest

@@ -1,4 +1,4 @@
-use Rattle.std.proofs.Common.{◌≡◌, ℕ, ◌+◌, ◌*◌, ◌≤◌, length, take, List, []}
+use Rattle.std.proofs.Common.{◌≡◌, ℕ, ◌+◌, ◌*◌, ◌≤◌, length, take, []}
 use Rattle.nest_grammar.specs.Names.{Names}
 use Rattle.nest_text.proofs.Listing.{Going, going}
 use Rattle.nest_text.proofs.reader.Reader.+statement.Given as goal

@@ -1,4 +1,4 @@
-use Rattle.std.proofs.Common.{◌≡◌, ◌+◌, ◌<◌, length}
+use Rattle.std.proofs.Common.{◌≡◌, length}
 use Rattle.nest_tokens.specs.declared.token.Mark.TheVariants.{Comma}
 use Rattle.nest_grammar.specs.Readings.{at_mark, many}
 use Rattle.nest_grammar.specs.Contents.{next_value, data_values}

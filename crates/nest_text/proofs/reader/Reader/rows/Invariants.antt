@@ -1,4 +1,4 @@
-use Rattle.std.proofs.Common.{◌≡◌, ◌<◌, length}
+use Rattle.std.proofs.Common.{◌≡◌, length}
 use Rattle.nest_grammar.specs.Readings.{many}
 use Rattle.nest_grammar.specs.Scripts.{row_begins, next_row, rows}
 use Rattle.nest_text.proofs.reader.Reader.rows.Given as goal
