@@ -1,69 +1,114 @@
-//! Files: what a text gives, and how one is read.
+//! Files that were read, and what they give to run.
 
-ghost use Rattle.std.specs.Prelude.{◌≡◌};
-ghost use Rattle.nest_grammar.specs.Contents.{reading};
+ghost use Rattle.std.specs.Prelude.{◌≡◌, ◌+◌, ◌≤◌, ◌+ℤ◌, ◌*ℤ◌, pos, true, length, map, option_map, slice_get, FitsSigned, IfOk, IfSome};
+ghost use Rattle.std.specs.Int.{w64};
+ghost use Rattle.std.specs.List.{All, prefix_len};
+ghost use Rattle.nest_lang.specs.Rules.{keeps_rules};
+ghost use Rattle.nest_grammar.specs.Contents.{reading, ramp_fits};
+ghost use Rattle.nest_grammar.specs.Files.{after_item, after_items, first_memory, first_store, nests_of, set_ramp, set_words};
+ghost use Rattle.grammar_laws.specs.Rules.{IsSpelled, KeepsRules, item_fits};
+ghost use Rattle.canonical.specs.Contents.{canonical};
+ghost use Rattle.nest_tokens.specs.Spellings.{name_text};
 ghost use Rattle.nest_text.specs.Answers.{Answers};
+ghost use Rattle.nest_text.specs.Files.{ByGrammar, scalar_names, scripts_of, script_at};
 
-use crate::limits::MOST_BYTES;
-use crate::reader::Reader;
 use crate::refusal::{NoMemory, ReadRefusal};
-use nest_grammar::{File, Item, TextFault, TextKind};
+use crate::whole::read_whole;
+use canonical::write_file;
+use nest_grammar::{File, Item, Scalar};
 use nest_lang::{Command, Nest, State};
-use nest_tokens::{LONGEST_NAME, Name};
-use sqlite_items::Items;
-use std::alloc::Global;
+use nest_tokens::Name;
+use std::alloc::{AllocError, Global};
+use std::marker::Model;
 
-/// What a text gives. Only `read_nest` makes one.
+/// What a text gives. Only `read_nest` makes one, so each keeps the rules of files that were read: at most
+/// 16 scalars and 1,048,576 words, items that set words of the memory alone, and one to eight nests of one
+/// to six loops.
 #[derive(Debug, Drop)]
 pub struct NestFile {
     file: File,
 }
 
-/// Reads a text by the productions.
-#[tactic(auto, unfolding(nest_grammar::specs::Contents::reading))]
-fn read_whole(alloc: Global, text: &[u8]) -> Result<File, ReadRefusal>
-    ensures { Answers result (reading text.now) }
-{
-    if text.len() > MOST_BYTES {
-        return Err(ReadRefusal::Text(TextFault {
-            at: MOST_BYTES as u64,
-            what: TextKind::Long,
-        }));
-    }
-    Reader::new(alloc, text).contents()
+impl Model for NestFile {
+    ghost use Rattle.nest_grammar.specs.declared.file.File.{File};
+    ghost use Rattle.grammar_laws.specs.Rules.{KeepsRules};
+    ghost use Rattle.nest_lang.specs.contracts.tree.Expr as expr;
+    ghost use Rattle.nest_lang.specs.contracts.tree.Stmt as stmt;
+    ghost use Rattle.std.specs.Coded.{codes};
+
+    ghost Value = { File };
+    ghost coded = { Prim.hlevel (codes, expr.the_row.coded, stmt.the_row.coded) };
+    ghost view = { λ f. f.file };
+    ghost invariant = { λ f. KeepsRules f.file };
 }
 
-/// Reads a text: the file that it reads as (docs/DEFINITIONS.md, Reading). `Text` exactly where the text
-/// has no reading, with the first token that is wrong and its kind; `NoMemory` where a growth was refused.
-pub fn read_nest(alloc: Global, text: &[u8]) -> Result<NestFile, ReadRefusal> {
+/// Reads a text of at most 1,048,576 bytes: the file that it is (docs/DEFINITIONS.md, Reading). `Text`
+/// comes exactly where the text has no reading, with the place of its first refused token and the kind of
+/// its fault; `NoMemory` where a growth was refused.
+pub fn read_nest(alloc: Global, text: &[u8]) -> Result<NestFile, ReadRefusal>
+    ensures reading { Answers result (reading text.now) }
+    ensures grammar { ByGrammar text.now result }
+{
     let file = read_whole(alloc, text)?;
     Ok(NestFile { file })
 }
 
+/// The canonical text of a file (docs/DEFINITIONS.md, Canonical text). `NoMemory` where there is no memory
+/// for it.
+pub fn write_nest(alloc: Global, file: &NestFile) -> Result<Vec<u8>, NoMemory>
+    ensures { IfOk result (λ bytes. bytes.items ≡ canonical file.now) }
+{
+    let bytes = write_file(alloc, &file.file)?;
+    Ok(bytes)
+}
+
 impl NestFile {
-    /// The number of nests.
-    pub fn nests(&self) -> usize {
+    /// The number of nests: 1 to 8. They run one after another.
+    pub fn nests(&self) -> usize
+        ensures { result ≡ length (nests_of self.now) }
+    {
         self.file.units.len()
     }
 
-    /// A nest, numbered from 0. None exactly where there is no such nest.
-    pub fn nest(&self, number: usize) -> Option<&Nest> {
+    /// A nest, numbered from 0. None exactly where there is no such nest. It has one to six loops, no `for`
+    /// with a step of 0, and a statement in its innermost body.
+    pub fn nest(&self, number: usize) -> Option<&Nest>
+        ensures nest { option_map (λ nest. nest.now) result ≡ slice_get (nests_of self.now) number }
+        ensures rules { IfSome result (λ nest. keeps_rules nest.now.loops ≡ true) }
+    {
         match self.file.units.get(number) {
             Some(unit) => Some(&unit.nest),
             None => None,
         }
     }
 
-    /// The number of candidates of a nest, numbered from 0. None exactly where there is no such nest.
-    pub fn scripts(&self, nest: usize) -> Option<usize> {
+    /// The name of a scalar, numbered from 0 in the order of their declaration. None exactly where there is
+    /// no such scalar.
+    pub fn scalar_name(&self, number: u8) -> Option<&str>
+        ensures { option_map (λ name. name.now) result ≡ slice_get (scalar_names self.now) number }
+    {
+        match self.file.scalars.get(number as usize) {
+            Some(scalar) => Some(text_of_name(&scalar.name)),
+            None => None,
+        }
+    }
+
+    /// The number of candidates of a nest, which is numbered from 0. None exactly where there is no such
+    /// nest.
+    pub fn scripts(&self, nest: usize) -> Option<usize>
+        ensures { result ≡ option_map length (slice_get (scripts_of self.now) nest) }
+    {
         match self.file.units.get(nest) {
             Some(unit) => Some(unit.scripts.len()),
             None => None,
         }
     }
 
-    /// The commands of a candidate of a nest, both numbered from 0. None exactly where there is none.
-    pub fn script(&self, nest: usize, number: usize) -> Option<&[Command]> {
+    /// The commands of a candidate of a nest, both numbered from 0, in their order. None exactly where there
+    /// is no such nest or it has no such candidate.
+    pub fn script(&self, nest: usize, number: usize) -> Option<&[Command]>
+        ensures { option_map (λ script. script.now) result ≡ script_at self.now nest number }
+    {
         match self.file.units.get(nest) {
             Some(unit) => match unit.scripts.get(number) {
                 Some(script) => Some(script.as_slice()),
@@ -72,4 +117,106 @@ impl NestFile {
             None => None,
         }
     }
+
+    /// The first memory and scalars: each word is 0 that no item sets, and a later item overrides
+    /// (docs/DEFINITIONS.md, First store). `NoMemory` where there is no memory for them.
+    pub fn start(&self, alloc: Global) -> Result<State, NoMemory>
+        ensures store { IfOk result (λ state. state ≡ first_store self.now) }
+        ensures scalars { IfOk result (λ state. length state.scalars ≤ 16) }
+    {
+        Ok(State {
+            memory: first_memory(alloc, &self.file)?,
+            scalars: first_scalars(alloc, self.file.scalars.as_slice())?,
+        })
+    }
+}
+
+/// A name as text: its bytes are ASCII.
+fn text_of_name(name: &Name) -> &str
+    requires { IsSpelled name.now }
+    ensures { result.now ≡ name_text name.now }
+{
+    let Ok(text) = std::str::from_utf8(name.text()) else {
+        unreachable!()
+    };
+    text
+}
+
+/// The first values of scalars.
+fn first_scalars(alloc: Global, scalars: &[Scalar]) -> Result<Vec<i64>, AllocError>
+    ensures { IfOk result (λ values. values.items ≡ map (λ c. c.value) scalars.now) }
+{
+    let mut values = Vec::new(alloc);
+    for scalar in scalars {
+        values.push(scalar.value)?;
+    }
+    Ok(values)
+}
+
+/// The first memory of a file.
+#[tactic(auto, unfolding(nest_grammar::specs::Files::first_memory))]
+fn first_memory(alloc: Global, file: &File) -> Result<Vec<i64>, AllocError>
+    requires { KeepsRules file.now }
+    ensures { IfOk result (λ memory. memory.items ≡ first_memory file.now) }
+{
+    let mut memory = vec![in alloc; 0; file.words]?;
+    set_items(file.items.as_slice(), memory.as_mut_slice());
+    Ok(memory)
+}
+
+/// Sets the words of items, in their order.
+fn set_items(items: &[Item], memory: &mut [i64])
+    requires { All (λ i. item_fits (length memory.old) i ≡ true) items.now }
+    ensures { memory.new ≡ after_items memory.old items.now }
+{
+    for item in items {
+        set_item(item, memory);
+    }
+}
+
+/// Sets the words of an item.
+fn set_item(item: &Item, memory: &mut [i64])
+    requires { item_fits (length memory.old) item.now ≡ true }
+    ensures { memory.new ≡ after_item memory.old item.now }
+{
+    match item {
+        Item::Data { first, values } => set_words(*first, values.as_slice(), memory),
+        Item::Ramp {
+            first,
+            count,
+            stride,
+            start,
+            growth,
+        } => set_ramp(*first, *count, *stride, *start, *growth, memory),
+    }
+}
+
+/// Sets the words from an address on to these values.
+fn set_words(first: u64, values: &[i64], memory: &mut [i64])
+    requires { first + length values.now ≤ length memory.old }
+    ensures { memory.new ≡ set_words first values.now memory.old }
+{
+    'values: for (number, value) in values.iter().enumerate() {
+        memory[first as usize + number] = *value;
+    }
+}
+
+/// Sets `count` words, from `first` on and each `stride` behind the last, to values from `start` on that
+/// grow by `growth`.
+fn set_ramp(first: u64, count: u64, stride: u64, start: i64, growth: i64, memory: &mut [i64])
+    requires { ramp_fits (length memory.old) first count stride start growth ≡ true }
+    ensures { memory.new ≡ set_ramp count first stride start growth memory.old }
+{
+    'words: for number in 0..count {
+        let address = first + stride * number;
+        memory[address as usize] = ramp_value(start, growth, number);
+    }
+}
+
+/// The value of a word of a ramp, which is an i64.
+fn ramp_value(start: i64, growth: i64, number: u64) -> i64
+    requires { FitsSigned w64 (start +ℤ growth *ℤ pos number) }
+    ensures { result ≡ start +ℤ growth *ℤ pos number }
+{
+    (i128::from(start) + i128::from(growth) * i128::from(number)) as i64
 }

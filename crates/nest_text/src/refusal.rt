@@ -17,6 +17,12 @@ impl From<AllocError> for NoMemory {
     }
 }
 
+impl From<canonical::NoMemory> for NoMemory {
+    fn from(_: canonical::NoMemory) -> Self {
+        NoMemory
+    }
+}
+
 /// Why a text was not read: its first fault, or a growth that was refused.
 #[derive(Clone, Copy, Debug, PartialEq, Eq, Error)]
 pub enum ReadRefusal {
