@@ -1,16 +1,12 @@
 -- The pieces of a file are laid out so that no token is lengthened by what stands behind it.
-use Rattle.std.proofs.Common.{◌≡◌, ℕ, zero, suc, ◌+◌, ℤ, pos, negsuc, List, [], ◌∷◌, ◌++◌, length, map, refl, sym, ◌∙◌, ap, subst, Option, Some, None, Bool, true, false, cond, append_assoc, append-nil}
+use Rattle.std.proofs.Common.{◌≡◌, ℕ, suc, ◌+◌, ℤ, pos, negsuc, List, [], ◌∷◌, ◌++◌, length, map, refl, sym, subst, true, false, cond, append_assoc, append-nil}
 use Rattle.std.specs.List.{flat_map, AllByRecursion}
-use Rattle.nest_lang.specs.declared.tree.Op.{Op}
-use Rattle.nest_lang.specs.declared.tree.Op.TheVariants as op
 use Rattle.nest_lang.specs.declared.tree.Expr.{Expr, map-Expr, roll-Expr}
 use Rattle.nest_lang.specs.declared.tree.Expr.TheOpen.{Expr-F}
 use Rattle.nest_lang.specs.declared.tree.Expr.TheFolds.{fold-roll-Expr, ind-Expr}
-use Rattle.nest_lang.specs.declared.tree.Expr.TheVariants.{Number, Var, Load, Neg, Two}
 use Rattle.nest_lang.specs.declared.tree.Stmt.{Stmt, map-Stmt, roll-Stmt}
 use Rattle.nest_lang.specs.declared.tree.Stmt.TheOpen.{Stmt-F}
 use Rattle.nest_lang.specs.declared.tree.Stmt.TheFolds.{fold-roll-Stmt, ind-Stmt}
-use Rattle.nest_lang.specs.declared.tree.Stmt.TheVariants.{Let, Set, Store, If}
 use Rattle.nest_lang.specs.declared.tree.Head.{Head}
 use Rattle.nest_lang.specs.declared.tree.Head.TheVariants.{For, While}
 use Rattle.nest_lang.specs.declared.tree.Loop.{Loop}
@@ -20,10 +16,8 @@ use Rattle.nest_lang.specs.Values.{same}
 use Rattle.nest_tokens.specs.declared.token.Name.{Name}
 use Rattle.nest_tokens.specs.declared.token.Mark.{Mark}
 use Rattle.nest_tokens.specs.declared.token.Mark.TheVariants as mark
-use Rattle.nest_tokens.specs.declared.token.Token.{Token}
 use Rattle.nest_tokens.specs.declared.token.Token.TheVariants as token
-use Rattle.nest_tokens.specs.declared.token.Spot.{Spot}
-use Rattle.nest_tokens.specs.Lexing.{tokens_from, tokens}
+use Rattle.nest_tokens.specs.Lexing.{tokens}
 use Rattle.nest_grammar.specs.declared.version.Version.{Version}
 use Rattle.nest_grammar.specs.declared.file.Scalar.{Scalar}
 use Rattle.nest_grammar.specs.declared.file.Item.{Item}
@@ -35,16 +29,16 @@ use Rattle.nest_grammar.specs.Scripts.{Script}
 use Rattle.canonical.specs.declared.group.Group.{Group}
 use Rattle.canonical.specs.declared.group.Group.TheVariants.{Unary, Whole}
 use Rattle.canonical.specs.Groups.{fits, left_of, right_of, mark_of}
-use Rattle.canonical.specs.Pieces.{Piece, Word, Space, Indent, Newline, plain, name, number, signed, spaced, line, text_of}
+use Rattle.canonical.specs.Pieces.{Piece, Word, Space, Indent, Newline, plain, name, signed, spaced, line, text_of}
 use Rattle.canonical.specs.Labels.{Labels, label, in_head, in_pre, in_post}
-use Rattle.canonical.specs.Expressions.{Printed, as_group, both, level, printed, expression_of}
+use Rattle.canonical.specs.Expressions.{Printed, as_group, level, printed, expression_of}
 use Rattle.canonical.specs.Statements.{let_line, set_line, store_line, if_line, else_line, close_line, Lines, each, else_branch, statement_level, statement_of, statement_lines}
 use Rattle.canonical.specs.Loops.{step_of, bounds_of, heading_of, opening_line, loop_lines}
 use Rattle.canonical.specs.Scripts.{command_name, operand, signed_operand, command_of, next_command, commands_of, candidate_line}
 use Rattle.canonical.specs.Contents.{version_line, scalar_line, memory_line, next_value, value_list, item_line, labels_in, unit_lines, pieces, canonical}
 use Rattle.canonical.specs.Layout.{words, AllWritten}
 use Rattle.canonical.proofs.Walking.{Walks}
-use Rattle.canonical.proofs.LayoutPieces.{State, Free, Worded, Signed, is_sign, with_equals, Laid, shown, pieces-read, words-walk}
+use Rattle.canonical.proofs.LayoutPieces.{State, Free, Worded, Signed, is_sign, with_equals, Laid, pieces-read, words-walk}
 
 -- anywhere; where anything may begin but `=`; behind a space or a line's end
 abbrev Any : State → Type 0

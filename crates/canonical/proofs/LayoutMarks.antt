@@ -1,12 +1,12 @@
 -- Lexing a sign or a reserved word from its spelling.
-use Rattle.std.proofs.Common.{◌≡◌, ℕ, List, [], ◌∷◌, ◌++◌, length, refl, sym, ◌∙◌, ap, subst, Option, Some, None, Bool, true, false, cond, ◌==◌, nat_eq}
+use Rattle.std.proofs.Common.{◌≡◌, ℕ, List, [], ◌∷◌, ◌++◌, length, refl, sym, ◌∙◌, ap, subst, Some, Bool, true, false, ◌==◌, nat_eq}
 use Rattle.std.proofs.lemmas.Bool.{eqb-true}
 use Rattle.nest_tokens.specs.declared.token.Mark.{Mark}
 use Rattle.nest_tokens.specs.declared.token.Mark.TheVariants as mark
 use Rattle.nest_tokens.specs.declared.token.Token.{Token}
 use Rattle.nest_tokens.specs.declared.token.Token.TheVariants as token
 use Rattle.nest_tokens.specs.Tokens.{spelling, word_of, sign_at}
-use Rattle.nest_tokens.specs.Lexing.{is_letter, is_digit, is_name_byte, named, Lexed, sign_or_byte, lexed}
+use Rattle.nest_tokens.specs.Lexing.{is_letter, is_digit, is_name_byte, named, sign_or_byte, lexed}
 use Rattle.nest_tokens.specs.Division.{Begins, Stops, AllPass}
 use Rattle.canonical.proofs.LayoutTokens.{lexed-run}
 

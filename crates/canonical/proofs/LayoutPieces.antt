@@ -1,13 +1,13 @@
 -- Pieces that are laid out so that no token is lengthened by what stands behind it are read as their words.
-use Rattle.std.proofs.Common.{◌≡◌, ℕ, zero, suc, ◌+◌, ◌-◌, ◌*◌, List, [], ◌∷◌, ◌++◌, length, map, drop, replicate, refl, sym, ◌∙◌, ap, subst, arith, Option, Some, None, Bool, true, false, cond, append_assoc, ◌==◌, pos}
+use Rattle.std.proofs.Common.{◌≡◌, ℕ, zero, suc, ◌*◌, List, [], ◌∷◌, ◌++◌, length, map, drop, replicate, refl, sym, ◌∙◌, ap, arith, Some, None, Bool, true, false, ◌==◌, pos}
 use Rattle.nest_tokens.specs.declared.token.Mark.{Mark}
 use Rattle.nest_tokens.specs.declared.token.Mark.TheVariants as mark
 use Rattle.nest_tokens.specs.declared.token.Token.{Token}
 use Rattle.nest_tokens.specs.declared.token.Token.TheVariants as token
 use Rattle.nest_tokens.specs.declared.token.Spot.{Spot}
 use Rattle.nest_tokens.specs.Tokens.{spelling}
-use Rattle.nest_tokens.specs.Lexing.{is_letter, is_digit, is_name_byte, is_blank, between, gap, name_of, Lexed, lexed, spots, tokens_from, tokens}
-use Rattle.nest_tokens.specs.Division.{Begins, Stops, AllPass}
+use Rattle.nest_tokens.specs.Lexing.{is_letter, is_digit, is_name_byte, is_blank, between, gap, name_of, Lexed, lexed, spots, tokens_from}
+use Rattle.nest_tokens.specs.Division.{Begins, Stops}
 use Rattle.nest_tokens.proofs.Places.{tokens-gap, tokens-cons}
 use Rattle.nest_tokens.specs.Spellings.{name_text}
 use Rattle.canonical.specs.Pieces.{Piece, Word, Space, Indent, Newline, token_text, piece_text, text_of}

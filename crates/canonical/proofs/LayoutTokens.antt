@@ -1,16 +1,14 @@
 -- Lexing a token from its spelling, where what stands behind it can't be a part of it.
-use Rattle.std.proofs.Common.{◌≡◌, ℕ, zero, suc, ◌+◌, ◌-◌, ◌*◌, ◌/◌, ◌%◌, ◌^◌, ◌<◌, ◌≤◌, List, [], ◌∷◌, ◌++◌, length, take, drop, replicate, refl, sym, ◌∙◌, ap, arith, subst, Option, Some, None, Bool, true, false, cond, ◌==◌, nat_lt, nat_le, pos, append-nil}
-use Rattle.std.specs.Prelude.{not, ◌&&◌, ◌||◌}
+use Rattle.std.proofs.Common.{◌≡◌, ℕ, ◌+◌, ◌-◌, ◌*◌, ◌%◌, ◌^◌, ◌<◌, ◌≤◌, List, [], ◌∷◌, ◌++◌, length, drop, refl, ◌∙◌, ap, arith, None, Bool, true, false, nat_lt, nat_le, pos}
+use Rattle.std.specs.Prelude.{◌||◌}
 use Rattle.std.specs.List.{prefix_len}
 use Rattle.std.specs.Fmt.{signed_decimal, decimal as decimal_text}
 use Rattle.std.proofs.lemmas.Fmt.{decimal_by_steps}
-use Rattle.std.proofs.lemmas.Bool.{lt-ltb, le-leb, ltb-true, leb-true, eqb-true}
-use Rattle.nest_tokens.specs.declared.token.Mark.{Mark}
-use Rattle.nest_tokens.specs.declared.token.Mark.TheVariants as mark
+use Rattle.std.proofs.lemmas.Bool.{lt-ltb, le-leb}
 use Rattle.nest_tokens.specs.declared.token.Token.{Token}
 use Rattle.nest_tokens.specs.declared.token.Token.TheVariants as token
-use Rattle.nest_tokens.specs.Tokens.{spelling, word_of, sign_at}
-use Rattle.nest_tokens.specs.Lexing.{is_letter, is_digit, is_name_byte, decimal_from, decimal, numbered, name_of, word_or_name, named, Lexed, spelled_by, sign_or_byte, lexed}
+use Rattle.nest_tokens.specs.Tokens.{word_of}
+use Rattle.nest_tokens.specs.Lexing.{is_letter, is_digit, is_name_byte, decimal_from, decimal, numbered, name_of, named, spelled_by, lexed}
 use Rattle.nest_tokens.specs.Division.{Begins, Stops, AllPass}
 use Rattle.nest_tokens.proofs.Spelled.{run-len, take-front}
 

@@ -1,5 +1,5 @@
 -- Each token of a text is written as a token is, or is refused wherever it stands.
-use Rattle.std.proofs.Common.{◌≡◌, ℕ, ◌^◌, ◌<◌, ◌≤◌, List, [], ◌∷◌, length, refl, sym, ap, subst, arith, Option, Some, None, Bool, true, false, cond, nat_lt, pos}
+use Rattle.std.proofs.Common.{◌≡◌, ℕ, ◌^◌, ◌≤◌, List, [], ◌∷◌, length, refl, arith, Option, Some, None, true, false, cond, nat_lt, pos}
 use Rattle.std.proofs.lemmas.Bool.{ltb-true}
 use Rattle.nest_tokens.specs.declared.token.Mark.{Mark}
 use Rattle.nest_tokens.specs.declared.token.Token.{Token}
@@ -7,7 +7,7 @@ use Rattle.nest_tokens.specs.declared.token.Token.TheVariants as token
 use Rattle.nest_tokens.specs.declared.token.BadToken.TheVariants as bad
 use Rattle.nest_tokens.specs.declared.token.Spot.{Spot}
 use Rattle.nest_tokens.specs.Tokens.{word_of}
-use Rattle.nest_tokens.specs.Lexing.{is_letter, is_name_byte, decimal, numbered, name_of, word_or_name, named, tokens}
+use Rattle.nest_tokens.specs.Lexing.{is_letter, is_name_byte, decimal, numbered, word_or_name, named, tokens}
 use Rattle.nest_tokens.specs.Division.{Begins, AllPass, Spells, name, number, sign, bad_byte, Divides, ends, goes_on}
 use Rattle.nest_tokens.proofs.Dividing.{tokens-divide}
 use Rattle.canonical.specs.Layout.{IsWritten}

@@ -1,11 +1,9 @@
 -- The words of canonical pieces are written as tokens are: expressions and statements.
-use Rattle.std.proofs.Common.{◌≡◌, ℕ, zero, suc, ◌+◌, ◌^◌, ◌<◌, ℤ, pos, List, [], ◌∷◌, ◌++◌, length, refl, sym, ◌∙◌, ap, Option, Some, None, Bool, true, false, cond, subst}
-use Rattle.std.specs.List.{flat_map}
+use Rattle.std.proofs.Common.{◌≡◌, ℕ, ◌+◌, ℤ, List, [], ◌∷◌, ◌++◌, length, sym, true, false, cond, subst}
 use Rattle.nest_lang.specs.declared.tree.Op.{Op}
-use Rattle.nest_lang.specs.declared.tree.Place.{Place}
 use Rattle.nest_lang.specs.declared.tree.Place.TheVariants as place
 use Rattle.nest_lang.specs.declared.tree.Expr.{Expr}
-use Rattle.nest_lang.specs.declared.tree.Expr.TheVariants.{Number, Var, Load, Neg, Two}
+use Rattle.nest_lang.specs.declared.tree.Expr.TheVariants.{Two}
 use Rattle.nest_lang.specs.declared.tree.Stmt.{Stmt}
 use Rattle.nest_lang.specs.declared.tree.Stmt.TheVariants.{Let, Set, Store, If}
 use Rattle.nest_tokens.specs.declared.token.Name.{Name}
@@ -15,20 +13,20 @@ use Rattle.nest_tokens.specs.declared.token.Token.{Token}
 use Rattle.nest_tokens.specs.declared.token.Token.TheVariants as token
 use Rattle.nest_tokens.specs.declared.token.Spot.{Spot}
 use Rattle.nest_grammar.specs.Sights.{Sight, first, rest, here, stands, skip, spend, opens, numbered, afresh, bound, in_block}
-use Rattle.nest_grammar.specs.Names.{Names, declared, place_of}
+use Rattle.nest_grammar.specs.Names.{Names}
 use Rattle.nest_grammar.specs.Grammar.{Part, Is, number as is_number, variable, minus, parens, load, factor, product, summand, addition, side, comparison, IsExpression, IsStmt, let_, set, store, when, either, IsBraced, braced, IsList, none as list_none, more, IsBlock, block}
 use Rattle.canonical.specs.declared.group.Group.{Group}
 use Rattle.canonical.specs.declared.group.Group.TheVariants.{Unary, Whole}
 use Rattle.canonical.specs.Groups.{fits, left_of, right_of, mark_of}
-use Rattle.canonical.specs.Pieces.{Piece, Word, Space, Indent, Newline, plain, name, number, spaced, line}
+use Rattle.canonical.specs.Pieces.{Piece, Word, Space, Indent, Newline, plain, spaced, line}
 use Rattle.canonical.specs.Labels.{Labels, label, with_lets}
-use Rattle.canonical.specs.Expressions.{Printed, as_group, both, printed, expression_of}
+use Rattle.canonical.specs.Expressions.{Printed, as_group, printed, expression_of}
 use Rattle.canonical.specs.Statements.{let_line, set_line, store_line, if_line, else_line, close_line, statement_of, statement_lines, otherwise}
 use Rattle.canonical.specs.Layout.{IsWritten, AllWritten}
 use Rattle.canonical.proofs.Printing.{printed-number, printed-var, printed-load, printed-neg, printed-two}
 use Rattle.canonical.proofs.Stated.{statement-let, statement-set, statement-store, statement-if, lines-last}
 use Rattle.canonical.proofs.Round.{Agrees}
-use Rattle.canonical.proofs.StatementsAgain.{Extends, extends-self, extends-through, extends-by, lets-kept, statement-grows, braced-grows, local-label, statement-again, list-again}
+use Rattle.canonical.proofs.StatementsAgain.{Extends, extends-self, extends-through, extends-by, lets-kept, statement-grows, braced-grows, local-label, list-again}
 use Rattle.canonical.proofs.LayoutWritten.{Writable, AllWritable}
 
 -- the words of these pieces are written as tokens are

@@ -1,54 +1,47 @@
 -- The words of canonical pieces are written as tokens are: loops, scripts and files.
-use Rattle.std.proofs.Common.{◌≡◌, ◌≢◌, ℕ, zero, suc, ◌+◌, ◌^◌, ◌<◌, ◌≤◌, ℤ, pos, negsuc, List, [], ◌∷◌, ◌++◌, length, add-one, refl, sym, ◌∙◌, ap, arith, Option, Some, None, Bool, true, false, cond, subst, codes}
+use Rattle.std.proofs.Common.{◌≡◌, ℕ, zero, suc, ◌+◌, ◌<◌, ℤ, pos, List, [], ◌∷◌, ◌++◌, length, add-one, refl, sym, ap, arith, Option, Some, true, false, cond, subst, codes}
 use Rattle.std.specs.Prelude.{slice_get}
 use Rattle.std.specs.List.{flat_map, AllByRecursion}
 use Rattle.nest_lang.specs.declared.tree.Place.TheVariants as place
-use Rattle.nest_lang.specs.declared.tree.Expr.{Expr}
 use Rattle.nest_lang.specs.declared.tree.Stmt.{Stmt}
 use Rattle.nest_lang.specs.declared.tree.Head.{Head}
-use Rattle.nest_lang.specs.declared.tree.Head.TheVariants.{For, While}
 use Rattle.nest_lang.specs.declared.tree.Loop.{Loop}
 use Rattle.nest_lang.specs.declared.command.Command.{Command}
-use Rattle.nest_lang.specs.declared.command.Command.TheVariants.{Seq, Swap, Skew, Tile, Par, Wave}
 use Rattle.nest_lang.specs.Values.{same}
 use Rattle.nest_tokens.specs.declared.token.Name.{Name}
 use Rattle.nest_tokens.specs.declared.token.Mark.TheVariants as mark
-use Rattle.nest_tokens.specs.declared.token.Token.{Token}
 use Rattle.nest_tokens.specs.declared.token.Token.TheVariants as token
-use Rattle.nest_tokens.specs.declared.token.Spot.{Spot}
 use Rattle.nest_tokens.specs.Tokens.{spelling, word_of}
 use Rattle.nest_tokens.specs.Lexing.{name_of, tokens}
 use Rattle.nest_grammar.specs.declared.version.Version.{Version}
 use Rattle.nest_grammar.specs.declared.version.Version.TheVariants.{One, Two as Several}
 use Rattle.nest_grammar.specs.declared.file.Scalar.{Scalar}
 use Rattle.nest_grammar.specs.declared.file.Item.{Item}
-use Rattle.nest_grammar.specs.declared.file.Item.TheVariants.{Data, Ramp}
 use Rattle.nest_grammar.specs.declared.file.LoopNames.{LoopNames}
 use Rattle.nest_grammar.specs.declared.file.Unit.{Unit as NestUnit}
 use Rattle.nest_grammar.specs.declared.file.File.{File}
 use Rattle.nest_grammar.specs.declared.script.CommandWord.{CommandWord}
 use Rattle.nest_grammar.specs.declared.script.CommandWord.TheVariants as word
-use Rattle.nest_grammar.specs.Sights.{Sight, skip, stands, in_block, of_version, start}
+use Rattle.nest_grammar.specs.Sights.{Sight, skip, in_block, start}
 use Rattle.nest_grammar.specs.Readings.{with_sign}
 use Rattle.nest_grammar.specs.Names.{Names, names_of}
 use Rattle.nest_grammar.specs.Loops.{inside}
-use Rattle.nest_grammar.specs.Scripts.{Script, word_spelling, marked as marked_rows}
-use Rattle.nest_grammar.specs.Grammar.{IsExpression, IsBlock, IsSigned, unsigned, negative, IsStride, unwritten, written, IsHeading, counting, asking, IsLoops, innermost, outer, IsRows, one as row_one, more as row_more, IsCommand, seq, swap, skew, tile, par, wave, IsCommands, one as command_one, more as command_more, IsScript, empty, script, IsCandidates, none as candidates_none, more as candidates_more, IsUnit, unit, IsUnits, one as units_one, more as units_more, IsScalars, none as scalars_none, more as scalars_more, IsValues, one as values_one, more as values_more, IsItem, data_, ramp, IsItems, none as items_none, more as items_more, IsVersion, one as version_one, two as version_two, Reads, file}
-use Rattle.canonical.specs.Pieces.{Piece, Word, Space, Newline, plain, name, number, signed, spaced, line}
+use Rattle.nest_grammar.specs.Scripts.{Script, word_spelling}
+use Rattle.nest_grammar.specs.Grammar.{IsBlock, IsSigned, unsigned, negative, IsStride, unwritten, written, IsHeading, counting, asking, IsLoops, innermost, outer, IsRows, one as row_one, more as row_more, IsCommand, seq, swap, skew, tile, par, wave, IsCommands, one as command_one, more as command_more, IsScript, empty, script, IsCandidates, none as candidates_none, more as candidates_more, IsUnit, unit, IsUnits, one as units_one, more as units_more, IsScalars, none as scalars_none, more as scalars_more, IsValues, one as values_one, more as values_more, IsItem, data_, ramp, IsItems, none as items_none, more as items_more, IsVersion, one as version_one, two as version_two, Reads, file}
+use Rattle.canonical.specs.Pieces.{Piece, Space, plain, number, signed, spaced}
 use Rattle.canonical.specs.Labels.{Labels, label, with_lets, in_head, in_pre, in_post, pre_names, post_names}
-use Rattle.canonical.specs.Expressions.{expression_of}
 use Rattle.canonical.specs.Statements.{statement_lines, close_line}
 use Rattle.canonical.specs.Loops.{step_of, bounds_of, heading_of, opening_line, loop_lines}
-use Rattle.canonical.specs.Scripts.{command_name, operand, signed_operand, command_of, next_command, commands_of, candidate_line}
-use Rattle.canonical.specs.Contents.{version_number, version_line, scalar_line, memory_line, next_value, value_list, item_line, labels_in, unit_lines, pieces, canonical}
-use Rattle.canonical.specs.Layout.{words, IsWritten, AllWritten}
+use Rattle.canonical.specs.Scripts.{command_name, operand, command_of, next_command, commands_of, candidate_line}
+use Rattle.canonical.specs.Contents.{version_line, scalar_line, memory_line, next_value, value_list, item_line, labels_in, unit_lines, pieces, canonical}
+use Rattle.canonical.specs.Layout.{IsWritten, AllWritten}
 use Rattle.canonical.proofs.Round.{Agrees}
 use Rattle.canonical.proofs.LoopsAgain.{AgreesAll, Named, Labelled, labelled, agrees-inside}
 use Rattle.canonical.proofs.ContentsAgain.{scalars-agree, named-from}
 use Rattle.canonical.proofs.Walking.{Walks}
 use Rattle.canonical.proofs.LayoutFile.{file-walks}
 use Rattle.canonical.proofs.LayoutWritten.{tokens-writable}
-use Rattle.canonical.proofs.Proper.{Proper, proper-none, ◌then◌, ◌cons◌, space, newline, marked, worded, apart, lined, Good, good-skip, good-block, name-written, number-written, expression-proper, close_proper, block-proper}
+use Rattle.canonical.proofs.Proper.{Proper, proper-none, ◌then◌, ◌cons◌, space, marked, worded, apart, lined, Good, good-skip, good-block, name-written, number-written, expression-proper, close_proper, block-proper}
 
 -- Lists
 
