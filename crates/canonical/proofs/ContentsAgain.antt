@@ -1,15 +1,13 @@
 -- What was read of a file is read again from its canonical pieces.
-use Rattle.std.proofs.Common.{◌≡◌, ◌≢◌, ℕ, zero, suc, ◌+◌, ◌<◌, ◌≤◌, ℤ, pos, negsuc, List, [], ◌∷◌, ◌++◌, length, add-suc, refl, sym, ◌∙◌, ap, arith, Option, Some, None, Bool, true, false, cond, subst, append_assoc, append-nil}
+use Rattle.std.proofs.Common.{◌≡◌, ℕ, suc, ◌+◌, ◌<◌, ◌≤◌, ℤ, pos, List, [], ◌∷◌, ◌++◌, length, refl, sym, ◌∙◌, ap, arith, Some, true, false, cond, subst, append_assoc, append-nil}
 use Rattle.std.specs.Prelude.{slice_get}
 use Rattle.std.specs.List.{flat_map}
 use Rattle.std.specs.Str.{bytes_eq}
 use Rattle.std.proofs.lemmas.Slice.Eq.{bytes_eq-Decides}
 use Rattle.nest_lang.specs.declared.tree.Place.{Place}
 use Rattle.nest_lang.specs.declared.tree.Place.TheVariants as place
-use Rattle.nest_lang.specs.declared.tree.Loop.{Loop}
 use Rattle.nest_tokens.specs.declared.token.Name.{Name}
 use Rattle.nest_tokens.specs.declared.token.Mark.TheVariants as mark
-use Rattle.nest_tokens.specs.declared.token.Token.{Token}
 use Rattle.nest_tokens.specs.declared.token.Token.TheVariants as token
 use Rattle.nest_tokens.specs.declared.token.Spot.{Spot}
 use Rattle.nest_tokens.specs.Lexing.{tokens}
@@ -17,22 +15,19 @@ use Rattle.nest_grammar.specs.declared.version.Version.{Version}
 use Rattle.nest_grammar.specs.declared.version.Version.TheVariants.{One, Two as Several}
 use Rattle.nest_grammar.specs.declared.file.Scalar.{Scalar}
 use Rattle.nest_grammar.specs.declared.file.Item.{Item}
-use Rattle.nest_grammar.specs.declared.file.Item.TheVariants.{Data, Ramp}
 use Rattle.nest_grammar.specs.declared.file.LoopNames.{LoopNames}
 use Rattle.nest_grammar.specs.declared.file.Unit.{Unit as NestUnit}
 use Rattle.nest_grammar.specs.declared.file.File.{File}
-use Rattle.nest_grammar.specs.Limits.{most_bytes, most_depth}
-use Rattle.nest_grammar.specs.Sights.{Sight, first, rest, here, stands, skip, of_version, start, Sees}
-use Rattle.nest_grammar.specs.Names.{Names, declared, place_of, scalars_from, names_of}
-use Rattle.nest_grammar.specs.Scripts.{Script}
-use Rattle.nest_grammar.specs.Grammar.{IsSigned, IsLoops, IsCandidates, IsUnit, unit, IsUnits, one as units_one, more as units_more, IsScalars, none as scalars_none, more as scalars_more, IsValues, one as values_one, more as values_more, IsItem, data_, ramp, IsItems, none as items_none, more as items_more, IsVersion, one as version_one, two as version_two, Reads, file}
-use Rattle.canonical.specs.Pieces.{Piece, Word, Space, Indent, Newline, plain, name, number, signed, spaced, line}
+use Rattle.nest_grammar.specs.Limits.{most_bytes}
+use Rattle.nest_grammar.specs.Sights.{Sight, first, rest, here, skip, of_version, start}
+use Rattle.nest_grammar.specs.Names.{Names, place_of, scalars_from, names_of}
+use Rattle.nest_grammar.specs.Grammar.{IsUnit, unit, IsUnits, one as units_one, more as units_more, IsScalars, none as scalars_none, more as scalars_more, IsValues, one as values_one, more as values_more, IsItem, data_, ramp, IsItems, none as items_none, more as items_more, IsVersion, one as version_one, two as version_two, Reads, file}
+use Rattle.canonical.specs.Pieces.{Piece, Newline, signed, line}
 use Rattle.canonical.specs.Labels.{Labels, label, with_lets, scalar_name}
 use Rattle.canonical.specs.Loops.{loop_lines}
-use Rattle.canonical.specs.Scripts.{operand, signed_operand, candidate_line}
+use Rattle.canonical.specs.Scripts.{signed_operand, candidate_line}
 use Rattle.canonical.specs.Contents.{version_line, scalar_line, memory_line, next_value, value_list, item_line, labels_in, unit_lines, pieces}
 use Rattle.canonical.proofs.Walking.{Walks, walks-append, Counts, counts}
-use Rattle.canonical.proofs.Round.{Agrees}
 use Rattle.canonical.proofs.LoopsAgain.{AgreesAll, Named, loops-again, signed-again, signed-kept}
 use Rattle.canonical.proofs.ScriptsAgain.{flat_map-last, candidates-again, candidates-kept}
 

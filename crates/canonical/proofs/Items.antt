@@ -7,7 +7,7 @@ use Rattle.nest_grammar.specs.declared.file.Item.TheVariants.{Data, Ramp}
 use Rattle.canonical.specs.Pieces.{Piece, plain, text_of, line}
 use Rattle.canonical.specs.Scripts.{operand, signed_operand}
 use Rattle.canonical.specs.Contents.{value_list, item_line}
-use Rattle.canonical.proofs.Texts.{text-plain, text-append, text-signed, text-space, text-number, text-nil, text-line}
+use Rattle.canonical.proofs.Texts.{text-plain, text-append, text-space, text-number, text-nil, text-line}
 
 pub text-data : (first : ℕ) (vs : List ℤ) → text_of (item_line (Data first vs)) ≡ spelling mark.Data ++ (text_of (operand first) ++ (spelling mark.Colon ++ (text_of (value_list vs) ++ 10 ∷ [])))
 unfolding item_line

@@ -1,35 +1,33 @@
 -- What was read of loops is read again from their canonical lines.
-use Rattle.std.proofs.Common.{◌≡◌, ◌≢◌, ℕ, zero, suc, ◌+◌, ℤ, pos, negsuc, List, [], ◌∷◌, ◌++◌, length, add-one, refl, sym, ◌∙◌, ap, arith, Option, Some, None, Bool, true, false, cond, subst, append_assoc, append-nil}
+use Rattle.std.proofs.Common.{◌≡◌, ◌≢◌, ℕ, zero, suc, ◌+◌, ℤ, pos, negsuc, List, [], ◌∷◌, ◌++◌, add-one, refl, sym, ◌∙◌, ap, arith, Option, Some, None, true, false, cond, subst}
 use Rattle.std.specs.Prelude.{slice_get}
 use Rattle.nest_lang.specs.declared.tree.Place.TheVariants as place
 use Rattle.nest_lang.specs.declared.tree.Expr.{Expr}
 use Rattle.nest_lang.specs.declared.tree.Stmt.{Stmt}
 use Rattle.nest_lang.specs.declared.tree.Head.{Head}
-use Rattle.nest_lang.specs.declared.tree.Head.TheVariants.{For, While}
+use Rattle.nest_lang.specs.declared.tree.Head.TheVariants.{For}
 use Rattle.nest_lang.specs.declared.tree.Loop.{Loop}
 use Rattle.nest_lang.specs.Values.{same}
 use Rattle.nest_tokens.specs.declared.token.Name.{Name}
 use Rattle.nest_tokens.specs.declared.token.Mark.TheVariants as mark
-use Rattle.nest_tokens.specs.declared.token.Token.{Token}
 use Rattle.nest_tokens.specs.declared.token.Token.TheVariants as token
 use Rattle.nest_tokens.specs.declared.token.Spot.{Spot}
 use Rattle.nest_grammar.specs.declared.version.Version.{Version}
 use Rattle.nest_grammar.specs.declared.file.LoopNames.{LoopNames}
-use Rattle.nest_grammar.specs.Limits.{most_ifs}
-use Rattle.nest_grammar.specs.Sights.{Sight, first, rest, here, stands, skip, in_block, Sees}
+use Rattle.nest_grammar.specs.Sights.{Sight, first, rest, here, skip, in_block, Sees}
 use Rattle.nest_grammar.specs.Readings.{with_sign}
 use Rattle.nest_grammar.specs.Names.{Names, declared, place_of}
 use Rattle.nest_grammar.specs.Loops.{inside}
-use Rattle.nest_grammar.specs.Grammar.{IsExpression, IsList, IsBlock, block, IsSigned, unsigned, negative, IsStride, unwritten, written, IsHeading, counting, asking, IsLoops, innermost, outer}
-use Rattle.canonical.specs.Pieces.{Piece, Word, Space, Indent, Newline, plain, name, number, signed, spaced, line}
-use Rattle.canonical.specs.Labels.{Labels, label, with_lets, in_head, in_pre, in_post, pre_names, post_names, turns_name}
+use Rattle.nest_grammar.specs.Grammar.{IsExpression, IsBlock, block, IsSigned, unsigned, negative, IsStride, unwritten, written, IsHeading, counting, asking, IsLoops, innermost, outer}
+use Rattle.canonical.specs.Pieces.{Piece, Space, Newline, plain, signed, spaced, line}
+use Rattle.canonical.specs.Labels.{Labels, label, with_lets, in_head, in_pre, in_post, pre_names, post_names}
 use Rattle.canonical.specs.Expressions.{expression_of}
 use Rattle.canonical.specs.Statements.{statement_lines, close_line}
 use Rattle.canonical.specs.Loops.{step_of, bounds_of, heading_of, opening_line, loop_lines}
 use Rattle.canonical.proofs.Nested.{loops-more}
 use Rattle.canonical.proofs.Walking.{Walks, walks-append, Counts, counts}
 use Rattle.canonical.proofs.Round.{Agrees, expression-again}
-use Rattle.canonical.proofs.StatementsAgain.{Extends, extends-self, agrees-more, list-again}
+use Rattle.canonical.proofs.StatementsAgain.{extends-self, agrees-more, list-again}
 
 -- the version of two sights is the same, so their blocks begin with the same counters
 block-begins : (s s2 : Sight) → s2.version ≡ s.version → counts (in_block s2) ≡ counts (in_block s)

@@ -1,7 +1,7 @@
 -- Loops within one another.
 use Rattle.std.proofs.Common.{◌≡◌, ℕ, ◌+◌, List, [], ◌∷◌, ◌++◌, refl, arith, length, ap, ◌∙◌, append-nil, append_assoc}
 use Rattle.nest_lang.specs.declared.tree.Loop.{Loop}
-use Rattle.canonical.specs.Pieces.{Piece, text_of, line}
+use Rattle.canonical.specs.Pieces.{text_of, line}
 use Rattle.canonical.specs.Labels.{Labels, in_pre, in_post}
 use Rattle.canonical.specs.Statements.{statement_lines, close_line}
 use Rattle.canonical.specs.Loops.{opening_line, loop_lines}

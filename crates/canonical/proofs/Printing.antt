@@ -12,7 +12,7 @@ use Rattle.canonical.specs.declared.group.Group.{Group}
 use Rattle.canonical.specs.declared.group.Group.TheVariants.{Unary, Whole}
 use Rattle.canonical.specs.Groups.{fits, left_of, right_of, mark_of}
 use Rattle.nest_tokens.specs.Spellings.{name_text}
-use Rattle.canonical.specs.Pieces.{Piece, Word, text_of, plain, name, spaced}
+use Rattle.canonical.specs.Pieces.{Word, text_of, plain, name, spaced}
 use Rattle.canonical.specs.Labels.{Labels, label}
 use Rattle.canonical.specs.Expressions.{Printed, as_group, both, printed}
 use Rattle.canonical.proofs.Texts.{text-plain, text-append, text-closed, text-nil, text-name, text-integer}

@@ -1,12 +1,11 @@
 -- What was read of an expression is read again from its canonical pieces.
-use Rattle.std.proofs.Common.{◌≡◌, ℕ, zero, suc, ◌+◌, ◌<◌, ◌≤◌, ℤ, List, [], ◌∷◌, ◌++◌, refl, sym, ◌∙◌, ap, arith, Option, Some, None, Bool, true, false, cond, subst}
+use Rattle.std.proofs.Common.{◌≡◌, ℕ, suc, ◌+◌, ◌<◌, ◌≤◌, List, [], ◌∷◌, ◌++◌, refl, sym, ◌∙◌, ap, arith, Option, Some, true, false, subst}
 use Rattle.nest_lang.specs.declared.tree.Place.{Place}
 use Rattle.nest_lang.specs.declared.tree.Op.{Op}
 use Rattle.nest_lang.specs.declared.tree.Op.TheVariants as op
 use Rattle.nest_lang.specs.declared.tree.Expr.{Expr}
 use Rattle.nest_lang.specs.declared.tree.Expr.TheVariants.{Number, Var, Load, Neg, Two}
 use Rattle.nest_tokens.specs.declared.token.Name.{Name}
-use Rattle.nest_tokens.specs.declared.token.Mark.{Mark}
 use Rattle.nest_tokens.specs.declared.token.Mark.TheVariants as mark
 use Rattle.nest_tokens.specs.declared.token.Token.{Token}
 use Rattle.nest_tokens.specs.declared.token.Token.TheVariants as token
@@ -19,7 +18,7 @@ use Rattle.nest_grammar.specs.Grammar.{Part, Unary as AsUnary, Term as AsTerm, S
 use Rattle.canonical.specs.declared.group.Group.{Group}
 use Rattle.canonical.specs.declared.group.Group.TheVariants.{Unary, Term, Sum, Whole}
 use Rattle.canonical.specs.Groups.{fits, made_by, left_of, right_of, mark_of}
-use Rattle.canonical.specs.Pieces.{Piece, Word, Space, plain, name, spaced}
+use Rattle.canonical.specs.Pieces.{Piece, Word, plain, name, spaced}
 use Rattle.canonical.specs.Labels.{Labels, label}
 use Rattle.canonical.specs.Expressions.{Printed, as_group, both, printed, expression_of}
 use Rattle.canonical.proofs.Printing.{printed-number, printed-var, printed-load, printed-neg, printed-two, as-fit, as-held}

@@ -1,23 +1,20 @@
 -- What was read of candidates is read again from their canonical lines.
-use Rattle.std.proofs.Common.{◌≡◌, ◌≢◌, ℕ, zero, suc, ◌+◌, ◌<◌, ◌≤◌, ℤ, pos, negsuc, List, [], ◌∷◌, ◌++◌, length, refl, sym, ◌∙◌, ap, arith, Option, Some, None, Bool, true, false, subst, append_assoc, append-nil}
+use Rattle.std.proofs.Common.{◌≡◌, ℕ, ◌<◌, pos, List, [], ◌∷◌, ◌++◌, length, refl, sym, ◌∙◌, ap, arith, Some, subst, append_assoc, append-nil}
 use Rattle.std.specs.List.{flat_map}
 use Rattle.std.proofs.lemmas.Grind.{flat_map-append}
 use Rattle.nest_lang.specs.declared.command.Command.{Command}
-use Rattle.nest_lang.specs.declared.command.Command.TheVariants.{Seq, Swap, Skew, Tile, Par, Wave}
 use Rattle.nest_tokens.specs.declared.token.Mark.TheVariants as mark
-use Rattle.nest_tokens.specs.declared.token.Token.{Token}
 use Rattle.nest_tokens.specs.declared.token.Token.TheVariants as token
 use Rattle.nest_tokens.specs.declared.token.Spot.{Spot}
 use Rattle.nest_tokens.specs.Lexing.{name_of}
 use Rattle.nest_grammar.specs.declared.script.CommandWord.{CommandWord}
 use Rattle.nest_grammar.specs.declared.script.CommandWord.TheVariants as word
-use Rattle.nest_grammar.specs.Limits.{most_rows, most_commands, most_candidates}
-use Rattle.nest_grammar.specs.Sights.{Sight, first, rest, here, stands, skip, Sees}
-use Rattle.nest_grammar.specs.Scripts.{Script, command_word, word_of_name, word_spelling, marked}
+use Rattle.nest_grammar.specs.Sights.{Sight, first, rest, here, skip}
+use Rattle.nest_grammar.specs.Scripts.{Script, command_word, word_of_name, word_spelling}
 use Rattle.nest_grammar.specs.Grammar.{IsRows, one as row_one, more as row_more, IsCommand, seq, swap, skew, tile, par, wave, IsCommands, one as command_one, more as command_more, IsScript, empty, script, IsCandidates, none, more}
-use Rattle.canonical.specs.Pieces.{Piece, Word, Space, Indent, Newline, plain, name, number, signed, line}
-use Rattle.canonical.specs.Scripts.{command_name, operand, signed_operand, command_of, next_command, commands_of, candidate_line}
-use Rattle.canonical.proofs.Walking.{Walks, walks-append, Counts, counts}
+use Rattle.canonical.specs.Pieces.{Piece, Space, Newline, plain, signed, line}
+use Rattle.canonical.specs.Scripts.{operand, command_of, next_command, commands_of, candidate_line}
+use Rattle.canonical.proofs.Walking.{Walks, walks-append, counts}
 use Rattle.canonical.proofs.LoopsAgain.{signed-again, signed-kept}
 
 pub flat_map-last : {X Y : Type 0} (f : X → List Y) (xs : List X) (x : X) → flat_map f (xs ++ x ∷ []) ≡ flat_map f xs ++ f x

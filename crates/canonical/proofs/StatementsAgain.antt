@@ -1,5 +1,5 @@
 -- What was read of statements is read again from their canonical lines.
-use Rattle.std.proofs.Common.{◌≡◌, ℕ, zero, suc, ◌+◌, ◌<◌, List, [], ◌∷◌, ◌++◌, length, refl, sym, ◌∙◌, ap, arith, Option, Some, None, Bool, true, false, cond, subst, append_assoc, append-nil, ◌⊎◌, inl, inr}
+use Rattle.std.proofs.Common.{◌≡◌, ℕ, suc, ◌+◌, ◌<◌, List, [], ◌∷◌, ◌++◌, length, refl, sym, ◌∙◌, ap, Some, None, true, false, cond, subst, append_assoc, append-nil, ◌⊎◌, inl, inr}
 use Rattle.std.specs.Prelude.{slice_get}
 use Rattle.std.specs.Str.{bytes_eq}
 use Rattle.std.proofs.lemmas.Slice.Eq.{bytes_eq-Decides}
@@ -9,17 +9,15 @@ use Rattle.nest_lang.specs.declared.tree.Expr.{Expr}
 use Rattle.nest_lang.specs.declared.tree.Stmt.{Stmt}
 use Rattle.nest_lang.specs.declared.tree.Stmt.TheVariants.{Let, Set, Store, If}
 use Rattle.nest_tokens.specs.declared.token.Name.{Name}
-use Rattle.nest_tokens.specs.declared.token.Mark.{Mark}
 use Rattle.nest_tokens.specs.declared.token.Mark.TheVariants as mark
-use Rattle.nest_tokens.specs.declared.token.Token.{Token}
 use Rattle.nest_tokens.specs.declared.token.Token.TheVariants as token
 use Rattle.nest_tokens.specs.declared.token.Spot.{Spot}
 use Rattle.nest_grammar.specs.declared.file.Declared.{Declared}
-use Rattle.nest_grammar.specs.Limits.{most_lets, most_accesses, most_open}
-use Rattle.nest_grammar.specs.Sights.{Sight, first, rest, here, stands, skip, spend, opens, numbered, afresh, bound, Sees}
+use Rattle.nest_grammar.specs.Limits.{most_lets, most_accesses}
+use Rattle.nest_grammar.specs.Sights.{Sight, first, rest, here, skip, opens, numbered, bound, Sees}
 use Rattle.nest_grammar.specs.Names.{Names, declared, place_of}
 use Rattle.nest_grammar.specs.Grammar.{Part, Is, number, variable, minus, parens, load, factor, product, summand, addition, side, comparison, AccessRoom, IsExpression, IsStmt, let_, set, store, when, either, IsBraced, braced, IsList, none, more}
-use Rattle.canonical.specs.Pieces.{Piece, Word, Space, Indent, Newline, plain, name, spaced, line}
+use Rattle.canonical.specs.Pieces.{Piece, Space, Newline, plain, spaced, line}
 use Rattle.canonical.specs.Labels.{Labels, label, name_or_none}
 use Rattle.canonical.specs.Expressions.{expression_of}
 use Rattle.canonical.specs.Statements.{let_line, set_line, store_line, if_line, else_line, close_line, statement_of, statement_lines, otherwise}

@@ -1,7 +1,5 @@
 -- The laws on canonical texts.
-use Rattle.std.proofs.Common.{◌≡◌, List, length, ap, sym, ◌∙◌, Ok}
-use Rattle.nest_grammar.specs.declared.file.File.{File}
-use Rattle.nest_grammar.specs.Contents.{reading}
+use Rattle.std.proofs.Common.{◌≡◌, ap}
 use Rattle.grammar_laws.proofs.Contents.{reads-reading, reading-reads}
 use Rattle.canonical.specs.Contents.{canonical}
 use Rattle.canonical.specs.Laws.{TokensAreWords, ReadIsWritten, RoundTrip, WritesTheSame}

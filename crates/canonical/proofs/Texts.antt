@@ -4,13 +4,12 @@ use Rattle.std.specs.List.{flat_map}
 use Rattle.std.specs.Fmt.{decimal, signed_decimal}
 use Rattle.std.proofs.lemmas.Grind.{flat_map-append}
 use Rattle.std.proofs.lemmas.List.{take_more}
-use Rattle.std.proofs.lemmas.List.Concat.{flat_map-cons}
 use Rattle.nest_tokens.specs.declared.token.Mark.{Mark}
 use Rattle.nest_tokens.specs.declared.token.Name.{Name}
 use Rattle.nest_tokens.specs.declared.token.Token.TheVariants as token
 use Rattle.nest_tokens.specs.Tokens.{spelling}
 use Rattle.nest_tokens.specs.Spellings.{name_text}
-use Rattle.canonical.specs.Pieces.{Piece, Word, Space, Indent, Newline, token_text, piece_text, text_of, plain, name, number, signed, spaced, line}
+use Rattle.canonical.specs.Pieces.{Piece, Word, Space, Indent, Newline, token_text, piece_text, text_of, signed, line}
 
 pub text-nil : text_of [] ≡ []
 unfolding text_of

@@ -1,10 +1,9 @@
 -- Walks: tokens that stand one behind another.
-use Rattle.std.proofs.Common.{◌≡◌, ℕ, suc, ◌+◌, ◌<◌, ◌≤◌, List, [], ◌∷◌, ◌++◌, refl, sym, ◌∙◌, ap, subst}
-use Rattle.nest_tokens.specs.declared.token.Token.{Token}
+use Rattle.std.proofs.Common.{◌≡◌, ℕ, List, [], ◌∷◌, ◌++◌, refl}
 use Rattle.nest_tokens.specs.declared.token.Name.{Name}
 use Rattle.nest_tokens.specs.declared.token.Spot.{Spot}
 use Rattle.nest_grammar.specs.declared.version.Version.{Version}
-use Rattle.nest_grammar.specs.Sights.{Sight, first, rest, skip, stands, here, spend, opens, numbered, afresh}
+use Rattle.nest_grammar.specs.Sights.{Sight, first, rest, skip, stands, here}
 use Rattle.canonical.specs.Pieces.{Piece, Word, Space, Indent, Newline}
 
 -- the words of these pieces stand in front, and then these spots are left

@@ -1,5 +1,5 @@
 -- The words of commands.
-use Rattle.std.proofs.Common.{◌≡◌, List, refl}
+use Rattle.std.proofs.Common.{◌≡◌, refl}
 use Rattle.nest_tokens.specs.Lexing.{name_of}
 use Rattle.nest_tokens.specs.Spellings.{name_text}
 use Rattle.nest_grammar.specs.declared.script.CommandWord.{CommandWord}

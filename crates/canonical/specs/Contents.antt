@@ -10,7 +10,7 @@ use Rattle.nest_grammar.specs.declared.file.Item.TheVariants.{Data, Ramp}
 use Rattle.nest_grammar.specs.declared.file.LoopNames.{LoopNames}
 use Rattle.nest_grammar.specs.declared.file.Unit.{Unit as NestUnit}
 use Rattle.nest_grammar.specs.declared.file.File.{File}
-use Rattle.canonical.specs.Pieces.{Piece, Space, plain, name, number, signed, spaced, line, text_of}
+use Rattle.canonical.specs.Pieces.{Piece, Space, plain, name, signed, spaced, line, text_of}
 use Rattle.canonical.specs.Labels.{Labels}
 use Rattle.canonical.specs.Loops.{loop_lines}
 use Rattle.canonical.specs.Scripts.{operand, signed_operand, candidate_line}

@@ -1,5 +1,5 @@
 -- Expressions: their canonical pieces, with only the parentheses that the grammar needs.
-use Rattle.std.specs.Prelude.{ℕ, List, [], ◌∷◌, ◌++◌, Bool, true, false, if◌then◌else◌}
+use Rattle.std.specs.Prelude.{List, [], ◌∷◌, ◌++◌, if◌then◌else◌}
 use Rattle.nest_lang.specs.declared.tree.Op.{Op}
 use Rattle.nest_lang.specs.declared.tree.Expr.{Expr}
 use Rattle.nest_lang.specs.declared.tree.Expr.TheFolds.{fold-Expr}
@@ -7,9 +7,9 @@ use Rattle.nest_lang.specs.declared.tree.Expr.TheOpen.{Expr-F}
 use Rattle.nest_tokens.specs.declared.token.Mark.TheVariants as mark
 use Rattle.nest_tokens.specs.declared.token.Token.TheVariants as token
 use Rattle.canonical.specs.declared.group.Group.{Group}
-use Rattle.canonical.specs.declared.group.Group.TheVariants.{Unary, Term, Sum, Whole}
+use Rattle.canonical.specs.declared.group.Group.TheVariants.{Unary, Whole}
 use Rattle.canonical.specs.Groups.{fits, made_by, left_of, right_of, mark_of}
-use Rattle.canonical.specs.Pieces.{Piece, Word, Space, plain, name, spaced}
+use Rattle.canonical.specs.Pieces.{Piece, Word, plain, name, spaced}
 use Rattle.canonical.specs.Labels.{Labels, label}
 
 -- which group an expression is, and its pieces

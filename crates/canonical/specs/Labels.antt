@@ -1,5 +1,5 @@
 -- Labels: the name of a place.
-use Rattle.std.specs.Prelude.{ℕ, List, [], ◌∷◌, Option, Some, None, replicate, slice_get}
+use Rattle.std.specs.Prelude.{ℕ, List, [], Option, Some, None, replicate, slice_get}
 use Rattle.nest_lang.specs.declared.tree.Place.{Place}
 use Rattle.nest_lang.specs.declared.tree.Place.TheVariants as place
 use Rattle.nest_tokens.specs.declared.token.Name.{Name}

@@ -37,12 +37,15 @@ impl Model for NestFile {
     ghost use Rattle.std.specs.Coded.{codes};
 
     ghost Value = { File };
+
     ghost coded = { Prim.hlevel (codes, expr.the_row.coded, stmt.the_row.coded) };
+
     ghost view = { λ f. f.file };
+
     ghost invariant = { λ f. KeepsRules f.file };
 }
 
-/// Reads a text of at most 1,048,576 bytes: the file that it is (docs/DEFINITIONS.md, Reading). `Text`
+/// Reads a text of at most 1,048,576 bytes: the file that it is (docs/DEFINITIONS.md, What a text reads as). `Text`
 /// comes exactly where the text has no reading, with the place of its first refused token and the kind of
 /// its fault; `NoMemory` where a growth was refused.
 pub fn read_nest(alloc: Global, text: &[u8]) -> Result<NestFile, ReadRefusal>
@@ -119,7 +122,7 @@ impl NestFile {
     }
 
     /// The first memory and scalars: each word is 0 that no item sets, and a later item overrides
-    /// (docs/DEFINITIONS.md, First store). `NoMemory` where there is no memory for them.
+    /// (docs/DEFINITIONS.md, Files). `NoMemory` where there is no memory for them.
     pub fn start(&self, alloc: Global) -> Result<State, NoMemory>
         ensures store { IfOk result (λ state. state ≡ first_store self.now) }
         ensures scalars { IfOk result (λ state. length state.scalars ≤ 16) }

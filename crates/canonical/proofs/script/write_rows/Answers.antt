@@ -1,5 +1,3 @@
-use Rattle.std.proofs.Common.{ap, ◌∙◌, ◌++◌}
-use Rattle.canonical.specs.Pieces.{text_of}
 use Rattle.canonical.specs.Scripts.{operand}
 use Rattle.canonical.proofs.Texts.{text-at}
 use Rattle.canonical.proofs.script.write_rows.Goals as goal

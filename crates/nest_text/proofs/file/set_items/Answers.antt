@@ -10,9 +10,10 @@ set_item-requires c =
 
 pub loop-item-preserved : goal.loop-item-preserved
 loop-item-preserved c =
-    let at = c.loop-item.item-index in
-    (c.loop-item.invariant.0 ∙ after_items-next at c.args.items.now c.loop-item.memory c.item-item.result c.loop-item-test.true c.item-item.is ∙ ap (λ m. after_items m (drop (at + 1) c.args.items.now)) (sym c.set_item.ensures),
-    ap length c.set_item.ensures ∙ length-after_item c.loop-item.memory c.item-item.result ∙ c.loop-item.invariant.1)
+    let at = c.loop-item.item-index in (
+      c.loop-item.invariant.0 ∙ after_items-next at c.args.items.now c.loop-item.memory c.item-item.result c.loop-item-test.true c.item-item.is ∙ ap (λ m. after_items m (drop (at + 1) c.args.items.now)) (sym c.set_item.ensures),
+      ap length c.set_item.ensures ∙ length-after_item c.loop-item.memory c.item-item.result ∙ c.loop-item.invariant.1,
+    )
 
 pub returns : goal.returns
 returns c = sym (c.loop-item.invariant.0 ∙ after_items-all c.loop-item.item-index c.args.items.now c.loop-item.memory (omega (arith, c.loop-item-test.false)))

@@ -20,11 +20,12 @@ words-preserved c =
     let fits : FitsSigned w64 (s +ℤ g *ℤ pos c.words.number) =
     simp to_z-of_z (ramp_fits-value (length c.args.memory.now) c.args.first c.args.count c.args.stride c.words.number c.args.start c.args.growth c.requires c.words-test.true start) in
     let value : to_z w64 (of_z w64 c.ramp_value.result) ≡ s +ℤ g *ℤ pos c.words.number =
-    ap (λ z. to_z w64 (of_z w64 z)) c.ramp_value.ensures ∙ to_z-of_z w64 (s +ℤ g *ℤ pos c.words.number) fits in
-    (c.words.invariant.0
-    ∙ ramp_from-next c.words.number c.args.count c.args.first c.args.stride s g c.words.memory c.words-test.true
-    ∙ ap (λ z. ramp_from (c.words.number + 1) c.args.count c.args.first c.args.stride s g (slice_set c.words.memory (c.args.first + c.args.stride * c.words.number) z)) (sym value),
-    length-set c.words.memory (c.args.first + c.args.stride * c.words.number) (to_z w64 (of_z w64 c.ramp_value.result)) ∙ c.words.invariant.1)
+    ap (λ z. to_z w64 (of_z w64 z)) c.ramp_value.ensures ∙ to_z-of_z w64 (s +ℤ g *ℤ pos c.words.number) fits in (
+      c.words.invariant.0
+          ∙ ramp_from-next c.words.number c.args.count c.args.first c.args.stride s g c.words.memory c.words-test.true
+          ∙ ap (λ z. ramp_from (c.words.number + 1) c.args.count c.args.first c.args.stride s g (slice_set c.words.memory (c.args.first + c.args.stride * c.words.number) z)) (sym value),
+      length-set c.words.memory (c.args.first + c.args.stride * c.words.number) (to_z w64 (of_z w64 c.ramp_value.result)) ∙ c.words.invariant.1,
+    )
 
 pub returns : goal.returns
 returns c =
