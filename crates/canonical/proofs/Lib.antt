@@ -18,3 +18,5 @@ pub mod ContentsAgain
 pub mod Proper
 pub mod ProperFile
 pub mod TextLaws
+pub mod Fewest
+pub mod FewestLines

@@ -89,7 +89,7 @@ fits-whole Term = refl
 fits-whole Sum = refl
 fits-whole Whole = refl
 
-fits-through : (g w x : Group) → fits g w ≡ true → fits w x ≡ true → fits g x ≡ true
+pub fits-through : (g w x : Group) → fits g w ≡ true → fits w x ≡ true → fits g x ≡ true
 unfolding fits
 fits-through Unary w x h k = refl
 fits-through Term Unary x h k = absurd (cc)
@@ -114,7 +114,7 @@ fits-through Whole Term x h k = absurd (cc)
 fits-through Whole Sum x h k = absurd (cc)
 fits-through Whole Whole x h k = k
 
-fits-self : (g : Group) → fits g g ≡ true
+pub fits-self : (g : Group) → fits g g ≡ true
 unfolding fits
 fits-self Unary = refl
 fits-self Term = refl
@@ -183,20 +183,20 @@ two-again l names o x y a b c u v z d r join f g =
 abbrev pub IsIn : Op → Group → Group → Group → (Token → Option Op) → Type 0
 IsIn o made lft rgt operator = (made_by o ≡ made) × (left_of o ≡ lft) × (right_of o ≡ rgt) × (operator (token.Plain (mark_of o)) ≡ Some o)
 
-product-table : (x : Token) (o : Op) → product_of x ≡ Some o → IsIn o Term Term Unary product_of
+pub product-table : (x : Token) (o : Op) → product_of x ≡ Some o → IsIn o Term Term Unary product_of
 unfolding product_of
 product-table (token.Plain mark.Times) o h = let q : op.Mul ≡ o = cc in subst (λ (k : Op). IsIn k Term Term Unary product_of) q (refl, refl, refl, refl)
 product-table (token.Plain mark.Divide) o h = let q : op.Div ≡ o = cc in subst (λ (k : Op). IsIn k Term Term Unary product_of) q (refl, refl, refl, refl)
 product-table (token.Plain mark.Remainder) o h = let q : op.Rem ≡ o = cc in subst (λ (k : Op). IsIn k Term Term Unary product_of) q (refl, refl, refl, refl)
 product-table _ o h = absurd (cc)
 
-addition-table : (x : Token) (o : Op) → addition_of x ≡ Some o → IsIn o Sum Sum Term addition_of
+pub addition-table : (x : Token) (o : Op) → addition_of x ≡ Some o → IsIn o Sum Sum Term addition_of
 unfolding addition_of
 addition-table (token.Plain mark.Plus) o h = let q : op.Add ≡ o = cc in subst (λ (k : Op). IsIn k Sum Sum Term addition_of) q (refl, refl, refl, refl)
 addition-table (token.Plain mark.Minus) o h = let q : op.Sub ≡ o = cc in subst (λ (k : Op). IsIn k Sum Sum Term addition_of) q (refl, refl, refl, refl)
 addition-table _ o h = absurd (cc)
 
-comparison-table : (x : Token) (o : Op) → comparison_of x ≡ Some o → IsIn o Whole Sum Sum comparison_of
+pub comparison-table : (x : Token) (o : Op) → comparison_of x ≡ Some o → IsIn o Whole Sum Sum comparison_of
 unfolding comparison_of
 comparison-table (token.Plain mark.Equal) o h = let q : op.Eq ≡ o = cc in subst (λ (k : Op). IsIn k Whole Sum Sum comparison_of) q (refl, refl, refl, refl)
 comparison-table (token.Plain mark.NotEqual) o h = let q : op.Ne ≡ o = cc in subst (λ (k : Op). IsIn k Whole Sum Sum comparison_of) q (refl, refl, refl, refl)

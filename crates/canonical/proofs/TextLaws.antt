@@ -1,9 +1,14 @@
 -- The laws on canonical texts.
-use Rattle.std.proofs.Common.{◌≡◌, ap}
+use Rattle.std.proofs.Common.{◌≡◌, List, length, ap, arith}
+use Rattle.std.proofs.lemmas.List.{length-map}
+use Rattle.nest_tokens.specs.declared.token.Token.{Token}
+use Rattle.nest_tokens.specs.declared.token.Spot.{Spot}
+use Rattle.nest_tokens.specs.Lexing.{tokens}
 use Rattle.grammar_laws.proofs.Contents.{reads-reading, reading-reads}
 use Rattle.canonical.specs.Contents.{canonical}
-use Rattle.canonical.specs.Laws.{TokensAreWords, ReadIsWritten, RoundTrip, WritesTheSame}
+use Rattle.canonical.specs.Laws.{TokensAreWords, ReadIsWritten, RoundTrip, WritesTheSame, FewestTokens}
 use Rattle.canonical.proofs.ContentsAgain.{reads-again}
+use Rattle.canonical.proofs.FewestLines.{fewest-words}
 use Rattle.canonical.proofs.LayoutFile.{file-layout}
 use Rattle.canonical.proofs.ProperFile.{reads-written, reads-walks}
 
@@ -21,4 +26,12 @@ round-trip text file h k =
 pub writes-the-same : WritesTheSame
 writes-the-same text file again h k r = let q = round-trip text file h k in let e : again ≡ file = cc in ap canonical e
 
-pub ruleset laws = (tokens-are-words, read-is-written, round-trip, writes-the-same)
+pub fewest-tokens : FewestTokens
+fewest-tokens text file h =
+    let r = reading-reads text file h in
+    let a = length-map (tokens (canonical file)) (λ (x : Spot). x.token) in
+    let b = ap (λ (l : List Token). length l) (file-layout file (reads-written text file r)) in
+    let c = fewest-words text file r in
+    omega (arith, a, b, c)
+
+pub ruleset laws = (tokens-are-words, read-is-written, round-trip, writes-the-same, fewest-tokens)

@@ -23,3 +23,8 @@ RoundTrip = (text : List ℕ) (file : File) → reading text ≡ Ok file → len
 -- Writing what was read of a canonical text gives the same text.
 abbrev pub WritesTheSame : Type 0
 WritesTheSame = (text : List ℕ) (file again : File) → reading text ≡ Ok file → length (canonical file) ≤ most_bytes → reading (canonical file) ≡ Ok again → canonical again ≡ canonical file
+
+-- No text that reads as a file has fewer tokens than its canonical text, which so has no parentheses, steps or
+-- else branches that are not needed.
+abbrev pub FewestTokens : Type 0
+FewestTokens = (text : List ℕ) (file : File) → reading text ≡ Ok file → length (tokens (canonical file)) ≤ length (tokens text)

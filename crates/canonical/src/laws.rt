@@ -1,6 +1,6 @@
 //! What canonical texts are to the texts that they stand for.
 
-ghost use Rattle.canonical.specs.Laws.{ReadIsWritten, RoundTrip, TokensAreWords, WritesTheSame};
+ghost use Rattle.canonical.specs.Laws.{FewestTokens, ReadIsWritten, RoundTrip, TokensAreWords, WritesTheSame};
 
 /// The canonical text of what a text reads as reads as the same file, where it has at most 1,048,576 bytes.
 #[tactic(auto, using(crate::proofs::TextLaws::laws))]
@@ -20,4 +20,10 @@ pub fn writes_the_same()
 pub fn tokens_are_words()
     ensures words { TokensAreWords }
     ensures written { ReadIsWritten }
+{}
+
+/// No text that reads as a file has fewer tokens than its canonical text: nothing in that is needless.
+#[tactic(auto, using(crate::proofs::TextLaws::laws))]
+pub fn fewest_tokens()
+    ensures { FewestTokens }
 {}
