@@ -9,7 +9,7 @@ use Rattle.nest_lang.specs.declared.budget.Ending.TheVariants as ending
 use Rattle.nest_lang.specs.Stores.{Store}
 use Rattle.nest_lang.specs.Traces.{Finish, Done, cut, cut_of}
 use Rattle.nest_lang.specs.Runs.{finish_by, nest_trace, nests_trace, plain_run, run_of}
-use Rattle.plain_interp.proofs.Several.{plain_run-rest, rest_of_run-end, rest_of_run-next, rest_of_run-out}
+use Rattle.plain_interp.proofs.Several.{rest_of_run, plain_run-rest, rest_of_run-end, rest_of_run-next, rest_of_run-out}
 
 -- the element at a place, and what is behind it
 same-some : {A : Type 0} (a b : A) → Some a ≡ Some b → a ≡ b
@@ -44,6 +44,7 @@ pub record NestRan (nest : Nest) (s t : Store) (left used left' used' : ℕ) (e 
 module _ (nests : List Nest) (number : ℕ) (s t : Store) (left used left' used' : ℕ) (before : Left nests number s t left used left' used') where
   module _ (nest : Nest) (u : Store) (left'' used'' : ℕ) (e : Ending) (here : slice_get nests number ≡ Some nest) (run : NestRan nest t u left' used' left'' used'' e) where
     pub left-next : e ≡ ending.Ended → Left nests (number + 1) s u left used left'' used''
+    unfolding rest_of_run
     left-next ended = record {
       rest = λ k more.
           let ran : cut_of u left'' used'' Done ≡ cut (nest_trace k nest.loops t) t left' used' = ap (λ (x : Ending). cut_of u left'' used'' (finish_by x)) (sym ended) ∙ run.ran k (omega (arith, more, before.fewer)) in
@@ -56,6 +57,7 @@ module _ (nests : List Nest) (number : ℕ) (s t : Store) (left used left' used'
     }
 
     pub left-out : (e ≡ ending.Ended → ⊥) → (k : ℕ) → left < k → cut_of u left'' used'' (finish_by e) ≡ cut (nests_trace k nests s) s left used
+    unfolding rest_of_run
     left-out out k more =
         rest_of_run-out k nest (drop (number + 1) nests) t u left' used' left'' used'' (finish_by e) (λ done. out (only-ended e done)) (run.ran k (omega (arith, more, before.fewer)))
         ∙ ap (λ (ns : List Nest). cut (nests_trace k ns t) t left' used') (sym (drop-at nests number nest here))
@@ -67,6 +69,7 @@ module _ (nests : List Nest) (number : ℕ) (s t : Store) (left used left' used'
         only-ended ending.Limited h = absurd (cc)
 
   pub left-end : length nests ≤ number → (k : ℕ) → left < k → cut_of t left' used' Done ≡ cut (nests_trace k nests s) s left used
+  unfolding rest_of_run
   left-end all k more =
       rest_of_run-end k t left' used'
       ∙ ap (λ (ns : List Nest). cut (nests_trace k ns t) t left' used') (sym (drop_all number nests all))
@@ -78,6 +81,7 @@ left-start nests s left used = record { rest = λ k more. refl; fewer = omega ar
 -- the plain run of nests from a store
 pub nests-ran : (nests : List Nest) (s t : Store) (n left used : ℕ) (e : Finish) → cut_of t left used e ≡ cut (nests_trace (n + 1) nests s) s n 0
     → record { store = t; ending = e; steps = used } ≡ plain_run nests s n
+unfolding rest_of_run
 nests-ran nests s t n left used e ran = ap run_of ran ∙ plain_run-rest nests s n
 
 -- one more name
