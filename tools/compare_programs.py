@@ -39,7 +39,7 @@ def main():
     generator, other = sys.argv[4].split(), sys.argv[5].split()
     mine = sys.argv[6].split() if len(sys.argv) > 6 else ["./nestrun"]
     agree = differ = 0
-    with ThreadPoolExecutor(os.cpu_count()) as pool:
+    with ThreadPoolExecutor(max(1, os.cpu_count() // 2)) as pool:
         for found in pool.map(lambda number: compare(number, modes, generator, other, mine), range(first, last)):
             for number, mode, options, theirs, ours in found:
                 if theirs == ours:

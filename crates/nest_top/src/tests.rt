@@ -53,7 +53,7 @@ fn run(
 }
 
 // Words, a text, the status and the bytes.
-static ANSWERS: [(&[&str], &[u8], Status, &[u8]); 17] = [
+static ANSWERS: [(&[&str], &[u8], Status, &[u8]); 22] = [
     (&["plain"], COPY, Status::Ended, COPIED),
     (&["plain"], EMPTY, Status::Ended, b"ended\nsteps 1\n"),
     (
@@ -92,6 +92,36 @@ static ANSWERS: [(&[&str], &[u8], Status, &[u8]); 17] = [
         TWO,
         Status::Limited,
         b"limited\nscalar s 2\nsteps 4\n",
+    ),
+    (
+        &["plain"],
+        b"nest 2 memory 20 for i = 0 below 5 { [i] = 1 } for i = 0 below 3 { [10 + i] = [i] + 1 }",
+        Status::Ended,
+        b"ended\nwords 0 4 1\nwords 10 12 2\nsteps 10\n",
+    ),
+    (
+        &["plain"],
+        b"nest 2 memory 64 for a = 0 below 6 { for b = 0 below 1 { for c = 0 below 1 { for d = 0 below 1 { for e = 0 below 2 { [2 * a + e] = 1 } } } } }",
+        Status::Ended,
+        b"ended\nwords 0 11 1\nsteps 37\n",
+    ),
+    (
+        &["plain"],
+        b"nest 1 scalar s = 9223372036854775797 memory 4 for i = 0 below 40 { s = s + 1 }",
+        Status::Trapped,
+        b"trapped overflow\nscalar s 9223372036854775807\nsteps 12\n",
+    ),
+    (
+        &["plain"],
+        b"nest 1 memory 100 for i = 0 below 60 { [i] = 7 + 0 / (41 - i) }",
+        Status::Trapped,
+        b"trapped zero\nwords 0 40 7\nsteps 43\n",
+    ),
+    (
+        &["plain", "--steps", "50"],
+        b"nest 1 memory 300 for i = 0 below 100 { [200 + i] = [i] + 1 }",
+        Status::Limited,
+        b"limited\nwords 200 248 1\nsteps 50\n",
     ),
     (
         &["check"],
