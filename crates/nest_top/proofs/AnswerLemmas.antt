@@ -24,7 +24,7 @@ use Rattle.nest_top.specs.declared.status.Status.TheVariants.{Ended, Trapped, Li
 use Rattle.nest_top.specs.Texts.{IsTextOf, text_taken}
 use Rattle.nest_top.specs.Answers.{AnswersFile, AnswersReading, Causes, Finishes, IsAnswer, IsOutcomeOf, Prepared, finish_of, run_of_file, status_of}
 use Rattle.nest_top.specs.Answers.IsAnswer.{usage, command}
-use Rattle.nest_top.specs.Answers.{scalar_names}
+use Rattle.nest_text.specs.Files.{scalar_names}
 use Rattle.std.specs.Prelude.{MatchResult}
 use Rattle.nest_top.specs.declared.answer.Answer.{Answer}
 use Rattle.nest_top.specs.declared.run.Unanswered.{Unanswered}

@@ -11,7 +11,7 @@ use Rattle.nest_grammar.specs.declared.file.File.{File}
 use Rattle.nest_grammar.specs.Files.{first_store, nests_of}
 use Rattle.nest_grammar.specs.Contents.{reading}
 use Rattle.canonical.specs.Contents.{canonical}
-use Rattle.nest_tokens.specs.Spellings.{name_text}
+use Rattle.nest_text.specs.Files.{scalar_names}
 use Rattle.report.specs.Faults.{refusal_line}
 use Rattle.report.specs.Outcomes.{IsOutcome}
 use Rattle.command_line.specs.declared.command.Command.{Command}
@@ -28,10 +28,6 @@ abbrev pub status_of : Ending → Status
 status_of ending.Ended = Ended
 status_of (ending.Trapped trap) = Trapped
 status_of ending.Limited = Limited
-
--- the names of a file's scalars, in order
-abbrev pub scalar_names : File → List (List ℕ)
-scalar_names file = map (λ scalar. name_text scalar.name) file.scalars
 
 -- the plain run of a file's nests, one after another, from its first store within so many steps
 abbrev pub run_of_file : File → ℕ → Run

@@ -5,7 +5,7 @@ ghost use Rattle.nest_lang.specs.Runs.{nests_trace, finish_by};
 ghost use Rattle.nest_lang.specs.Traces.{cut, cut_of};
 ghost use Rattle.nest_grammar.specs.Files.{nests_of};
 ghost use Rattle.nest_top.specs.Answers as answers;
-ghost use Rattle.nest_top.specs.Answers.{scalar_names};
+ghost use Rattle.nest_text.specs.Files.{scalar_names};
 ghost use Rattle.nest_top.specs.Answers.{IsOutcomeOf};
 
 use crate::answer::{Answer, NoMemory};

@@ -2,7 +2,7 @@ use Rattle.std.proofs.Common.{◌≡◌, ◌∙◌, ◌+◌, ap, subst, map, str
 use Rattle.nest_lang.specs.Runs.{Run, finish_by, plain_run}
 use Rattle.nest_grammar.specs.Files.{nests_of}
 use Rattle.report.specs.Outcomes.{IsOutcome}
-use Rattle.nest_top.specs.Answers.{scalar_names}
+use Rattle.nest_text.specs.Files.{scalar_names}
 use Rattle.nest_top.specs.Answers.{run_of_file}
 use Rattle.nest_top.proofs.PlainLemmas.{nests-ran}
 use Rattle.nest_top.proofs.plain.plain.Goals as goal

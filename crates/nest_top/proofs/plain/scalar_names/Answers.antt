@@ -1,6 +1,6 @@
 use Rattle.std.proofs.Common.{◌≡◌, ◌∙◌, ap, sym, Some, map, option_map, string_bytes}
 use Rattle.std.specs.Prelude.{slice_get}
-use Rattle.nest_top.specs.Answers.{scalar_names}
+use Rattle.nest_text.specs.Files.{scalar_names}
 use Rattle.nest_top.proofs.PlainLemmas.{names-next}
 use Rattle.nest_top.proofs.plain.scalar_names.Goals as goal
 

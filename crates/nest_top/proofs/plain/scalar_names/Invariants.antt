@@ -1,5 +1,5 @@
 use Rattle.std.proofs.Common.{◌≡◌, map, take, string_bytes}
-use Rattle.nest_top.specs.Answers.{scalar_names}
+use Rattle.nest_text.specs.Files.{scalar_names}
 use Rattle.nest_top.proofs.plain.scalar_names.Given as goal
 
 abbrev pub invariant-names : goal.invariant-names
