@@ -5,7 +5,7 @@ use Rattle.nest_tokens.specs.declared.token.Mark.{Mark}
 use Rattle.nest_tokens.specs.declared.token.Mark.TheVariants as mark
 use Rattle.nest_tokens.specs.declared.token.Token.{Token}
 use Rattle.nest_tokens.specs.declared.token.Token.TheVariants as token
-use Rattle.nest_tokens.specs.Tokens.{spelling, word_of, sign_at}
+use Rattle.nest_tokens.specs.Tokens.{spelling, keyword_of, sign_at}
 use Rattle.nest_tokens.specs.Lexing.{is_letter, is_digit, is_name_byte, named, sign_or_byte, lexed}
 use Rattle.nest_tokens.specs.Division.{Begins, Stops, AllPass}
 use Rattle.canonical.proofs.LayoutTokens.{lexed-run}
@@ -48,7 +48,7 @@ is_word mark.Less = false
 is_word mark.Greater = false
 
 word-named : (m : Mark) → is_word m ≡ true → named (spelling m) ≡ token.Plain m
-unfolding is_word named spelling word_of
+unfolding is_word named spelling keyword_of
 word-named mark.Nest h = refl
 word-named mark.Scalar h = refl
 word-named mark.Memory h = refl

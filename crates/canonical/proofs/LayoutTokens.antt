@@ -7,7 +7,7 @@ use Rattle.std.proofs.lemmas.Fmt.{decimal_by_steps}
 use Rattle.std.proofs.lemmas.Bool.{lt-ltb, le-leb}
 use Rattle.nest_tokens.specs.declared.token.Token.{Token}
 use Rattle.nest_tokens.specs.declared.token.Token.TheVariants as token
-use Rattle.nest_tokens.specs.Tokens.{word_of}
+use Rattle.nest_tokens.specs.Tokens.{keyword_of}
 use Rattle.nest_tokens.specs.Lexing.{is_letter, is_digit, is_name_byte, decimal_from, decimal, numbered, name_of, named, spelled_by, lexed}
 use Rattle.nest_tokens.specs.Division.{Begins, Stops, AllPass}
 use Rattle.nest_tokens.proofs.Spelled.{run-len, take-front}
@@ -34,14 +34,14 @@ lexed-run (c ∷ cs) bs b a h =
     let n : prefix_len is_name_byte ((c ∷ cs) ++ bs) ≡ length (c ∷ cs) = run-len is_name_byte (c ∷ cs) bs a h in
     lexed-letter c (cs ++ bs) b ∙ (ap (λ (k : ℕ). spelled_by ((c ∷ cs) ++ bs) k named) n ∙ ap (λ (l : List ℕ). record { token = named l; len = length (c ∷ cs) }) (take-front (c ∷ cs) bs))
 
-named-name : (s : List ℕ) → length s ≤ 32 → word_of s ≡ None → named s ≡ token.Name (name_of s)
+named-name : (s : List ℕ) → length s ≤ 32 → keyword_of s ≡ None → named s ≡ token.Name (name_of s)
 unfolding named
 named-name s h w = let t : nat_lt 32 (length s) ≡ false = not-less 32 (length s) h in rw (t, w) refl
   where
     not-less : (a b : ℕ) → b ≤ a → nat_lt a b ≡ false
     not-less a b h = grind arith
 
-pub lexed-name : (s bs : List ℕ) → length s ≤ 32 → Begins is_letter s → AllPass is_name_byte s → word_of s ≡ None → Stops is_name_byte bs → lexed (s ++ bs) ≡ record { token = token.Name (name_of s); len = length s }
+pub lexed-name : (s bs : List ℕ) → length s ≤ 32 → Begins is_letter s → AllPass is_name_byte s → keyword_of s ≡ None → Stops is_name_byte bs → lexed (s ++ bs) ≡ record { token = token.Name (name_of s); len = length s }
 lexed-name s bs h b a w k = lexed-run s bs b a k ∙ ap (λ (t : Token). record { token = t; len = length s }) (named-name s h w)
 
 -- Numbers

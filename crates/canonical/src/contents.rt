@@ -11,7 +11,7 @@ use crate::labels::Labels;
 use crate::loops::write_loops;
 use crate::page::Page;
 use crate::script::{write_candidate, write_operand, write_signed};
-use nest_grammar::{File, Item, Scalar, Unit, Version};
+use nest_grammar::{File, Item, Scalar, NestUnit, Version};
 use nest_lang::Command;
 use nest_tokens::Mark;
 use sqlite_items::Items;
@@ -181,7 +181,7 @@ fn write_candidates(scripts: &[Items<Command>], page: &mut Page) -> Result<(), A
 
 /// Writes a nest's loops, then its candidates.
 #[tactic(auto, unfolding(crate::specs::Contents::unit_lines), using(crate::proofs::Texts::texts))]
-fn write_unit(scalars: &[Scalar], unit: &Unit, page: &mut Page) -> Result<(), AllocError>
+fn write_unit(scalars: &[Scalar], unit: &NestUnit, page: &mut Page) -> Result<(), AllocError>
     ensures { OnOk result (page.new ≡ page.old ++ text_of (unit_lines scalars.now unit.now)) }
 {
     let labels = Labels {
@@ -195,7 +195,7 @@ fn write_unit(scalars: &[Scalar], unit: &Unit, page: &mut Page) -> Result<(), Al
 
 /// Writes the nests.
 #[tactic(auto, using(crate::proofs::Texts::lists))]
-fn write_units(scalars: &[Scalar], units: &[Unit], page: &mut Page) -> Result<(), AllocError>
+fn write_units(scalars: &[Scalar], units: &[NestUnit], page: &mut Page) -> Result<(), AllocError>
     ensures { OnOk result (page.new ≡ page.old ++ text_of (flat_map (unit_lines scalars.now) units.now)) }
 {
     for unit in units {

@@ -1,7 +1,7 @@
 //! Canonical texts of trees that were built by hand.
 
 use crate::write_file;
-use nest_grammar::{File, Item, LoopNames, Scalar, Unit, Version};
+use nest_grammar::{File, Item, LoopNames, Scalar, NestUnit, Version};
 use nest_lang::{Command, Expr, Head, Loop, Nest, Op, Place, Stmt};
 use nest_tokens::Name;
 use sqlite_items::{Boxed, Items};
@@ -56,7 +56,7 @@ fn names(alloc: Global, counter: Option<Name>) -> LoopNames {
 
 /// A file of one nest of one loop, with nothing but a memory before it.
 fn alone(alloc: Global, words: usize, only: Loop) -> Result<File, AllocError> {
-    let unit = Unit {
+    let unit = NestUnit {
         nest: Nest {
             loops: one(alloc, only)?,
         },
@@ -146,7 +146,7 @@ fn empty_branches(rt: HostRuntime) -> Result<(), Fail> {
 }
 
 /// Loops in one another, with locals before and behind the inner one, and a step.
-fn nested(alloc: Global) -> Result<Unit, AllocError> {
+fn nested(alloc: Global) -> Result<NestUnit, AllocError> {
     let mut pre = Items::new(alloc);
     pre.push(Stmt::Let(0, i()))?;
     pre.push(Stmt::Set(0, Expr::Var(Place::Local(0))))?;
@@ -179,7 +179,7 @@ fn nested(alloc: Global) -> Result<Unit, AllocError> {
     let mut scripts = Items::new(alloc);
     scripts.push(script)?;
     scripts.push(Items::new(alloc))?;
-    Ok(Unit {
+    Ok(NestUnit {
         nest: Nest { loops },
         names: labels,
         scripts,

@@ -17,20 +17,20 @@ use Rattle.nest_grammar.specs.declared.version.Version.TheVariants.{One, Two as 
 use Rattle.nest_grammar.specs.declared.file.Scalar.{Scalar as FileScalar}
 use Rattle.nest_grammar.specs.declared.file.Item.{Item as FileItem}
 use Rattle.nest_grammar.specs.declared.file.Item.TheVariants.{Data, Ramp}
-use Rattle.nest_grammar.specs.declared.file.Unit.{Unit as NestUnit}
+use Rattle.nest_grammar.specs.declared.file.NestUnit.{NestUnit}
 use Rattle.nest_grammar.specs.declared.file.File.{File as NestFile}
-use Rattle.nest_grammar.specs.declared.opening.LoopWord.{LoopWord}
-use Rattle.nest_grammar.specs.declared.opening.ItemWord.{ItemWord}
-use Rattle.nest_grammar.specs.declared.opening.ItemWord.TheVariants as thing
+use Rattle.nest_grammar.specs.declared.opening.LoopKeyword.{LoopKeyword}
+use Rattle.nest_grammar.specs.declared.opening.ItemKeyword.{ItemKeyword}
+use Rattle.nest_grammar.specs.declared.opening.ItemKeyword.TheVariants as thing
 use Rattle.nest_grammar.specs.declared.script.CommandWord.{CommandWord}
 use Rattle.nest_grammar.specs.declared.script.CommandWord.TheVariants as order
 use Rattle.nest_grammar.specs.Limits.{most_words, most_scalars, most_nests, most_depth, most_candidates, most_commands, most_rows}
 use Rattle.nest_grammar.specs.Sights.{Sight, stands, Sees, skip, of_version}
 use Rattle.nest_grammar.specs.Readings.{Reading, after, ◌>>=◌, gives, refused, wrong, need, obeys, signed, at_mark, many, end_at, end}
 use Rattle.nest_grammar.specs.Names.{Names, names_of}
-use Rattle.nest_grammar.specs.Loops.{loop_word}
+use Rattle.nest_grammar.specs.Loops.{loop_keyword}
 use Rattle.nest_grammar.specs.Scripts.{Script, word_spelling, word_of_name, command_word, may_follow, ruled, is_row, is_factor, is_size, marked, row_begins, next_row, rows, operands, command_at, command, next_command, script_at, script, candidate, candidates}
-use Rattle.nest_grammar.specs.Contents.{set_version, version_at, version, scalar, scalars, memory, item_word, value_begins, data_value, next_value, data_values, ramp_fits, item_of, item, items, outermost, unit, next_unit, units, contents}
+use Rattle.nest_grammar.specs.Contents.{set_version, version_at, version, scalar, scalars, memory, item_keyword, value_begins, data_value, next_value, data_values, ramp_fits, item_of, item, items, outermost, unit, next_unit, units, contents}
 use Rattle.grammar_laws.specs.Phrases.{File, Unit as AUnit, Scalar, Item, Loop, Signed, Candidate, Command, Form, Nothing, Sign, Numeral, Number, Verb, Many, The, ◌·◌, ◌∣◌, maybe, rule, Allows, nothing, sign, numeral, number, verb, both, one, other, the}
 use Rattle.grammar_laws.proofs.Sentences.{Word, Starts, word-then, starts-then, word-many, word-maybe, word-sign, word-number, starts-sign, starts-number, regroup, At, Of, at-as, at-then, of-then, of-gives, at-last, Real, at-skipped, of-wrong, by-token, by-test, at-obeys, of-need, of-many, Judged, of-judged, passed-one}
 use Rattle.grammar_laws.proofs.Viable.{word-loop, word-name, word-signed, plain-real, of-number_where, of-signed_where, of-fresh}
@@ -175,28 +175,28 @@ of-data_values : (words address : ℕ) → Of (The Signed · Many (Sign mark.Com
 unfolding data_values
 of-data_values words address s = of-then (of-data_value words address s) word-many (λ v. of-at_mark mark.Comma (next_value words address) (at-next_value words address) (v ∷ []))
 
-abbrev Given : ItemWord → Form
+abbrev Given : ItemKeyword → Form
 Given thing.Data = Number · Sign mark.Colon · The Signed · Many (Sign mark.Comma · The Signed)
 Given thing.Ramp = Number · Number · Number · The Signed · The Signed
 
-word-given : (w : ItemWord) → Word (Given w)
+word-given : (w : ItemKeyword) → Word (Given w)
 word-given thing.Data = word-then word-number (word-then word-sign (word-then word-signed word-many))
 word-given thing.Ramp = word-then word-number (word-then word-number (word-then word-number (word-then word-signed word-signed)))
 
-of-item_of : (words : ℕ) (w : ItemWord) → Of (Given w) (item_of words w)
+of-item_of : (words : ℕ) (w : ItemKeyword) → Of (Given w) (item_of words w)
 unfolding item_of
 of-item_of words thing.Data s = of-then (of-number_where (λ n. true) kind.Range s) (word-then word-sign (word-then word-signed word-many)) (λ first t. of-then (of-need mark.Colon t) (word-then word-signed word-many) (λ _ x. at-last (of-data_values words first x) (λ vs. of-gives (Data first vs))))
 of-item_of words thing.Ramp s = of-then (of-number_where (λ n. true) kind.Range s) (word-then word-number (word-then word-number (word-then word-signed word-signed))) (λ first t. of-then (of-number_where (λ n. true) kind.Range t) (word-then word-number (word-then word-signed word-signed)) (λ count x. of-then (of-number_where (λ n. not (n == 0)) kind.Range x) (word-then word-signed word-signed) (λ stride y. of-then (of-signed_where (λ v. true) kind.Range y) word-signed (λ start z. at-last (of-signed_where (ramp_fits words first count stride start) kind.Range z) (λ growth. of-gives (Ramp first count stride start growth))))))
 
-at-item : (words : ℕ) (is : List FileItem) (s : Sight) (t : Token) → stands s ≡ t → (w : ItemWord) → item_word t ≡ Some w → At (The Item) (item words w is) s
-unfolding item_word
+at-item : (words : ℕ) (is : List FileItem) (s : Sight) (t : Token) → stands s ≡ t → (w : ItemKeyword) → item_keyword t ≡ Some w → At (The Item) (item words w is) s
+unfolding item_keyword
 at-item words is s (token.Plain mark.Data) h thing.Data k = at-as (λ ts v. the (one v)) (of-then (at-skipped (token.Plain mark.Data) h (plain-real mark.Data) sign) (word-given thing.Data) (λ _ t. at-last (of-item_of words thing.Data t) (λ i. of-gives (is ++ i ∷ []))))
 at-item words is s (token.Plain mark.Ramp) h thing.Ramp k = at-as (λ ts v. the (other v)) (of-then (at-skipped (token.Plain mark.Ramp) h (plain-real mark.Ramp) sign) (word-given thing.Ramp) (λ _ t. at-last (of-item_of words thing.Ramp t) (λ i. of-gives (is ++ i ∷ []))))
 at-item words is s _ h w k = absurd (cc)
 
 of-items : (words : ℕ) → Of (Many (The Item)) (items words)
 unfolding items
-of-items words = of-many item_word (item words) (λ w is s k. at-item words is s (stands s) refl w k) []
+of-items words = of-many item_keyword (item words) (λ w is s k. at-item words is s (stands s) refl w k) []
 
 -- Nests
 
@@ -207,7 +207,7 @@ of-unit : (names : Names) → Of (The Loop · Many (The Candidate)) (unit names)
 unfolding unit
 of-unit names s = of-then (of-outermost names s) word-many (λ ls t. at-last (of-candidates (length ls.0) t) (λ scripts. of-gives (record { nest = record { loops = ls.0 }; names = ls.1; scripts = scripts })))
 
-at-next_unit : (names : Names) (w : LoopWord) (us : List NestUnit) (s : Sight) → loop_word (stands s) ≡ Some w → At (The AUnit) (next_unit names w us) s
+at-next_unit : (names : Names) (w : LoopKeyword) (us : List NestUnit) (s : Sight) → loop_keyword (stands s) ≡ Some w → At (The AUnit) (next_unit names w us) s
 at-next_unit names w us s k = (let v = starts-loop (stands s) w k in at-as (λ ts x. the x) (at-obeys _ (nat_lt (length us) most_nests) kind.Many (stands s) refl v.0 (starts-then v.1 word-many)
     (at-last (of-unit names s) (λ n. of-gives (us ++ n ∷ [])))))
 
@@ -225,7 +225,7 @@ word-rest Several = word-then word-unit word-many
 of-units : (v : Version) (names : Names) → Of (Nests v) (units v names)
 unfolding units
 of-units One names s = at-last (of-unit names s) (λ n. of-gives (n ∷ []))
-of-units Several names s = of-then (at-as (λ ts x. the x) (of-unit names s)) word-many (λ n. of-many loop_word (next_unit names) (λ w us t k. at-next_unit names w us t k) (n ∷ []))
+of-units Several names s = of-then (at-as (λ ts x. the x) (of-unit names s)) word-many (λ n. of-many loop_keyword (next_unit names) (λ w us t k. at-next_unit names w us t k) (n ∷ []))
 
 -- Whole files
 

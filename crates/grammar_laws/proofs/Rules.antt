@@ -14,7 +14,7 @@ use Rattle.nest_grammar.specs.declared.version.Version.TheVariants.{One, Two as 
 use Rattle.nest_grammar.specs.declared.file.Scalar.{Scalar}
 use Rattle.nest_grammar.specs.declared.file.Item.{Item}
 use Rattle.nest_grammar.specs.declared.file.LoopNames.{LoopNames}
-use Rattle.nest_grammar.specs.declared.file.Unit.{Unit as NestUnit}
+use Rattle.nest_grammar.specs.declared.file.NestUnit.{NestUnit}
 use Rattle.nest_grammar.specs.declared.file.File.{File}
 use Rattle.nest_grammar.specs.Limits.{most_scalars, most_nests, most_depth}
 use Rattle.nest_grammar.specs.Sights.{Sight, skip}

@@ -7,8 +7,8 @@ use Rattle.nest_tokens.specs.declared.token.Token.{Token}
 use Rattle.nest_tokens.specs.declared.token.Token.TheVariants as token
 use Rattle.nest_tokens.specs.declared.token.BadToken.TheVariants as bad
 use Rattle.nest_tokens.specs.declared.token.Spot.{Spot}
-use Rattle.nest_tokens.specs.Tokens.{word_of}
-use Rattle.nest_tokens.specs.Lexing.{is_letter, is_name_byte, decimal, named, numbered, word_or_name}
+use Rattle.nest_tokens.specs.Tokens.{keyword_of}
+use Rattle.nest_tokens.specs.Lexing.{is_letter, is_name_byte, decimal, named, numbered, keyword_or_name}
 use Rattle.nest_tokens.specs.Division.{Begins, AllPass, Spells, name, number, sign, bad_byte, Divides, ends, goes_on}
 use Rattle.nest_tokens.proofs.Dividing.{tokens-divide}
 use Rattle.nest_grammar.specs.Sights.{Sight, here, first, skip, rest, start}
@@ -28,13 +28,13 @@ proper-named : (s : List ℕ) → Begins is_letter s → AllPass is_name_byte s 
 unfolding named
 proper-named s b a = long (nat_lt 32 (length s)) refl
   where
-    word : length s ≤ 32 → (o : Option Mark) → Proper (word_or_name o s)
+    word : length s ≤ 32 → (o : Option Mark) → Proper (keyword_or_name o s)
     word l (Some m) = tt
     word l None = (s, refl, l, b, a)
 
-    long : (c : Bool) → nat_lt 32 (length s) ≡ c → Proper (cond c (token.Bad bad.Name) (word_or_name (word_of s) s))
+    long : (c : Bool) → nat_lt 32 (length s) ≡ c → Proper (cond c (token.Bad bad.Name) (keyword_or_name (keyword_of s) s))
     long true e = tt
-    long false e = word (ltb-false 32 (length s) e) (word_of s)
+    long false e = word (ltb-false 32 (length s) e) (keyword_of s)
 
 proper-numbered : (s : List ℕ) → Proper (numbered s)
 unfolding numbered

@@ -22,7 +22,7 @@ use Rattle.nest_grammar.specs.declared.file.Scalar.{Scalar}
 use Rattle.nest_grammar.specs.declared.file.Item.{Item}
 use Rattle.nest_grammar.specs.declared.file.Item.TheVariants.{Data, Ramp}
 use Rattle.nest_grammar.specs.declared.file.LoopNames.{LoopNames}
-use Rattle.nest_grammar.specs.declared.file.Unit.{Unit as NestUnit}
+use Rattle.nest_grammar.specs.declared.file.NestUnit.{NestUnit}
 use Rattle.nest_grammar.specs.declared.file.File.{File}
 use Rattle.nest_grammar.specs.declared.script.CommandWord.TheVariants as word
 use Rattle.nest_grammar.specs.Limits.{most_bytes, most_words, most_scalars, most_lets, most_tokens, most_open, most_ifs, most_nests, most_candidates, most_commands, most_rows, most_depth, most_accesses}
@@ -51,13 +51,13 @@ abbrev pub SeesName : Name → Sight → Type 0
 SeesName n s = stands s ≡ token.Name n
 
 -- the parts of an expression, each of which the next one is made of
-pub data Part : Type 0 where
-  Unary Term Sum Whole : Part
+pub data Precedence : Type 0 where
+  Unary Term Sum Whole : Precedence
 
 -- `Is names part d s e t`: from s to t stands the expression e, as this part, where these names are visible
 -- and d more brackets, parentheses and prefix signs may be open at once. A load is numbered behind the
 -- loads of its address.
-pub data Is (names : Names) : Part → ℕ → Sight → Expr → Sight → Type 0 where
+pub data Is (names : Names) : Precedence → ℕ → Sight → Expr → Sight → Type 0 where
   number : {d : ℕ} {n : ℤ} {s : Sight} → stands s ≡ token.Number n → Room s → Is names Unary d s (Number n) (spend s)
   variable : {d : ℕ} {n : Name} {p : Place} {s : Sight} → SeesName n s → place_of names n ≡ Some p → Room s → Is names Unary d s (Var p) (spend s)
   minus : {d : ℕ} {e : Expr} {s t : Sight} → Sees mark.Minus s → Room s → Is names Unary d (spend s) e t → Is names Unary (suc d) s (Neg e) t

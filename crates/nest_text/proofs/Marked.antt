@@ -8,16 +8,16 @@ use Rattle.nest_tokens.specs.Tokens.{is_mark}
 use Rattle.nest_grammar.specs.declared.fault.TextFault.{TextFault}
 use Rattle.nest_grammar.specs.declared.file.Scalar.{Scalar}
 use Rattle.nest_grammar.specs.declared.file.Item.{Item}
-use Rattle.nest_grammar.specs.declared.file.Unit.{Unit as NestUnit}
-use Rattle.nest_grammar.specs.declared.opening.LoopWord.{LoopWord}
-use Rattle.nest_grammar.specs.declared.opening.LoopWord.TheVariants as word
-use Rattle.nest_grammar.specs.declared.opening.ItemWord.{ItemWord}
+use Rattle.nest_grammar.specs.declared.file.NestUnit.{NestUnit}
+use Rattle.nest_grammar.specs.declared.opening.LoopKeyword.{LoopKeyword}
+use Rattle.nest_grammar.specs.declared.opening.LoopKeyword.TheVariants as word
+use Rattle.nest_grammar.specs.declared.opening.ItemKeyword.{ItemKeyword}
 use Rattle.nest_grammar.specs.Sights.{Sight, stands, skip}
 use Rattle.nest_grammar.specs.Readings.{Reading, at_mark, many}
 use Rattle.nest_grammar.specs.Names.{Names, declared, scalars_from, names_of}
-use Rattle.nest_grammar.specs.Loops.{loop_word}
+use Rattle.nest_grammar.specs.Loops.{loop_keyword}
 use Rattle.nest_grammar.specs.Scripts.{Script, row_begins, next_row, command, next_command, candidate}
-use Rattle.nest_grammar.specs.Contents.{scalar, item_word, item, item_of, data_value, next_value, next_unit}
+use Rattle.nest_grammar.specs.Contents.{scalar, item_keyword, item, item_of, data_value, next_value, next_unit}
 use Rattle.nest_grammar.proofs.Many.{many-stop}
 use Rattle.nest_grammar.proofs.Chains.{scalar-goes, scalar-fails, scalar-shorter, item-goes, item-fails, item-shorter, value-goes, value-fails, value-shorter, row-goes, row-fails, row-shorter, command-goes, command-fails, command-shorter, candidate-goes, candidate-fails, candidate-shorter, unit-goes, unit-fails, unit-shorter}
 
@@ -70,13 +70,13 @@ pub ruleset value_loop = (values-next, values-fail, values-shorter, marked-ends)
 
 -- Items
 
-pub items-next : (words : ℕ) (is : List Item) (i : Item) (s t : Sight) (w : ItemWord) (whole : Result (List Item × Sight) TextFault) → item_word (stands s) ≡ Some w → item_of words w (skip s) ≡ Ok (i, t) → many item_word (item words) is s ≡ whole → many item_word (item words) (is ++ i ∷ []) t ≡ whole
+pub items-next : (words : ℕ) (is : List Item) (i : Item) (s t : Sight) (w : ItemKeyword) (whole : Result (List Item × Sight) TextFault) → item_keyword (stands s) ≡ Some w → item_of words w (skip s) ≡ Ok (i, t) → many item_keyword (item words) is s ≡ whole → many item_keyword (item words) (is ++ i ∷ []) t ≡ whole
 items-next words is i s t w whole e h k = item-goes words is (is ++ i ∷ []) s t w whole e (rw h refl) k
 
-pub items-fail : (words : ℕ) (is : List Item) (s : Sight) (w : ItemWord) (f : TextFault) (whole : Result (List Item × Sight) TextFault) → item_word (stands s) ≡ Some w → item_of words w (skip s) ≡ Err f → many item_word (item words) is s ≡ whole → whole ≡ Err f
+pub items-fail : (words : ℕ) (is : List Item) (s : Sight) (w : ItemKeyword) (f : TextFault) (whole : Result (List Item × Sight) TextFault) → item_keyword (stands s) ≡ Some w → item_of words w (skip s) ≡ Err f → many item_keyword (item words) is s ≡ whole → whole ≡ Err f
 items-fail words is s w f whole e h k = item-fails words is s w f whole e (rw h refl) k
 
-pub items-shorter : (words : ℕ) (i : Item) (s t : Sight) (w : ItemWord) → item_word (stands s) ≡ Some w → item_of words w (skip s) ≡ Ok (i, t) → length t.left < length s.left
+pub items-shorter : (words : ℕ) (i : Item) (s t : Sight) (w : ItemKeyword) → item_keyword (stands s) ≡ Some w → item_of words w (skip s) ≡ Ok (i, t) → length t.left < length s.left
 items-shorter words i s t w e h = item-shorter words [] (i ∷ []) s t w e (rw h refl)
 
 pub ruleset item_loop = (items-next, items-fail, items-shorter, worded-ends)
@@ -122,13 +122,13 @@ pub ruleset candidate_loop = (candidates-next, candidates-fail, candidates-short
 
 -- Nests
 
-pub units-next : (names : Names) (us vs : List NestUnit) (s t : Sight) (w : LoopWord) (whole : Result (List NestUnit × Sight) TextFault) → loop_word (stands s) ≡ Some w → next_unit names word.For us s ≡ Ok (vs, t) → many loop_word (next_unit names) us s ≡ whole → many loop_word (next_unit names) vs t ≡ whole
+pub units-next : (names : Names) (us vs : List NestUnit) (s t : Sight) (w : LoopKeyword) (whole : Result (List NestUnit × Sight) TextFault) → loop_keyword (stands s) ≡ Some w → next_unit names word.For us s ≡ Ok (vs, t) → many loop_keyword (next_unit names) us s ≡ whole → many loop_keyword (next_unit names) vs t ≡ whole
 units-next names us vs s t w whole e h k = unit-goes names us vs s t w whole e h k
 
-pub units-fail : (names : Names) (us : List NestUnit) (s : Sight) (w : LoopWord) (f : TextFault) (whole : Result (List NestUnit × Sight) TextFault) → loop_word (stands s) ≡ Some w → next_unit names word.For us s ≡ Err f → many loop_word (next_unit names) us s ≡ whole → whole ≡ Err f
+pub units-fail : (names : Names) (us : List NestUnit) (s : Sight) (w : LoopKeyword) (f : TextFault) (whole : Result (List NestUnit × Sight) TextFault) → loop_keyword (stands s) ≡ Some w → next_unit names word.For us s ≡ Err f → many loop_keyword (next_unit names) us s ≡ whole → whole ≡ Err f
 units-fail names us s w f whole e h k = unit-fails names us s w f whole e h k
 
-pub units-shorter : (names : Names) (us vs : List NestUnit) (s t : Sight) (w : LoopWord) → loop_word (stands s) ≡ Some w → next_unit names word.For us s ≡ Ok (vs, t) → length t.left < length s.left
+pub units-shorter : (names : Names) (us vs : List NestUnit) (s t : Sight) (w : LoopKeyword) → loop_keyword (stands s) ≡ Some w → next_unit names word.For us s ≡ Ok (vs, t) → length t.left < length s.left
 units-shorter names us vs s t w e h = unit-shorter names us vs s t w e h
 
 pub ruleset unit_loop = (units-next, units-fail, units-shorter, worded-ends)
