@@ -8,7 +8,7 @@ use Rattle.nest_tokens.specs.declared.token.Token.TheVariants as token
 use Rattle.nest_tokens.specs.Tokens.{spelling, keyword_of, sign_at}
 use Rattle.nest_tokens.specs.Lexing.{is_letter, is_digit, is_name_byte, named, sign_or_byte, lexed}
 use Rattle.nest_tokens.specs.Division.{Begins, Stops, AllPass}
-use Rattle.canonical.proofs.LayoutTokens.{lexed-run}
+use Rattle.nest_tokens.proofs.Spelled.{lexed-other, lexed-run}
 
 -- a reserved word, and no sign
 unfoldable pub is_word : Mark → Bool
@@ -161,10 +161,6 @@ sign-begins mark.Assign h = (_, _, refl, refl, refl, refl)
 sign-begins mark.Less h = (_, _, refl, refl, refl, refl)
 sign-begins mark.Greater h = (_, _, refl, refl, refl, refl)
 sign-begins _ h = absurd (cc)
-
-lexed-other : (c : ℕ) (l : List ℕ) → is_letter c ≡ false → is_digit c ≡ false → lexed (c ∷ l) ≡ sign_or_byte (sign_at (c ∷ l))
-unfolding lexed
-lexed-other c l h k = rw (h, k) refl
 
 pub lexed-sign : (m : Mark) (bs : List ℕ) → is_word m ≡ false → Stops is_equals bs → lexed (spelling m ++ bs) ≡ record { token = token.Plain m; len = length (spelling m) }
 lexed-sign m bs h k =

@@ -48,7 +48,7 @@ numbered-writable s = elim (nat_lt (decimal s) (2 ^ 63)) as (λ t. nat_lt (decim
 spelled-writable : {s rest : List ℕ} {t : Token} → Spells s rest t → Writable t
 spelled-writable (name {s} b a k) = named-writable s b a
 spelled-writable (number {s} b a k) = numbered-writable s
-spelled-writable (sign e k) = tt
+spelled-writable (sign e i l) = tt
 spelled-writable (bad_byte a b c d e) = tt
 
 divided-writable : {size : ℕ} {bs : List ℕ} {spots : List Spot} → Divides size bs spots → AllWritable spots

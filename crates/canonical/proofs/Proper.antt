@@ -12,7 +12,8 @@ use Rattle.nest_tokens.specs.declared.token.Mark.TheVariants as mark
 use Rattle.nest_tokens.specs.declared.token.Token.{Token}
 use Rattle.nest_tokens.specs.declared.token.Token.TheVariants as token
 use Rattle.nest_tokens.specs.declared.token.Spot.{Spot}
-use Rattle.nest_grammar.specs.Sights.{Sight, first, rest, here, stands, skip, spend, opens, numbered, afresh, bound, in_block}
+use Rattle.nest_tokens.specs.Ahead.{first, rest}
+use Rattle.nest_grammar.specs.Sights.{Sight, here, stands, skip, spend, opens, numbered, afresh, bound, in_block}
 use Rattle.nest_grammar.specs.Names.{Names}
 use Rattle.nest_grammar.specs.Grammar.{Precedence, Is, number as is_number, variable, minus, parens, load, factor, product, summand, addition, side, comparison, IsExpression, IsStmt, let_, set, store, when, either, IsBraced, braced, IsList, none as list_none, more, IsBlock, block}
 use Rattle.canonical.specs.declared.group.Group.{Group}

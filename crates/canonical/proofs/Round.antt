@@ -11,7 +11,8 @@ use Rattle.nest_tokens.specs.declared.token.Token.{Token}
 use Rattle.nest_tokens.specs.declared.token.Token.TheVariants as token
 use Rattle.nest_tokens.specs.declared.token.Spot.{Spot}
 use Rattle.nest_grammar.specs.Limits.{most_tokens, most_accesses, most_open}
-use Rattle.nest_grammar.specs.Sights.{Sight, first, rest, here, stands, skip, spend, opens, numbered, afresh, Sees}
+use Rattle.nest_tokens.specs.Ahead.{first, rest}
+use Rattle.nest_grammar.specs.Sights.{Sight, here, stands, skip, spend, opens, numbered, afresh, Sees}
 use Rattle.nest_grammar.specs.Names.{Names, place_of}
 use Rattle.nest_grammar.specs.Expressions.{product_of, addition_of, comparison_of}
 use Rattle.nest_grammar.specs.Grammar.{Precedence, Unary as AsUnary, Term as AsTerm, Sum as AsSum, Whole as AsWhole, Is, number, variable, minus, parens, load, factor, product, summand, addition, side, comparison, Room, AccessRoom, IsExpression}

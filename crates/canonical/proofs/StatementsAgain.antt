@@ -14,7 +14,8 @@ use Rattle.nest_tokens.specs.declared.token.Token.TheVariants as token
 use Rattle.nest_tokens.specs.declared.token.Spot.{Spot}
 use Rattle.nest_grammar.specs.declared.file.Declared.{Declared}
 use Rattle.nest_grammar.specs.Limits.{most_lets, most_accesses}
-use Rattle.nest_grammar.specs.Sights.{Sight, first, rest, here, skip, opens, numbered, bound, Sees}
+use Rattle.nest_tokens.specs.Ahead.{first, rest}
+use Rattle.nest_grammar.specs.Sights.{Sight, here, skip, opens, numbered, bound, Sees}
 use Rattle.nest_grammar.specs.Names.{Names, declared, place_of}
 use Rattle.nest_grammar.specs.Grammar.{Precedence, Is, number, variable, minus, parens, load, factor, product, summand, addition, side, comparison, AccessRoom, IsExpression, IsStmt, let_, set, store, when, either, IsBraced, braced, IsList, none, more}
 use Rattle.canonical.specs.Pieces.{Piece, Space, Newline, plain, spaced, line}

@@ -21,7 +21,7 @@ use Rattle.nest_grammar.specs.declared.fault.TextFault.{TextFault}
 use Rattle.nest_grammar.specs.declared.fault.TextKind.TheVariants as kind
 use Rattle.nest_grammar.specs.Limits.{most_bytes, most_words, most_scalars, most_nests, most_depth}
 use Rattle.nest_grammar.specs.Sights.{Sight, stands, Sees, skip, of_version, start}
-use Rattle.nest_grammar.specs.Readings.{Reading, after, ◌>>=◌, refused, wrong, need, obeys, number, number_where, signed, at_mark, many}
+use Rattle.nest_grammar.specs.Readings.{Reading, after, ◌>>=◌, refused, wrong, need, obeys, number, number_where, signed, at_mark, many, always}
 use Rattle.nest_grammar.specs.Names.{Names, place_of, names_of}
 use Rattle.nest_grammar.specs.Loops.{loop_keyword, loops}
 use Rattle.nest_grammar.specs.Scripts.{candidate, candidates}
@@ -43,7 +43,7 @@ use Rattle.grammar_laws.proofs.Versions.{kept-unit, kept-scalars, kept-items}
 signed-read : (s : Sight) (v : ℤ) (t : Sight) → IsSigned s v t → signed s ≡ Ok (v, t)
 signed-read s v t i = signed-is (λ v. true) kind.Range s v t i refl
 
-scalar-read : (cs : List Scalar) (n : Name) (v : ℤ) (s t : Sight) → length cs < most_scalars → SeesName n (skip s) → place_of (names_of cs) n ≡ None → Sees mark.Assign (skip (skip s)) → IsSigned (skip (skip (skip s))) v t → scalar tt cs s ≡ Ok (cs ++ record { name = n; value = v } ∷ [], t)
+scalar-read : (cs : List Scalar) (n : Name) (v : ℤ) (s t : Sight) → length cs < most_scalars → SeesName n (skip s) → place_of (names_of cs) n ≡ None → Sees mark.Assign (skip (skip s)) → IsSigned (skip (skip (skip s))) v t → scalar cs s ≡ Ok (cs ++ record { name = n; value = v } ∷ [], t)
 scalar-read cs n v s t l h k a i =
     let x1 = fewer-room (length cs) most_scalars s l in
     let x2 = fresh-sees (names_of cs) n (skip s) h k in
@@ -51,11 +51,11 @@ scalar-read cs n v s t l h k a i =
     let x4 = signed-read (skip (skip (skip s))) v t i in
     rw (x1, x2, x3, x4)
 
-scalars-complete : {s : Sight} {cs : List Scalar} {t : Sight} → IsScalars s cs t → scalars s ≡ many (at_mark mark.Scalar) scalar cs t
+scalars-complete : {s : Sight} {cs : List Scalar} {t : Sight} → IsScalars s cs t → scalars s ≡ many (at_mark mark.Scalar) (always scalar) cs t
 unfolding scalars
 scalars-complete grammar.none = refl
 scalars-complete (grammar.more {cs} {n} {v} {s} {t} {u} i h l k f a j) =
-    scalars-complete i ∙ many-reads (at_mark mark.Scalar) scalar cs (cs ++ record { name = n; value = v } ∷ []) t u tt parts-scalar (mark-begins mark.Scalar t h) (scalar-read cs n v t u l k f a j)
+    scalars-complete i ∙ many-reads (at_mark mark.Scalar) (always scalar) cs (cs ++ record { name = n; value = v } ∷ []) t u tt parts-scalar (mark-begins mark.Scalar t h) (scalar-read cs n v t u l k f a j)
 
 memory-no-scalar : (s : Sight) → Sees mark.Memory s → at_mark mark.Scalar (stands s) ≡ None
 unfolding is_mark spelling
@@ -80,14 +80,14 @@ data_value-read words address v s t l i =
     let x3 = signed-read s v t i in
     rw (x1, x2, x3)
 
-next_value-read : (words first : ℕ) (vs : List ℤ) (v : ℤ) (s t : Sight) → first + length vs < words → IsSigned (skip s) v t → next_value words first tt vs s ≡ Ok (vs ++ v ∷ [], t)
+next_value-read : (words first : ℕ) (vs : List ℤ) (v : ℤ) (s t : Sight) → first + length vs < words → IsSigned (skip s) v t → next_value words first vs s ≡ Ok (vs ++ v ∷ [], t)
 next_value-read words first vs v s t l i = let x = data_value-read words (first + length vs) v (skip s) t l i in rw x
 
-values-complete : {words first : ℕ} {s : Sight} {vs : List ℤ} {t : Sight} → IsValues words first s vs t → data_values words first s ≡ many (at_mark mark.Comma) (next_value words first) vs t
+values-complete : {words first : ℕ} {s : Sight} {vs : List ℤ} {t : Sight} → IsValues words first s vs t → data_values words first s ≡ many (at_mark mark.Comma) (always (next_value words first)) vs t
 unfolding data_values
 values-complete {words} {first} (grammar.one {v} {s} {t} l i) = let x = data_value-read words first v s t l i in rw x
 values-complete {words} {first} (grammar.more {vs} {v} {s} {t} {u} i h l j) =
-    values-complete i ∙ many-reads (at_mark mark.Comma) (next_value words first) vs (vs ++ v ∷ []) t u tt (parts-value words first) (mark-begins mark.Comma t h) (next_value-read words first vs v t u l j)
+    values-complete i ∙ many-reads (at_mark mark.Comma) (always (next_value words first)) vs (vs ++ v ∷ []) t u tt (parts-value words first) (mark-begins mark.Comma t h) (next_value-read words first vs v t u l j)
 
 item-read : (words : ℕ) (w : ItemKeyword) (is : List Item) (i : Item) (s t : Sight) → item_of words w (skip s) ≡ Ok (i, t) → item words w is s ≡ Ok (is ++ i ∷ [], t)
 item-read words w is i s t h = rw h
@@ -101,7 +101,7 @@ unfolding item_keyword item_of
 item-complete words s _ u (data_ {first} {vs} {t = t} h n q c v) e =
     let x1 = number-sees (λ n. true) kind.Range first (skip s) n refl in
     let x2 : need mark.Colon (skip (skip s)) ≡ Ok (tt, skip t) = ap (need mark.Colon) (sym q) ∙ need-sees mark.Colon t c in
-    let x3 : data_values words first (skip t) ≡ Ok (vs, u) = values-complete v ∙ many-stop (at_mark mark.Comma) (next_value words first) vs u e in
+    let x3 : data_values words first (skip t) ≡ Ok (vs, u) = values-complete v ∙ many-stop (at_mark mark.Comma) (always (next_value words first)) vs u e in
     (word.Data, ap item_keyword h, (rw (x1, x2, x3) refl))
 item-complete words s _ w (ramp {first} {count} {stride} {start} {growth} {t = t} {u} {v} h f q c r k n i j m) e =
     let x1 = number-sees (λ n. true) kind.Range first (skip s) f refl in
@@ -145,7 +145,7 @@ unit-complete : (v : Version) (names : Names) (s : Sight) (u : NestUnit) (t : Si
 unfolding unit
 unit-complete v names s _ u (grammar.unit {ls} {ns} {scripts} {t = t} i j) q e =
     let x1 : loops (most_depth s.version) 0 names s ≡ Ok ((ls, ns), t) = ap (λ (v : Version). loops (most_depth v) 0 names s) q ∙ loops-complete i in
-    let x2 : candidates (length ls) t ≡ Ok (scripts, u) = candidates-complete j ∙ many-stop (at_mark mark.Candidate) (candidate (length ls)) scripts u e in
+    let x2 : candidates (length ls) t ≡ Ok (scripts, u) = candidates-complete j ∙ many-stop (at_mark mark.Candidate) (always (candidate (length ls))) scripts u e in
     rw (x1, x2)
 
 next_unit-read : (names : Names) (w : LoopKeyword) (us : List NestUnit) (u : NestUnit) (s t : Sight) → length us < most_nests → unit names s ≡ Ok (u, t) → next_unit names w us s ≡ Ok (us ++ u ∷ [], t)
@@ -178,7 +178,7 @@ reads-reading text _ (grammar.file {version = ver} {scalars = cs} {words} {items
     let x0 = le-leb (length text) most_bytes l in
     let xv = version-complete (start text) ver s iv in
     let x1 = xv.0 in
-    let x2 : scalars s ≡ Ok (cs, t) = scalars-complete ic ∙ many-stop (at_mark mark.Scalar) scalar cs t (memory-no-scalar t m) in
+    let x2 : scalars s ≡ Ok (cs, t) = scalars-complete ic ∙ many-stop (at_mark mark.Scalar) (always scalar) cs t (memory-no-scalar t m) in
     let x3 = memory-complete t words m n b in
     let f = units-front iu in
     let g = word-no-item (stands u) f.0 f.1 in
@@ -193,9 +193,9 @@ reads-reading text _ (grammar.file {version = ver} {scalars = cs} {words} {items
 
 scalars-sound : (s : Sight) (x : List Scalar × Sight) → scalars s ≡ Ok x → IsScalars s x.0 x.1
 unfolding scalars
-scalars-sound s x h = many-sound (IsScalars s) (at_mark mark.Scalar) scalar next [] s x grammar.none h
+scalars-sound s x h = many-sound (IsScalars s) (at_mark mark.Scalar) (always scalar) next [] s x grammar.none h
   where
-    next : (cs : List Scalar) (t : Sight) (u : Unit {0}) (y : List Scalar × Sight) → IsScalars s cs t → at_mark mark.Scalar (stands t) ≡ Some u → scalar u cs t ≡ Ok y → IsScalars s y.0 y.1
+    next : (cs : List Scalar) (t : Sight) (u : Unit {0}) (y : List Scalar × Sight) → IsScalars s cs t → at_mark mark.Scalar (stands t) ≡ Some u → scalar cs t ≡ Ok y → IsScalars s y.0 y.1
     next cs t u y i e k =
         let f1 = fewer-then (length cs) most_scalars _ t y k in
         let f2 = fresh-then (names_of cs) _ (skip t) y f1.1 in
@@ -228,9 +228,9 @@ unfolding data_values
 values-sound words first s x h =
     let f = read-then (data_value words first s) _ x h in
     let g = data_value-sound words first s f.0 f.1 in
-    many-sound (IsValues words first s) (at_mark mark.Comma) (next_value words first) next (f.0.0 ∷ []) f.0.1 x (grammar.one g.0 g.1) f.2
+    many-sound (IsValues words first s) (at_mark mark.Comma) (always (next_value words first)) next (f.0.0 ∷ []) f.0.1 x (grammar.one g.0 g.1) f.2
   where
-    next : (vs : List ℤ) (t : Sight) (u : Unit {0}) (y : List ℤ × Sight) → IsValues words first s vs t → at_mark mark.Comma (stands t) ≡ Some u → next_value words first u vs t ≡ Ok y → IsValues words first s y.0 y.1
+    next : (vs : List ℤ) (t : Sight) (u : Unit {0}) (y : List ℤ × Sight) → IsValues words first s vs t → at_mark mark.Comma (stands t) ≡ Some u → next_value words first vs t ≡ Ok y → IsValues words first s y.0 y.1
     next vs t u y i e k =
         let f = read-then (data_value words (first + length vs) (skip t)) _ y k in
         let g = data_value-sound words (first + length vs) (skip t) f.0 f.1 in

@@ -13,7 +13,8 @@ use Rattle.nest_tokens.specs.Lexing.{is_letter, is_digit, is_name_byte, gap, dec
 use Rattle.nest_grammar.specs.declared.fault.TextFault.{TextFault}
 use Rattle.nest_grammar.specs.declared.file.File.{File}
 use Rattle.nest_grammar.specs.Limits.{most_bytes}
-use Rattle.nest_grammar.specs.Sights.{Sight, first, start}
+use Rattle.nest_tokens.specs.Ahead.{first}
+use Rattle.nest_grammar.specs.Sights.{Sight, start}
 use Rattle.nest_grammar.specs.Contents.{contents, file_of, reading}
 use Rattle.nest_grammar.proofs.Local.{Same, Here, relocated}
 use Rattle.nest_grammar.proofs.Productions.{local-contents}

@@ -7,7 +7,7 @@ use Rattle.std.proofs.lemmas.List.Elements.{All-nil, All-push}
 use Rattle.nest_lang.specs.declared.tree.Stmt.{Stmt}
 use Rattle.nest_lang.specs.declared.tree.Head.{Head}
 use Rattle.nest_lang.specs.declared.tree.Loop.{Loop}
-use Rattle.nest_lang.specs.Rules.{strides, has_statements, loop_keeps, keeps_rules}
+use Rattle.nest_lang.specs.Rules.{strides, has_statements, loop_keeps, loops_keep}
 use Rattle.nest_tokens.specs.declared.token.Name.{Name}
 use Rattle.nest_grammar.specs.declared.version.Version.{Version}
 use Rattle.nest_grammar.specs.declared.version.Version.TheVariants.{One, Two as Several}
@@ -64,13 +64,13 @@ depth-least : (v : Version) → most_depth v ≤ 6
 depth-least One = omega arith
 depth-least Several = omega arith
 
-nest-keeps : (ls : List Loop) → Keep ls → length ls ≤ 6 → keeps_rules ls ≡ true
-unfolding keeps_rules
+nest-keeps : (ls : List Loop) → Keep ls → length ls ≤ 6 → loops_keep ls ≡ true
+unfolding loops_keep
 nest-keeps [] k l = absurd k
 nest-keeps (m ∷ ls) k l = let e : nat_le (length ls) 5 ≡ true = le-leb (length ls) 5 (omega arith) in rw (e, k)
 
 abbrev NestKeeps : NestUnit → Type 0
-NestKeeps u = keeps_rules u.nest.loops ≡ true
+NestKeeps u = loops_keep u.nest.loops ≡ true
 
 unit-keeps : {v : Version} {names : Names} {s : Sight} {u : NestUnit} {t : Sight} → IsUnit v names s u t → NestKeeps u
 unit-keeps {v} (grammar.unit {ls} i j) = let f = loops-keep i in let w = depth-least v in nest-keeps ls f.0 (omega (arith, f.1, w))

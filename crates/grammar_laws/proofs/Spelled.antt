@@ -11,7 +11,8 @@ use Rattle.nest_tokens.specs.Tokens.{keyword_of}
 use Rattle.nest_tokens.specs.Lexing.{is_letter, is_name_byte, decimal, named, numbered, keyword_or_name}
 use Rattle.nest_tokens.specs.Division.{Begins, AllPass, Spells, name, number, sign, bad_byte, Divides, ends, goes_on}
 use Rattle.nest_tokens.proofs.Dividing.{tokens-divide}
-use Rattle.nest_grammar.specs.Sights.{Sight, here, first, skip, rest, start}
+use Rattle.nest_tokens.specs.Ahead.{first, rest}
+use Rattle.nest_grammar.specs.Sights.{Sight, here, skip, start}
 use Rattle.nest_grammar.specs.Grammar.{SeesName}
 use Rattle.grammar_laws.specs.Rules.{IsSpelled}
 
@@ -43,7 +44,7 @@ proper-numbered s = elim (nat_lt (decimal s) (2 ^ 63)) as (λ c. Proper (cond c 
 proper-spells : {s rest : List ℕ} {t : Token} → Spells s rest t → Proper t
 proper-spells (name {s} b a e) = proper-named s b a
 proper-spells (number {s} b a e) = proper-numbered s
-proper-spells (sign h k) = tt
+proper-spells (sign h i l) = tt
 proper-spells (bad_byte a b c d e) = tt
 
 proper-divides : {size : ℕ} {text : List ℕ} {xs : List Spot} → Divides size text xs → AllProper xs

@@ -14,7 +14,7 @@ use Rattle.nest_grammar.specs.declared.opening.Opening.{Opening}
 use Rattle.nest_grammar.specs.declared.opening.LoopKeyword.{LoopKeyword}
 use Rattle.nest_grammar.specs.declared.opening.ItemKeyword.{ItemKeyword}
 use Rattle.nest_grammar.specs.Sights.{Sight, stands}
-use Rattle.nest_grammar.specs.Readings.{Reading, at_mark, many}
+use Rattle.nest_grammar.specs.Readings.{Reading, at_mark, many, always}
 use Rattle.nest_grammar.specs.Names.{Names}
 use Rattle.nest_grammar.specs.Expressions.{product_of, addition_of, taken, operated, unary, term}
 use Rattle.nest_grammar.specs.Statements.{opening_of, statement, another}
@@ -86,17 +86,17 @@ statement-shorter branch names ns st s t o p e h = many-shorter opening_of (anot
 
 -- Scalars
 
-pub parts-scalar : Parts (at_mark mark.Scalar) scalar
-parts-scalar = parts-at_mark mark.Scalar scalar part-scalar
+pub parts-scalar : Parts (at_mark mark.Scalar) (always scalar)
+parts-scalar = parts-at_mark mark.Scalar (always scalar) part-scalar
 
-pub scalar-goes : (cs ds : List Scalar) (s t : Sight) (u : Unit {0}) (whole : Result (List Scalar × Sight) TextFault) → at_mark mark.Scalar (stands s) ≡ Some u → scalar u cs s ≡ Ok (ds, t) → many (at_mark mark.Scalar) scalar cs s ≡ whole → many (at_mark mark.Scalar) scalar ds t ≡ whole
-scalar-goes cs ds s t u whole e h w = many-goes (at_mark mark.Scalar) scalar cs ds s t u whole parts-scalar e h w
+pub scalar-goes : (cs ds : List Scalar) (s t : Sight) (u : Unit {0}) (whole : Result (List Scalar × Sight) TextFault) → at_mark mark.Scalar (stands s) ≡ Some u → scalar cs s ≡ Ok (ds, t) → many (at_mark mark.Scalar) (always scalar) cs s ≡ whole → many (at_mark mark.Scalar) (always scalar) ds t ≡ whole
+scalar-goes cs ds s t u whole e h w = many-goes (at_mark mark.Scalar) (always scalar) cs ds s t u whole parts-scalar e h w
 
-pub scalar-fails : (cs : List Scalar) (s : Sight) (u : Unit {0}) (f : TextFault) (whole : Result (List Scalar × Sight) TextFault) → at_mark mark.Scalar (stands s) ≡ Some u → scalar u cs s ≡ Err f → many (at_mark mark.Scalar) scalar cs s ≡ whole → whole ≡ Err f
-scalar-fails cs s u f whole e h w = many-fails (at_mark mark.Scalar) scalar cs s u f whole parts-scalar e h w
+pub scalar-fails : (cs : List Scalar) (s : Sight) (u : Unit {0}) (f : TextFault) (whole : Result (List Scalar × Sight) TextFault) → at_mark mark.Scalar (stands s) ≡ Some u → scalar cs s ≡ Err f → many (at_mark mark.Scalar) (always scalar) cs s ≡ whole → whole ≡ Err f
+scalar-fails cs s u f whole e h w = many-fails (at_mark mark.Scalar) (always scalar) cs s u f whole parts-scalar e h w
 
-pub scalar-shorter : (cs ds : List Scalar) (s t : Sight) (u : Unit {0}) → at_mark mark.Scalar (stands s) ≡ Some u → scalar u cs s ≡ Ok (ds, t) → length t.left < length s.left
-scalar-shorter cs ds s t u e h = many-shorter (at_mark mark.Scalar) scalar cs ds s t u parts-scalar e h
+pub scalar-shorter : (cs ds : List Scalar) (s t : Sight) (u : Unit {0}) → at_mark mark.Scalar (stands s) ≡ Some u → scalar cs s ≡ Ok (ds, t) → length t.left < length s.left
+scalar-shorter cs ds s t u e h = many-shorter (at_mark mark.Scalar) (always scalar) cs ds s t u parts-scalar e h
 
 -- Items
 
@@ -111,56 +111,56 @@ item-shorter words is js s t w e h = many-shorter item_keyword (item words) is j
 
 -- Values of data
 
-pub parts-value : (words address : ℕ) → Parts (at_mark mark.Comma) (next_value words address)
-parts-value words address = parts-at_mark mark.Comma (next_value words address) (part-next_value words address)
+pub parts-value : (words address : ℕ) → Parts (at_mark mark.Comma) (always (next_value words address))
+parts-value words address = parts-at_mark mark.Comma (always (next_value words address)) (part-next_value words address)
 
-pub value-goes : (words address : ℕ) (vs ws : List ℤ) (s t : Sight) (u : Unit {0}) (whole : Result (List ℤ × Sight) TextFault) → at_mark mark.Comma (stands s) ≡ Some u → next_value words address u vs s ≡ Ok (ws, t) → many (at_mark mark.Comma) (next_value words address) vs s ≡ whole → many (at_mark mark.Comma) (next_value words address) ws t ≡ whole
-value-goes words address vs ws s t u whole e h w = many-goes (at_mark mark.Comma) (next_value words address) vs ws s t u whole (parts-value words address) e h w
+pub value-goes : (words address : ℕ) (vs ws : List ℤ) (s t : Sight) (u : Unit {0}) (whole : Result (List ℤ × Sight) TextFault) → at_mark mark.Comma (stands s) ≡ Some u → next_value words address vs s ≡ Ok (ws, t) → many (at_mark mark.Comma) (always (next_value words address)) vs s ≡ whole → many (at_mark mark.Comma) (always (next_value words address)) ws t ≡ whole
+value-goes words address vs ws s t u whole e h w = many-goes (at_mark mark.Comma) (always (next_value words address)) vs ws s t u whole (parts-value words address) e h w
 
-pub value-fails : (words address : ℕ) (vs : List ℤ) (s : Sight) (u : Unit {0}) (f : TextFault) (whole : Result (List ℤ × Sight) TextFault) → at_mark mark.Comma (stands s) ≡ Some u → next_value words address u vs s ≡ Err f → many (at_mark mark.Comma) (next_value words address) vs s ≡ whole → whole ≡ Err f
-value-fails words address vs s u f whole e h w = many-fails (at_mark mark.Comma) (next_value words address) vs s u f whole (parts-value words address) e h w
+pub value-fails : (words address : ℕ) (vs : List ℤ) (s : Sight) (u : Unit {0}) (f : TextFault) (whole : Result (List ℤ × Sight) TextFault) → at_mark mark.Comma (stands s) ≡ Some u → next_value words address vs s ≡ Err f → many (at_mark mark.Comma) (always (next_value words address)) vs s ≡ whole → whole ≡ Err f
+value-fails words address vs s u f whole e h w = many-fails (at_mark mark.Comma) (always (next_value words address)) vs s u f whole (parts-value words address) e h w
 
-pub value-shorter : (words address : ℕ) (vs ws : List ℤ) (s t : Sight) (u : Unit {0}) → at_mark mark.Comma (stands s) ≡ Some u → next_value words address u vs s ≡ Ok (ws, t) → length t.left < length s.left
-value-shorter words address vs ws s t u e h = many-shorter (at_mark mark.Comma) (next_value words address) vs ws s t u (parts-value words address) e h
+pub value-shorter : (words address : ℕ) (vs ws : List ℤ) (s t : Sight) (u : Unit {0}) → at_mark mark.Comma (stands s) ≡ Some u → next_value words address vs s ≡ Ok (ws, t) → length t.left < length s.left
+value-shorter words address vs ws s t u e h = many-shorter (at_mark mark.Comma) (always (next_value words address)) vs ws s t u (parts-value words address) e h
 
 -- Rows
 
-pub row-goes : (depth : ℕ) (ns ms : List ℕ) (s t : Sight) (u : Unit {0}) (whole : Result (List ℕ × Sight) TextFault) → row_begins (stands s) ≡ Some u → next_row depth u ns s ≡ Ok (ms, t) → many row_begins (next_row depth) ns s ≡ whole → many row_begins (next_row depth) ms t ≡ whole
-row-goes depth ns ms s t u whole e h w = many-goes row_begins (next_row depth) ns ms s t u whole (parts-next_row depth) e h w
+pub row-goes : (depth : ℕ) (ns ms : List ℕ) (s t : Sight) (u : Unit {0}) (whole : Result (List ℕ × Sight) TextFault) → row_begins (stands s) ≡ Some u → next_row depth ns s ≡ Ok (ms, t) → many row_begins (always (next_row depth)) ns s ≡ whole → many row_begins (always (next_row depth)) ms t ≡ whole
+row-goes depth ns ms s t u whole e h w = many-goes row_begins (always (next_row depth)) ns ms s t u whole (parts-next_row depth) e h w
 
-pub row-fails : (depth : ℕ) (ns : List ℕ) (s : Sight) (u : Unit {0}) (f : TextFault) (whole : Result (List ℕ × Sight) TextFault) → row_begins (stands s) ≡ Some u → next_row depth u ns s ≡ Err f → many row_begins (next_row depth) ns s ≡ whole → whole ≡ Err f
-row-fails depth ns s u f whole e h w = many-fails row_begins (next_row depth) ns s u f whole (parts-next_row depth) e h w
+pub row-fails : (depth : ℕ) (ns : List ℕ) (s : Sight) (u : Unit {0}) (f : TextFault) (whole : Result (List ℕ × Sight) TextFault) → row_begins (stands s) ≡ Some u → next_row depth ns s ≡ Err f → many row_begins (always (next_row depth)) ns s ≡ whole → whole ≡ Err f
+row-fails depth ns s u f whole e h w = many-fails row_begins (always (next_row depth)) ns s u f whole (parts-next_row depth) e h w
 
-pub row-shorter : (depth : ℕ) (ns ms : List ℕ) (s t : Sight) (u : Unit {0}) → row_begins (stands s) ≡ Some u → next_row depth u ns s ≡ Ok (ms, t) → length t.left < length s.left
-row-shorter depth ns ms s t u e h = many-shorter row_begins (next_row depth) ns ms s t u (parts-next_row depth) e h
+pub row-shorter : (depth : ℕ) (ns ms : List ℕ) (s t : Sight) (u : Unit {0}) → row_begins (stands s) ≡ Some u → next_row depth ns s ≡ Ok (ms, t) → length t.left < length s.left
+row-shorter depth ns ms s t u e h = many-shorter row_begins (always (next_row depth)) ns ms s t u (parts-next_row depth) e h
 
 -- Commands
 
-pub parts-command : (depth : ℕ) → Parts (at_mark mark.Semicolon) (next_command depth)
-parts-command depth = parts-at_mark mark.Semicolon (next_command depth) (part-next_command depth)
+pub parts-command : (depth : ℕ) → Parts (at_mark mark.Semicolon) (always (next_command depth))
+parts-command depth = parts-at_mark mark.Semicolon (always (next_command depth)) (part-next_command depth)
 
-pub command-goes : (depth : ℕ) (cs ds : Script) (s t : Sight) (u : Unit {0}) (whole : Result (Script × Sight) TextFault) → at_mark mark.Semicolon (stands s) ≡ Some u → next_command depth u cs s ≡ Ok (ds, t) → many (at_mark mark.Semicolon) (next_command depth) cs s ≡ whole → many (at_mark mark.Semicolon) (next_command depth) ds t ≡ whole
-command-goes depth cs ds s t u whole e h w = many-goes (at_mark mark.Semicolon) (next_command depth) cs ds s t u whole (parts-command depth) e h w
+pub command-goes : (depth : ℕ) (cs ds : Script) (s t : Sight) (u : Unit {0}) (whole : Result (Script × Sight) TextFault) → at_mark mark.Semicolon (stands s) ≡ Some u → next_command depth cs s ≡ Ok (ds, t) → many (at_mark mark.Semicolon) (always (next_command depth)) cs s ≡ whole → many (at_mark mark.Semicolon) (always (next_command depth)) ds t ≡ whole
+command-goes depth cs ds s t u whole e h w = many-goes (at_mark mark.Semicolon) (always (next_command depth)) cs ds s t u whole (parts-command depth) e h w
 
-pub command-fails : (depth : ℕ) (cs : Script) (s : Sight) (u : Unit {0}) (f : TextFault) (whole : Result (Script × Sight) TextFault) → at_mark mark.Semicolon (stands s) ≡ Some u → next_command depth u cs s ≡ Err f → many (at_mark mark.Semicolon) (next_command depth) cs s ≡ whole → whole ≡ Err f
-command-fails depth cs s u f whole e h w = many-fails (at_mark mark.Semicolon) (next_command depth) cs s u f whole (parts-command depth) e h w
+pub command-fails : (depth : ℕ) (cs : Script) (s : Sight) (u : Unit {0}) (f : TextFault) (whole : Result (Script × Sight) TextFault) → at_mark mark.Semicolon (stands s) ≡ Some u → next_command depth cs s ≡ Err f → many (at_mark mark.Semicolon) (always (next_command depth)) cs s ≡ whole → whole ≡ Err f
+command-fails depth cs s u f whole e h w = many-fails (at_mark mark.Semicolon) (always (next_command depth)) cs s u f whole (parts-command depth) e h w
 
-pub command-shorter : (depth : ℕ) (cs ds : Script) (s t : Sight) (u : Unit {0}) → at_mark mark.Semicolon (stands s) ≡ Some u → next_command depth u cs s ≡ Ok (ds, t) → length t.left < length s.left
-command-shorter depth cs ds s t u e h = many-shorter (at_mark mark.Semicolon) (next_command depth) cs ds s t u (parts-command depth) e h
+pub command-shorter : (depth : ℕ) (cs ds : Script) (s t : Sight) (u : Unit {0}) → at_mark mark.Semicolon (stands s) ≡ Some u → next_command depth cs s ≡ Ok (ds, t) → length t.left < length s.left
+command-shorter depth cs ds s t u e h = many-shorter (at_mark mark.Semicolon) (always (next_command depth)) cs ds s t u (parts-command depth) e h
 
 -- Candidates
 
-pub parts-candidate : (depth : ℕ) → Parts (at_mark mark.Candidate) (candidate depth)
-parts-candidate depth = parts-at_mark mark.Candidate (candidate depth) (part-candidate depth)
+pub parts-candidate : (depth : ℕ) → Parts (at_mark mark.Candidate) (always (candidate depth))
+parts-candidate depth = parts-at_mark mark.Candidate (always (candidate depth)) (part-candidate depth)
 
-pub candidate-goes : (depth : ℕ) (cs ds : List Script) (s t : Sight) (u : Unit {0}) (whole : Result (List Script × Sight) TextFault) → at_mark mark.Candidate (stands s) ≡ Some u → candidate depth u cs s ≡ Ok (ds, t) → many (at_mark mark.Candidate) (candidate depth) cs s ≡ whole → many (at_mark mark.Candidate) (candidate depth) ds t ≡ whole
-candidate-goes depth cs ds s t u whole e h w = many-goes (at_mark mark.Candidate) (candidate depth) cs ds s t u whole (parts-candidate depth) e h w
+pub candidate-goes : (depth : ℕ) (cs ds : List Script) (s t : Sight) (u : Unit {0}) (whole : Result (List Script × Sight) TextFault) → at_mark mark.Candidate (stands s) ≡ Some u → candidate depth cs s ≡ Ok (ds, t) → many (at_mark mark.Candidate) (always (candidate depth)) cs s ≡ whole → many (at_mark mark.Candidate) (always (candidate depth)) ds t ≡ whole
+candidate-goes depth cs ds s t u whole e h w = many-goes (at_mark mark.Candidate) (always (candidate depth)) cs ds s t u whole (parts-candidate depth) e h w
 
-pub candidate-fails : (depth : ℕ) (cs : List Script) (s : Sight) (u : Unit {0}) (f : TextFault) (whole : Result (List Script × Sight) TextFault) → at_mark mark.Candidate (stands s) ≡ Some u → candidate depth u cs s ≡ Err f → many (at_mark mark.Candidate) (candidate depth) cs s ≡ whole → whole ≡ Err f
-candidate-fails depth cs s u f whole e h w = many-fails (at_mark mark.Candidate) (candidate depth) cs s u f whole (parts-candidate depth) e h w
+pub candidate-fails : (depth : ℕ) (cs : List Script) (s : Sight) (u : Unit {0}) (f : TextFault) (whole : Result (List Script × Sight) TextFault) → at_mark mark.Candidate (stands s) ≡ Some u → candidate depth cs s ≡ Err f → many (at_mark mark.Candidate) (always (candidate depth)) cs s ≡ whole → whole ≡ Err f
+candidate-fails depth cs s u f whole e h w = many-fails (at_mark mark.Candidate) (always (candidate depth)) cs s u f whole (parts-candidate depth) e h w
 
-pub candidate-shorter : (depth : ℕ) (cs ds : List Script) (s t : Sight) (u : Unit {0}) → at_mark mark.Candidate (stands s) ≡ Some u → candidate depth u cs s ≡ Ok (ds, t) → length t.left < length s.left
-candidate-shorter depth cs ds s t u e h = many-shorter (at_mark mark.Candidate) (candidate depth) cs ds s t u (parts-candidate depth) e h
+pub candidate-shorter : (depth : ℕ) (cs ds : List Script) (s t : Sight) (u : Unit {0}) → at_mark mark.Candidate (stands s) ≡ Some u → candidate depth cs s ≡ Ok (ds, t) → length t.left < length s.left
+candidate-shorter depth cs ds s t u e h = many-shorter (at_mark mark.Candidate) (always (candidate depth)) cs ds s t u (parts-candidate depth) e h
 
 -- Nests
 

@@ -37,8 +37,9 @@ use Rattle.nest_grammar.specs.declared.opening.ItemKeyword.TheVariants as word
 use Rattle.nest_grammar.specs.declared.script.CommandWord.{CommandWord}
 use Rattle.nest_grammar.specs.declared.script.CommandWord.TheVariants as verb
 use Rattle.nest_grammar.specs.Limits.{most_tokens, most_open, most_accesses, most_lets, most_ifs, most_words, most_scalars, most_nests, most_depth, most_candidates, most_commands, most_rows}
-use Rattle.nest_grammar.specs.Sights.{Sight, stands, here, first, rest, skip, spend, afresh, opens, numbered, bound, in_block, of_version}
-use Rattle.nest_grammar.specs.Readings.{Reading, ◌>>=◌, gives, refused, wrong, skipped, need, obeys, fewer, number_at, number_where, number, with_sign, minus, signed_where, signed, at_mark, many, end_at, end}
+use Rattle.nest_tokens.specs.Ahead.{first, rest}
+use Rattle.nest_grammar.specs.Sights.{Sight, stands, here, skip, spend, afresh, opens, numbered, bound, in_block, of_version}
+use Rattle.nest_grammar.specs.Readings.{Reading, ◌>>=◌, gives, refused, wrong, skipped, need, obeys, fewer, number_at, number_where, number, with_sign, minus, signed_where, signed, at_mark, many, end_at, end, always}
 use Rattle.nest_grammar.specs.Names.{Names, declared, place_of, unless_known, fresh_at, fresh, if_scalar, target, names_of}
 use Rattle.nest_grammar.specs.Expressions.{start_of, product_of, addition_of, comparison_of, taken, closed, access, access_number, if_visible, operand, operated, parts, compared_at, compared, unary, term, sum, expr, expression}
 use Rattle.nest_grammar.specs.Statements.{opening_of, local_room, local_number, braced, else_at, else_of, branches, statement, another, listed, statements, with_lets, block_begins, block}
@@ -367,16 +368,16 @@ part-row depth = part-number_where _ kind.Script
 pub local-ruled : (rule : ℕ → Bool) → Local (ruled rule)
 local-ruled rule = local-number_where rule kind.Script
 
-pub part-next_row : (depth : ℕ) (u : Unit {0}) (ns : List ℕ) → IsPart (next_row depth u ns)
+pub part-next_row : (depth : ℕ) (u : Unit {0}) (ns : List ℕ) → IsPart (next_row depth ns)
 part-next_row depth u ns = waits (local-obeys (nat_lt (length ns) most_rows) kind.Script) (still-obeys (nat_lt (length ns) most_rows) kind.Script) (λ _. starts (part-row depth) (λ n. local-gives (ns ++ n ∷ [])))
 
-pub parts-next_row : (depth : ℕ) → Parts row_begins (next_row depth)
+pub parts-next_row : (depth : ℕ) → Parts row_begins (always (next_row depth))
 unfolding row_begins
 parts-next_row depth = record { none = refl; takes = λ u ns. (part-next_row depth u ns).takes }
 
 pub local-rows : (depth : ℕ) → Local (rows depth)
 unfolding rows
-local-rows depth = behind (part-row depth).local (λ n. local-many row_begins (next_row depth) (parts-next_row depth) (λ u ns. (part-next_row depth u ns).local) (n ∷ []))
+local-rows depth = behind (part-row depth).local (λ n. local-many row_begins (always (next_row depth)) (parts-next_row depth) (λ u ns. (part-next_row depth u ns).local) (n ∷ []))
 
 pub local-operands : (depth : ℕ) (w : CommandWord) → Local (operands depth w)
 unfolding operands
@@ -395,7 +396,7 @@ pub local-command : (depth : ℕ) (cs : Script) → Local (command depth cs)
 unfolding command
 local-command depth cs = behind (local-by (λ t. command_at depth cs (command_word t)) (λ t. local-command_at depth cs (command_word t))) (λ c. local-gives (cs ++ c ∷ []))
 
-pub part-next_command : (depth : ℕ) (u : Unit {0}) (cs : Script) → IsPart (next_command depth u cs)
+pub part-next_command : (depth : ℕ) (u : Unit {0}) (cs : Script) → IsPart (next_command depth cs)
 part-next_command depth u cs = starts part-skipped (λ _. local-command depth cs)
 
 pub parts-at_mark : {A : Type 0} (m : Mark) (part : Unit {0} → A → Reading A) → ((u : Unit {0}) (a : A) → IsPart (part u a)) → Parts (at_mark m) part
@@ -407,18 +408,18 @@ local-at_mark m part h = local-many (at_mark m) part (parts-at_mark m part h) (�
 
 local-script_at : (depth : ℕ) (b : Bool) → Local (script_at depth b)
 local-script_at depth true = behind local-skipped (λ _. local-gives [])
-local-script_at depth false = behind (behind (local-command depth []) (local-at_mark mark.Semicolon (next_command depth) (part-next_command depth))) (λ cs. behind (local-need mark.CloseBrace) (λ _. local-gives cs))
+local-script_at depth false = behind (behind (local-command depth []) (local-at_mark mark.Semicolon (always (next_command depth)) (part-next_command depth))) (λ cs. behind (local-need mark.CloseBrace) (λ _. local-gives cs))
 
 pub local-script : (depth : ℕ) → Local (script depth)
 unfolding script
 local-script depth = behind (local-need mark.OpenBrace) (λ _. local-by (λ t. script_at depth (is_mark mark.CloseBrace t)) (λ t. local-script_at depth (is_mark mark.CloseBrace t)))
 
-pub part-candidate : (depth : ℕ) (u : Unit {0}) (scripts : List Script) → IsPart (candidate depth u scripts)
+pub part-candidate : (depth : ℕ) (u : Unit {0}) (scripts : List Script) → IsPart (candidate depth scripts)
 part-candidate depth u scripts = waits (local-fewer (length scripts) most_candidates) (still-obeys _ kind.Many) (λ _. starts part-skipped (λ _. behind (local-script depth) (λ cs. local-gives (scripts ++ cs ∷ []))))
 
 pub local-candidates : (depth : ℕ) → Local (candidates depth)
 unfolding candidates
-local-candidates depth = local-at_mark mark.Candidate (candidate depth) (part-candidate depth) []
+local-candidates depth = local-at_mark mark.Candidate (always (candidate depth)) (part-candidate depth) []
 
 -- Contents
 
@@ -437,12 +438,12 @@ pub local-version : Local version
 unfolding version
 local-version = behind (local-need mark.Nest) (λ _. local-by version_at local-version_at)
 
-pub part-scalar : (u : Unit {0}) (cs : List Scalar) → IsPart (scalar u cs)
+pub part-scalar : (u : Unit {0}) (cs : List Scalar) → IsPart (scalar cs)
 part-scalar u cs = waits (local-fewer (length cs) most_scalars) (still-obeys _ kind.Many) (λ _. starts part-skipped (λ _. behind (local-fresh (names_of cs)) (λ n. behind (local-need mark.Assign) (λ _. behind local-signed (λ v. local-gives (cs ++ record { name = n; value = v } ∷ []))))))
 
 pub local-scalars : Local scalars
 unfolding scalars
-local-scalars = local-at_mark mark.Scalar scalar part-scalar []
+local-scalars = local-at_mark mark.Scalar (always scalar) part-scalar []
 
 pub local-memory : Local memory
 unfolding memory
@@ -452,12 +453,12 @@ pub local-data_value : (words address : ℕ) → Local (data_value words address
 unfolding data_value
 local-data_value words address = local-by (λ t s. if value_begins t then (obeys (nat_lt address words) kind.Range >>= λ _. signed) s else wrong s) (λ t. local-if (value_begins t) (obeys (nat_lt address words) kind.Range >>= λ _. signed) wrong (behind (local-obeys (nat_lt address words) kind.Range) (λ _. local-signed)) local-wrong)
 
-pub part-next_value : (words address : ℕ) (u : Unit {0}) (vs : List ℤ) → IsPart (next_value words address u vs)
+pub part-next_value : (words address : ℕ) (u : Unit {0}) (vs : List ℤ) → IsPart (next_value words address vs)
 part-next_value words address u vs = starts part-skipped (λ _. behind (local-data_value words (address + length vs)) (λ v. local-gives (vs ++ v ∷ [])))
 
 pub local-data_values : (words address : ℕ) → Local (data_values words address)
 unfolding data_values
-local-data_values words address = behind (local-data_value words address) (λ v. local-at_mark mark.Comma (next_value words address) (part-next_value words address) (v ∷ []))
+local-data_values words address = behind (local-data_value words address) (λ v. local-at_mark mark.Comma (always (next_value words address)) (part-next_value words address) (v ∷ []))
 
 pub local-item_of : (words : ℕ) (w : ItemKeyword) → Local (item_of words w)
 unfolding item_of

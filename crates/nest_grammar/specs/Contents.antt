@@ -1,6 +1,7 @@
 -- Contents: scalars, the memory and its items, nests and whole files, each production as a reading. The
 -- reading of a text is its file, or its first fault.
 use Rattle.std.specs.Prelude.{ℕ, zero, suc, ◌+◌, ◌*◌, ℤ, ◌+ℤ◌, ◌*ℤ◌, pos, negsuc, List, [], ◌∷◌, ◌++◌, length, Option, Some, None, Result, Ok, Err, Bool, true, false, not, ◌&&◌, ◌==◌, nat_le, nat_lt, if◌then◌else◌}
+use Rattle.nest_lang.specs.Values.{is_i64}
 use Rattle.nest_tokens.specs.declared.token.Mark.TheVariants as mark
 use Rattle.nest_tokens.specs.declared.token.Token.{Token}
 use Rattle.nest_tokens.specs.declared.token.Token.TheVariants as token
@@ -18,7 +19,7 @@ use Rattle.nest_grammar.specs.declared.fault.TextFault.{TextFault}
 use Rattle.nest_grammar.specs.declared.fault.TextKind.TheVariants as kind
 use Rattle.nest_grammar.specs.Limits.{most_bytes, most_words, most_scalars, most_nests, most_depth}
 use Rattle.nest_grammar.specs.Sights.{Sight, stands, skip, of_version, start}
-use Rattle.nest_grammar.specs.Readings.{Reading, ◌>>=◌, gives, refused, wrong, skipped, need, obeys, fewer, number, number_where, signed, signed_where, at_mark, many, end}
+use Rattle.nest_grammar.specs.Readings.{Reading, ◌>>=◌, gives, refused, wrong, skipped, need, obeys, fewer, number, number_where, signed, signed_where, many, many_at, end}
 use Rattle.nest_grammar.specs.Names.{Names, fresh, names_of}
 use Rattle.nest_grammar.specs.Loops.{Loops, loops, loop_keyword}
 use Rattle.nest_grammar.specs.Scripts.{candidates}
@@ -35,12 +36,12 @@ unfoldable pub version : Reading Version
 version = need mark.Nest >>= λ _ s. version_at (stands s) s
 
 -- "scalar" name "=" signed, behind other scalars
-abbrev pub scalar : Unit {0} → List Scalar → Reading (List Scalar)
-scalar u cs = fewer (length cs) most_scalars >>= λ _. skipped >>= λ _. fresh (names_of cs) >>= λ n. need mark.Assign >>= λ _. signed >>= λ v. gives (cs ++ record { name = n; value = v } ∷ [])
+abbrev pub scalar : List Scalar → Reading (List Scalar)
+scalar cs = fewer (length cs) most_scalars >>= λ _. skipped >>= λ _. fresh (names_of cs) >>= λ n. need mark.Assign >>= λ _. signed >>= λ v. gives (cs ++ record { name = n; value = v } ∷ [])
 
 -- { scalar }
 unfoldable pub scalars : Reading (List Scalar)
-scalars = many (at_mark mark.Scalar) scalar []
+scalars = many_at mark.Scalar scalar []
 
 -- "memory" number
 unfoldable pub memory : Reading ℕ
@@ -62,17 +63,12 @@ unfoldable pub data_value : ℕ → ℕ → Reading ℤ
 data_value words address s = if value_begins (stands s) then (obeys (nat_lt address words) kind.Range >>= λ _. signed) s else wrong s
 
 -- "," signed, behind other values
-abbrev pub next_value : ℕ → ℕ → Unit {0} → List ℤ → Reading (List ℤ)
-next_value words first u vs = skipped >>= λ _. data_value words (first + length vs) >>= λ v. gives (vs ++ v ∷ [])
+abbrev pub next_value : ℕ → ℕ → List ℤ → Reading (List ℤ)
+next_value words first vs = skipped >>= λ _. data_value words (first + length vs) >>= λ v. gives (vs ++ v ∷ [])
 
 -- signed { "," signed }, for the words from an address on
 unfoldable pub data_values : ℕ → ℕ → Reading (List ℤ)
-data_values words first = data_value words first >>= λ v. many (at_mark mark.Comma) (next_value words first) (v ∷ [])
-
--- an i64
-abbrev pub is_i64 : ℤ → Bool
-is_i64 (pos n) = nat_lt n 9223372036854775808
-is_i64 (negsuc n) = nat_lt n 9223372036854775808
+data_values words first = data_value words first >>= λ v. many_at mark.Comma (next_value words first) (v ∷ [])
 
 -- whether the ramp stays within the memory and its values within i64
 abbrev pub ramp_fits : ℕ → ℕ → ℕ → ℕ → ℤ → ℤ → Bool

@@ -51,7 +51,7 @@ impl<'a> Reader<'a> {
     #[tactic(auto, unfolding(nest_grammar::specs::Readings::obeys))]
     fn scalar(&mut self, scalars: &[Scalar], names: &[Declared]) -> Result<Scalar, ReadRefusal>
         requires { names.now ≡ names_of scalars.now }
-        ensures read { GivesAs (λ c. scalars.now ++ c ∷ []) result self.new (scalar tt scalars.now self.old) }
+        ensures read { GivesAs (λ c. scalars.now ++ c ∷ []) result self.new (scalar scalars.now self.old) }
         ensures room { OnOk result (length scalars.now < 16) }
     {
         self.obey(scalars.len() < MOST_SCALARS, TextKind::Many)?;

@@ -1,7 +1,8 @@
 //! The memory and the first values of its words.
 
 ghost use Rattle.std.specs.Prelude.{◌≡◌, ◌+◌, ◌*◌, ◌<◌, ◌≤◌, ◌^◌, ◌+ℤ◌, ◌*ℤ◌, pos, unsigned_abs, OnOk};
-ghost use Rattle.nest_grammar.specs.Contents.{memory, item_keyword, value_begins, data_value, data_values, is_i64, ramp_fits, item_of, items};
+ghost use Rattle.nest_lang.specs.Values.{is_i64};
+ghost use Rattle.nest_grammar.specs.Contents.{memory, item_keyword, value_begins, data_value, data_values, ramp_fits, item_of, items};
 ghost use Rattle.nest_grammar.specs.declared.opening.ItemKeyword.TheVariants.{Data as DataWord, Ramp as RampWord};
 ghost use Rattle.nest_grammar.specs.Sights.{skip};
 ghost use Rattle.nest_grammar.specs.Readings.{signed_where};

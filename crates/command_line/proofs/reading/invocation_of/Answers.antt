@@ -3,10 +3,10 @@ use Rattle.std.specs.Prelude.{string_bytes, []}
 use Rattle.clap.specs.Words.{App, Row, fault_of, found_of, is_simple, is_simple_and_free, matches_of, rows_of, takes}
 use Rattle.clap.specs.declared.error.kind.ErrorKind.TheVariants.{OutOfMemory}
 use Rattle.command_line.specs.Syntax.{syntax}
-use Rattle.command_line.specs.Commands.{IsFoundCommand}
+use Rattle.command_line.specs.Invocations.{IsFoundInvocation}
 use Rattle.command_line.proofs.Found.{finds_the_same}
 use Rattle.command_line.proofs.Taken.{takes-no_fault}
-use Rattle.command_line.proofs.reading.command_of.Goals as goal
+use Rattle.command_line.proofs.reading.invocation_of.Goals as goal
 
 pub returns-in-Ok : goal.returns-in-Ok
 returns-in-Ok c =
@@ -16,8 +16,8 @@ returns-in-Ok c =
     let none : fault_of syntax words ≡ [] = ap (λ (a : App). fault_of a words) (sym is) ∙ c.in-Ok.ensures.kinds free in
     let taken : takes syntax words ≡ true = takes-no_fault syntax words refl refl refl refl none in
     let found : rows_of (found_of c.in-Ok.matches) ≡ matches_of syntax words = (c.in-Ok.ensures.matches (ap is_simple is)).0 ∙ ap (λ (a : App). matches_of a words) is in
-    finds_the_same _ _ _ (λ command h. record { taken = taken; found = subst (λ (rows : List Row). IsFoundCommand rows command) found h })
-    (λ command h. subst (λ (rows : List Row). IsFoundCommand rows command) (sym found) h.found) c.command_in.ensures
+    finds_the_same _ _ _ (λ command h. record { taken = taken; found = subst (λ (rows : List Row). IsFoundInvocation rows command) found h })
+    (λ command h. subst (λ (rows : List Row). IsFoundInvocation rows command) (sym found) h.found) c.invocation_in.ensures
 
 pub returns-in-Err-2 : goal.returns-in-Err-2
 returns-in-Err-2 c = λ command h.

@@ -1,6 +1,6 @@
 //! What the words ask for.
 
-ghost use Rattle.command_line.specs.Commands.{Finds};
+ghost use Rattle.command_line.specs.Invocations.{Finds};
 ghost use Rattle.command_line.specs.Modes.{word_of};
 ghost use Rattle.std.specs.Prelude.{◌≡◌};
 
@@ -41,7 +41,7 @@ pub struct Options {
 
 /// A mode and its options.
 #[derive(Clone, Copy, Debug, PartialEq, Eq)]
-pub struct Command {
+pub struct Invocation {
     pub mode: Mode,
     pub options: Options,
 }

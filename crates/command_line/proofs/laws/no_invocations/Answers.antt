@@ -2,7 +2,7 @@ use Rattle.std.proofs.Common.{codes, refl, [], ◌∷◌}
 use Rattle.clap.proofs.OnLiterals.{clap_on_literals}
 use Rattle.command_line.proofs.Computed.{not_a_mode, not_steps, not_taken, not_workers, with_arguments}
 use Rattle.command_line.proofs.Found.{mode_of}
-use Rattle.command_line.proofs.laws.no_commands.Goals as goal
+use Rattle.command_line.proofs.laws.no_invocations.Goals as goal
 
 pub returns : goal.returns
 unfolding clap_on_literals mode_of

@@ -1,8 +1,8 @@
 use Rattle.std.proofs.Common.{codes, refl}
 use Rattle.clap.proofs.OnLiterals.{clap_on_literals}
-use Rattle.command_line.specs.declared.command.Mode.TheVariants.{Plain, Check}
+use Rattle.command_line.specs.declared.invocation.Mode.TheVariants.{Plain, Check}
 use Rattle.command_line.proofs.Computed.{is_command}
-use Rattle.command_line.proofs.laws.commands.Goals as goal
+use Rattle.command_line.proofs.laws.invocations.Goals as goal
 
 pub returns : goal.returns
 unfolding clap_on_literals

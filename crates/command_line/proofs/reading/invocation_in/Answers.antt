@@ -3,7 +3,7 @@ use Rattle.clap.specs.Words.{all_of, first_of, found_of, rows_of}
 use Rattle.clap.proofs.WalkLemmas.{raw_values-rows}
 use Rattle.command_line.specs.Modes.{word_of}
 use Rattle.command_line.proofs.Found.{nothing, first_of-given, none_found, none_there, same_text}
-use Rattle.command_line.proofs.reading.command_in.Goals as goal
+use Rattle.command_line.proofs.reading.invocation_in.Goals as goal
 
 pub returns-in_err-get_str : goal.returns-in_err-get_str
 returns-in_err-get_str c =

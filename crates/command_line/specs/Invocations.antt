@@ -1,8 +1,8 @@
--- Commands: which words are a command, and which.
+-- Invocations: which words are one, and which.
 use Rattle.std.specs.Prelude.{◌≡◌, ℕ, ℤ, pos, List, Option, Some, None, true, codes}
 use Rattle.clap.specs.Words.{Row, Text, all_of, first_of, matches_of, takes}
-use Rattle.command_line.specs.declared.command.Command.{Command}
-use Rattle.command_line.specs.declared.command.Options.{Options}
+use Rattle.command_line.specs.declared.invocation.Invocation.{Invocation}
+use Rattle.command_line.specs.declared.invocation.Options.{Options}
 use Rattle.command_line.specs.Modes.{word_of}
 use Rattle.command_line.specs.Numbers.{IsNumberIn}
 use Rattle.command_line.specs.Syntax.{syntax}
@@ -25,22 +25,22 @@ pub record HasOptions (rows : List Row) (options : Options) : Type 0 where
   pub sample : HasNumber rows (codes "sample") 2 64 options.sample
   pub steps : HasNumber rows (codes "steps") 0 4294967296 (pos options.steps)
 
--- what was found in the words is the command: MODE is its mode's word, there are no ARGS, which no
+-- what was found in the words is the invocation: MODE is its mode's word, there are no ARGS, which no
 -- mode that is built has, and the options are its options
-pub record IsFoundCommand (rows : List Row) (command : Command) : Type 0 where
-  pub mode : first_of (codes "MODE") rows ≡ Some (word_of command.mode)
+pub record IsFoundInvocation (rows : List Row) (invocation : Invocation) : Type 0 where
+  pub mode : first_of (codes "MODE") rows ≡ Some (word_of invocation.mode)
   pub args : all_of (codes "ARGS") rows ≡ None
-  pub options : HasOptions rows command.options
+  pub options : HasOptions rows invocation.options
 
--- Command(words) is the command: `clap` takes the words, and what it finds in them is the command
-pub record IsCommand (words : List Text) (command : Command) : Type 0 where
+-- the words are this invocation: `clap` takes them, and what it finds in them is the invocation
+pub record IsInvocation (words : List Text) (invocation : Invocation) : Type 0 where
   pub taken : takes syntax words ≡ true
-  pub found : IsFoundCommand (matches_of syntax words) command
+  pub found : IsFoundInvocation (matches_of syntax words) invocation
 
--- the words are no command
-abbrev pub IsNoCommand : List Text → Type 0
-IsNoCommand words = (command : Command) → IsCommand words command → ⊥
+-- the words are no invocation
+abbrev pub IsNoInvocation : List Text → Type 0
+IsNoInvocation words = (invocation : Invocation) → IsInvocation words invocation → ⊥
 
--- the line that is written where the words are no command
+-- the line that is written where the words are no invocation
 abbrev pub usage_line : Text
 usage_line = codes "usage: nestrun plain|run|check|deps|gen [SEED KIND SIZE] [--workers N] [--chunk N] [--sample N] [--steps N]\n"
