@@ -1,3 +1,4 @@
+pub mod AccessLaws
 pub mod Agree
 pub mod Cuts
 pub mod ExpressionLemmas
