@@ -4,9 +4,17 @@ pub mod Cuts
 pub mod ExpressionLemmas
 pub mod HeadLemmas
 pub mod Known
+pub mod NeverOver
 pub mod Present
+pub mod Ranks
 pub mod RunLemmas
 pub mod RunsComputed
+pub mod Sizes
 pub mod StatementLemmas
+pub mod StopsShort
+pub mod TraceLaws
+pub mod TurnLaws
+pub mod Unstopped
 pub mod Trips
 pub mod ValuesComputed
+pub mod WhileTurns

@@ -1,6 +1,5 @@
-use Rattle.std.proofs.Common.{◌≡◌, ◌+◌, ◌++◌, length, drop, rules, arith, ap, ◌∙◌, sym, append_assoc, append-nil, length-append}
+use Rattle.std.proofs.Common.{rules, arith, append_assoc, append-nil, length-append}
 use Rattle.nest_lang.specs.declared.tree.Stmt.{the_lemmas}
-use Rattle.nest_lang.specs.Accesses.{statement_accesses, block_accesses}
 use Rattle.nest_lang.proofs.AccessLaws.{block_accesses-at, block_accesses-end, statement_levels}
 use Rattle.nest_lang.proofs.accesses.+push.Goals as goal
 
