@@ -1,10 +1,12 @@
 pub mod AccessLaws
 pub mod Agree
+pub mod BlocksComputed
 pub mod Cuts
 pub mod ExpressionLemmas
 pub mod HeadLemmas
 pub mod Known
 pub mod NeverOver
+pub mod PlaceLaws
 pub mod Present
 pub mod Ranks
 pub mod RunLemmas

@@ -2,7 +2,7 @@
 
 ghost use Rattle.std.specs.Prelude.{◌≡◌, ◌+◌, ◌≤◌, ◌++◌, length};
 ghost use Rattle.arrayvec.specs.ArrayVec.{array_vec_len};
-ghost use Rattle.nest_lang.specs.Accesses.{expression_accesses, statement_accesses, block_accesses, head_accesses, part_accesses, accesses_of};
+ghost use Rattle.nest_lang.specs.Accesses.{load as load_of, store as store_of, expression_accesses, statement_accesses, block_accesses, head_accesses, part_accesses, accesses_of};
 
 use crate::tree::{Access, AccessKind, BlockRef, Expr, Head, Loop, Nest, Part, Stmt};
 use arrayvec::ArrayVec;
@@ -18,6 +18,24 @@ impl Nest {
             push_part(block.part, at, &mut accesses);
         }
         accesses
+    }
+}
+
+fn load(number: u8) -> Access
+    ensures { result ≡ load_of number }
+{
+    Access {
+        number,
+        kind: AccessKind::Load,
+    }
+}
+
+fn store(number: u8) -> Access
+    ensures { result ≡ store_of number }
+{
+    Access {
+        number,
+        kind: AccessKind::Store,
     }
 }
 
@@ -75,10 +93,7 @@ fn push_statement(statement: &Stmt, accesses: &mut ArrayVec<Access, 64>)
         Stmt::Store(number, address, value) => {
             push_expression(address, accesses);
             push_expression(value, accesses);
-            accesses.push(Access {
-                number: *number,
-                kind: AccessKind::Store,
-            });
+            accesses.push(store(*number));
         }
         Stmt::If(condition, first, second) => {
             push_expression(condition, accesses);
@@ -100,10 +115,7 @@ fn push_expression(expression: &Expr, accesses: &mut ArrayVec<Access, 64>)
         Expr::Var(_) => {}
         Expr::Load(number, address) => {
             push_expression(address.get(), accesses);
-            accesses.push(Access {
-                number: *number,
-                kind: AccessKind::Load,
-            });
+            accesses.push(load(*number));
         }
         Expr::Neg(operand) => push_expression(operand.get(), accesses),
         Expr::Two(_, left, right) => {

@@ -1,6 +1,6 @@
 //! Laws of plain runs, of turns and of blocks, each the contract of a function that does nothing.
 
-ghost use Rattle.nest_lang.specs.Examples.{ValueExamples, RunExamples};
+ghost use Rattle.nest_lang.specs.Examples.{ValueExamples, RunExamples, AccessExamples, BlockExamples};
 ghost use Rattle.nest_lang.specs.Laws.{LongerRunBegins, FinishedRunStays, SizesStay};
 ghost use Rattle.nest_lang.specs.TurnLaws.{TurnsJoin, FewerTurnsBegin, UnstoppedTurnsArePlain, ForIsItsTurns, WhileIsItsTurns};
 ghost use Rattle.nest_lang.specs.BlockLaws.{StepsWithinStatements, PresentBlocksHaveRanks, RanksAreNumbers};
@@ -20,10 +20,12 @@ pub fn sizes_stay()
     ensures { SizesStay }
 {}
 
-/// Values and plain runs that were computed by hand.
+/// Values, plain runs and blocks that were computed by hand.
 pub fn examples()
     ensures values { ValueExamples }
     ensures runs { RunExamples }
+    ensures accesses { AccessExamples }
+    ensures blocks { BlockExamples }
 {}
 
 /// Turns that are run one by one, each from where the ones before it lead, are the turns run at once.
