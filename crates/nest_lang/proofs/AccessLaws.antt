@@ -2,6 +2,7 @@
 use Rattle.std.proofs.Common.{append-nil, append_assoc, length-append, ◌≡◌, refl, ap, ◌∙◌, sym, ℕ, ℤ, ◌<◌, ◌≤◌, ◌+◌, length, drop, get_or, List, [], ◌∷◌, ◌++◌, map, rules}
 use Rattle.std.specs.List.{flat_map}
 use Rattle.std.proofs.lemmas.List.Folds.{flat_map-map}
+use Rattle.std.proofs.lemmas.List.Concat.{flat_map-append}
 use Rattle.std.proofs.lemmas.List.{drop_all, drop_more}
 use Rattle.nest_lang.specs.declared.tree.Access.{Access}
 use Rattle.nest_lang.specs.declared.tree.Expr.{Expr}
@@ -73,3 +74,7 @@ block_accesses-at xs i x h e = rw (drop_more xs i x h, sym e) refl
 pub ruleset expression_levels = (append-nil, append_assoc, length-append, expression_accesses-number, expression_accesses-var, expression_accesses-load, expression_accesses-neg, expression_accesses-two)
 
 pub ruleset statement_levels = (expression_levels, block_accesses-nil, block_accesses-cons, statement_accesses-let, statement_accesses-set, statement_accesses-store, statement_accesses-if)
+
+pub block_accesses-push : (xs : List Stmt) (x : Stmt) → block_accesses (xs ++ x ∷ []) ≡ block_accesses xs ++ statement_accesses x
+unfolding block_accesses
+block_accesses-push xs x = flat_map-append statement_accesses xs (x ∷ []) ∙ ap (λ (ys : List Access). flat_map statement_accesses xs ++ ys) (append-nil (statement_accesses x))

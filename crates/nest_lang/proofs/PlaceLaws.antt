@@ -1,8 +1,9 @@
 -- The places and the number of statements of each expression, statement and block, one level at a time.
-use Rattle.std.proofs.Common.{◌≡◌, refl, ap, ◌∙◌, sym, ℕ, ℤ, ◌+◌, List, [], ◌∷◌, ◌++◌, map, rules}
+use Rattle.std.proofs.Common.{append-nil, ◌≡◌, refl, ap, ◌∙◌, sym, ℕ, ℤ, ◌+◌, List, [], ◌∷◌, ◌++◌, map, rules}
 use Rattle.std.specs.List.{flat_map, sum, sum_by}
 use Rattle.std.proofs.lemmas.List.Folds.{flat_map-map}
-use Rattle.std.proofs.lemmas.List.Sums.{sum-map, sum_by-cons}
+use Rattle.std.proofs.lemmas.List.Concat.{flat_map-append}
+use Rattle.std.proofs.lemmas.List.Sums.{sum-map, sum_by-cons, sum_by_push}
 use Rattle.nest_lang.specs.declared.tree.Expr.{Expr}
 use Rattle.nest_lang.specs.declared.tree.Expr as expr
 use Rattle.nest_lang.specs.declared.tree.Expr.TheVariants.{Number, Var, Load, Neg, Two}
@@ -103,3 +104,11 @@ pub ruleset place_levels = (
 )
 
 pub ruleset size_levels = (statement_size-let, statement_size-set, statement_size-store, statement_size-if, block_size-nil, block_size-cons)
+
+pub block_places-push : (xs : List Stmt) (x : Stmt) → block_places (xs ++ x ∷ []) ≡ block_places xs ++ statement_places x
+unfolding block_places
+block_places-push xs x = flat_map-append statement_places xs (x ∷ []) ∙ ap (λ (ys : List Place). flat_map statement_places xs ++ ys) (append-nil (statement_places x))
+
+pub block_size-push : (xs : List Stmt) (x : Stmt) → block_size (xs ++ x ∷ []) ≡ block_size xs + statement_size x
+unfolding block_size
+block_size-push xs x = sum_by_push statement_size xs x
