@@ -1,5 +1,5 @@
 -- The examples of blocks, by computing.
-use Rattle.std.proofs.Common.{◌≡◌, refl, sym, subst, ℕ, zero, suc, ◌<◌, ◌-◌, ◌^◌, pos, List, [], ◌∷◌, Option, Some, None, true, arith}
+use Rattle.std.proofs.Common.{◌≡◌, refl, sym, subst, ℕ, zero, suc, ◌<◌, ◌-◌, ◌^◌, pos, List, [], ◌∷◌, Some, arith}
 use Rattle.std.specs.List.{All}
 use Rattle.std.proofs.lemmas.List.Elements.{All-nil, All-cons}
 use Rattle.nest_lang.specs.declared.tree.Access.{Access}
@@ -8,8 +8,8 @@ use Rattle.nest_lang.specs.declared.tree.Stmt.{Stmt}
 use Rattle.nest_lang.specs.declared.tree.Head.{Head}
 use Rattle.nest_lang.specs.Accesses.{load, store, block_accesses, head_accesses}
 use Rattle.nest_lang.specs.Places.{block_places, head_places, block_size}
-use Rattle.nest_lang.specs.declared.tree.Expr.TheVariants.{Number, Var, Load, Neg, Two}
-use Rattle.nest_lang.specs.declared.tree.Place.TheVariants.{Scalar, Counter, Local}
+use Rattle.nest_lang.specs.declared.tree.Expr.TheVariants.{Number, Var, Load, Neg}
+use Rattle.nest_lang.specs.declared.tree.Place.TheVariants.{Scalar, Counter}
 use Rattle.nest_lang.specs.declared.tree.Stmt.TheVariants as statement
 use Rattle.nest_lang.specs.declared.tree.Head.TheVariants.{For, While}
 use Rattle.nest_lang.specs.declared.tree.Loop.{Loop}

@@ -6,6 +6,7 @@ pub mod ExpressionLemmas
 pub mod HeadLemmas
 pub mod Known
 pub mod NeverOver
+pub mod OwnAccesses
 pub mod PlaceLaws
 pub mod Present
 pub mod Ranks

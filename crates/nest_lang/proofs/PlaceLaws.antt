@@ -1,5 +1,5 @@
 -- The places and the number of statements of each expression, statement and block, one level at a time.
-use Rattle.std.proofs.Common.{append-nil, ◌≡◌, refl, ap, ◌∙◌, sym, ℕ, ℤ, ◌+◌, List, [], ◌∷◌, ◌++◌, map, rules}
+use Rattle.std.proofs.Common.{append-nil, ◌≡◌, refl, ap, ◌∙◌, ℕ, ℤ, ◌+◌, List, [], ◌∷◌, ◌++◌, map, rules}
 use Rattle.std.specs.List.{flat_map, sum, sum_by}
 use Rattle.std.proofs.lemmas.List.Folds.{flat_map-map}
 use Rattle.std.proofs.lemmas.List.Concat.{flat_map-append}

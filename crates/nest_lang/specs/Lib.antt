@@ -15,4 +15,5 @@ pub mod Runs
 pub mod Laws
 pub mod TurnLaws
 pub mod BlockLaws
+pub mod AccessLaws
 pub mod Examples

@@ -3,6 +3,7 @@
 ghost use Rattle.nest_lang.specs.Examples.{ValueExamples, RunExamples, AccessExamples, BlockExamples};
 ghost use Rattle.nest_lang.specs.Laws.{LongerRunBegins, FinishedRunStays, SizesStay};
 ghost use Rattle.nest_lang.specs.TurnLaws.{TurnsJoin, FewerTurnsBegin, UnstoppedTurnsArePlain, ForIsItsTurns, WhileIsItsTurns};
+ghost use Rattle.nest_lang.specs.AccessLaws.{InstancesHaveOwnAccesses, HeadsHaveOwnAccesses};
 ghost use Rattle.nest_lang.specs.BlockLaws.{StepsWithinStatements, PresentBlocksHaveRanks, RanksAreNumbers};
 
 /// The entries of a run within n steps begin the entries of every run within more steps.
@@ -66,4 +67,10 @@ pub fn present_blocks_have_ranks()
 /// The block of a rank is the present block of that number.
 pub fn ranks_are_numbers()
     ensures { RanksAreNumbers }
+{}
+
+/// An instance depends on what is expected of the accesses of its block alone.
+pub fn instances_have_own_accesses()
+    ensures blocks { InstancesHaveOwnAccesses }
+    ensures heads { HeadsHaveOwnAccesses }
 {}
