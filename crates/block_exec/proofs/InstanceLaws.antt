@@ -3,7 +3,7 @@ use Rattle.std.proofs.Common.{◌≡◌, refl, ap, sym, ◌∙◌, ℕ, zero, su
 use Rattle.nest_lang.specs.declared.tree.Stmt.{Stmt}
 use Rattle.nest_lang.specs.declared.tree.Head.{Head}
 use Rattle.nest_lang.specs.Stores.{Store}
-use Rattle.nest_lang.specs.Traces.{Observation, Entry, Halt, Trace, joined, in_turn, Step, traced, Done, Halted, Limited, Cut, cut_of, cut, after_all, seen_of, seen_in}
+use Rattle.nest_lang.specs.Traces.{Observation, Entry, Halt, Trace, joined, in_turn, Transition, traced, Done, Halted, Limited, Cut, cut_of, cut, after_all, seen_of, seen_in}
 use Rattle.nest_lang.specs.Expressions.{Frame}
 use Rattle.nest_lang.specs.Statements.{statement_trace, block_trace, started, announced, shown_before, instance_trace}
 use Rattle.nest_lang.specs.Heads.{Yield, head_of, head_step, headed}

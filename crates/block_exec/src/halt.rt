@@ -16,6 +16,9 @@ pub enum Halt {
 }
 
 impl Halt {
+    /// What a run begins with, before a step of it halted. No call reads it.
+    pub const NONE: Halt = Halt::Trapped(Trap::Overflow);
+
     /// The trap of a halt that is one, as each halt over a port that does not verify.
     pub fn trap(self) -> Trap
         requires { IsTrap self }

@@ -29,14 +29,12 @@ pub struct Bounds {
     pub trip: u64,
 }
 
-impl Bounds {
-    /// The value of the loop's name in a turn, where it is an i64, as it is in each of its turns.
-    pub fn value(self, turn: u64) -> i64
-        requires { FitsSigned w64 (turn_value self.lower self.stride turn) }
-        ensures { result ≡ turn_value self.lower self.stride turn }
-    {
-        (i128::from(self.lower) + i128::from(self.stride) * i128::from(turn)) as i64
-    }
+/// The value of a `for`'s name in a turn, where it is an i64, as it is in each of its turns.
+pub fn value_of_turn(lower: i64, stride: i64, turn: u64) -> i64
+    requires { FitsSigned w64 (turn_value lower stride turn) }
+    ensures { result ≡ turn_value lower stride turn }
+{
+    (i128::from(lower) + i128::from(stride) * i128::from(turn)) as i64
 }
 
 impl<P: Port, W: Watch> Run<'_, P, W> {

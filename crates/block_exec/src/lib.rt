@@ -26,7 +26,7 @@ mod watch;
 
 pub use context::Run;
 pub use halt::{Cut, Halt, Halted};
-pub use head::Bounds;
+pub use head::{Bounds, value_of_turn};
 pub use memory::MemoryPort;
 pub use nest_lang::{Seen, Stop};
 pub use port::Port;
