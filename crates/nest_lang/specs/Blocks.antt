@@ -1,5 +1,5 @@
 -- Blocks: the present blocks of a nest, in the order of the text, and what stands in each.
-use Rattle.std.specs.Prelude.{ℕ, zero, suc, ◌+◌, nat_eq, List, [], ◌∷◌, ◌++◌, slice_get, Option, Some, None, option_map, Bool, true, false, ◌&&◌}
+use Rattle.std.specs.Prelude.{ℕ, zero, suc, ◌+◌, ◌-◌, nat_eq, List, [], ◌∷◌, ◌++◌, slice_get, Option, Some, None, option_map, Bool, true, false, ◌&&◌}
 use Rattle.std.specs.Option.{option_and_then}
 use Rattle.std.specs.List.{position}
 use Rattle.nest_lang.specs.declared.tree.Head.{Head}
@@ -71,3 +71,14 @@ statements_by part.Post l = Some l.post
 -- the statements of a block of a nest
 abbrev pub statements_of : List Loop → BlockRef → Option (List Stmt)
 statements_of loops block = option_and_then (statements_by block.part) (loop_at loops block.level)
+
+-- how many turn numbers an occurrence of a block has: those of the loops around it and that of its own
+-- loop, but for the head of a `for`, which runs before the turns of its loop
+abbrev pub counters_by : Part → Head → ℕ → ℕ
+counters_by part.Head (For lower upper stride) level = level - 1
+counters_by part.Head (While condition) level = level
+counters_by part.Pre h level = level
+counters_by part.Post h level = level
+
+abbrev pub counters_of : List Loop → BlockRef → Option ℕ
+counters_of loops block = option_map (λ (h : Head). counters_by block.part h block.level) (head_at loops block.level)

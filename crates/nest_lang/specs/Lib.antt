@@ -13,4 +13,6 @@ pub mod Turns
 pub mod Rules
 pub mod Runs
 pub mod Laws
+pub mod TurnLaws
+pub mod BlockLaws
 pub mod Examples

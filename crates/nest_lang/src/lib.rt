@@ -11,6 +11,7 @@
 //! they give these definitions. `laws` has what holds of the definitions themselves.
 #![tactic(auto)]
 
+mod accesses;
 mod blocks;
 mod budget;
 mod command;
