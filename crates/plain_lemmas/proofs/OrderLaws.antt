@@ -1,5 +1,5 @@
 -- Whole numbers and lists of them in order, lists by their first place that differs.
-use Rattle.std.proofs.Common.{◌≡◌, refl, sym, ap, ◌∙◌, ℤ, ◌≤ℤ◌, ◌<ℤ◌, List, [], ◌∷◌, ◌++◌, length, ◌⊎◌, inl, inr, Ordering, Less, Equal, Greater, int_cmp, arith}
+use Rattle.std.proofs.Common.{◌≡◌, refl, sym, ap, ap₂, ◌∙◌, ℤ, ◌≤ℤ◌, ◌<ℤ◌, List, [], ◌∷◌, ◌++◌, length, ◌⊎◌, inl, inr, Ordering, Less, Equal, Greater, int_cmp, arith}
 use Rattle.std.specs.Cmp.{int_cmp_is, int_ranks}
 use Rattle.std.specs.Cmp.Lexicographic.{slice_cmp}
 use Rattle.std.specs.Ordering.{MatchOrdering, ordering_then}
@@ -31,6 +31,18 @@ pub ordering_then-less : (a b : ℤ) (o : Ordering) → a <ℤ b → ordering_th
 ordering_then-less a b o l = ap (λ (r : Ordering). ordering_then r o) (int_cmp-less a b l)
 
 -- ---- whole lists
+
+-- lists that compare as equal are equal
+pub slice_cmp-exact : (xs ys : List ℤ) → slice_cmp int_cmp xs ys ≡ Equal → xs ≡ ys
+slice_cmp-exact [] [] h = refl
+slice_cmp-exact [] (y ∷ ys) h = cc
+slice_cmp-exact (x ∷ xs) [] h = cc
+slice_cmp-exact (x ∷ xs) (y ∷ ys) h = at (int_cmp x y) (int_ranks x y) h (slice_cmp-exact xs ys)
+  where
+    at : (o : Ordering) → MatchOrdering o (x <ℤ y) (x ≡ y) (y <ℤ x) → ordering_then o (slice_cmp int_cmp xs ys) ≡ Equal → (slice_cmp int_cmp xs ys ≡ Equal → xs ≡ ys) → x ∷ xs ≡ y ∷ ys
+    at Less k e more = cc
+    at Equal k e more = ap₂ (λ z zs. z ∷ zs) k (more e)
+    at Greater k e more = cc
 
 -- behind the same beginning the rest decides
 pub slice_cmp-append_same : (front xs ys : List ℤ) → slice_cmp int_cmp (front ++ xs) (front ++ ys) ≡ slice_cmp int_cmp xs ys
