@@ -8,8 +8,9 @@ use Rattle.nest_lang.specs.Stores.{store_of}
 use Rattle.nest_lang.specs.Traces.{Observation}
 use Rattle.nest_lang.specs.Expressions.{Frame, shown}
 use Rattle.nest_lang.specs.Statements.{announced, scalars_from}
-use Rattle.nest_lang.specs.declared.tree.BlockRef.{BlockRef}
-use Rattle.block_exec.specs.Watches.{Chain, frame_of}
+use Rattle.block_exec.specs.declared.site.Site.{Site}
+use Rattle.block_exec.specs.Watches.{Chain}
+use Rattle.block_exec.specs.Sites.{frame_at}
 
 pub announce-first : {W : Type 0} (may : W → Observation → W → Type 0) (f : Frame) (scalars : List ℤ) (a b w : W) → may a (shown f Start (pos 0)) b → Chain may b (scalars_from f 0 scalars) w → Chain may a (announced f (store_of [] scalars [])) w
 unfolding announced
@@ -25,8 +26,8 @@ pub announce-end : {W : Type 0} (may : W → Observation → W → Type 0) (f : 
 announce-end may f scalars i w h = rw (drop_all i scalars h) refl
 
 -- what is announced are the scalars alone
-pub announced-scalars : (block : BlockRef) (counters values : List ℤ) (x : Expectation) (memory scalars locals : List ℤ) → announced (frame_of block counters values x) (store_of memory scalars locals) ≡ announced (frame_of block counters values plain) (store_of [] scalars [])
+pub announced-scalars : (site : Site) (x : Expectation) (memory scalars locals : List ℤ) → announced (frame_at site x) (store_of memory scalars locals) ≡ announced (frame_at site plain) (store_of [] scalars [])
 unfolding announced
-announced-scalars block counters values x memory scalars locals = refl
+announced-scalars site x memory scalars locals = refl
 
 pub ruleset announces = (announce-first, announce-next, announce-end)

@@ -1,10 +1,11 @@
 -- Moments of a run, and what it is to run a trace from one to another.
-use Rattle.std.specs.Prelude.{◌≡◌, ◌<◌, ℕ, ℤ, List, take}
+use Rattle.std.specs.Prelude.{◌≡◌, ◌<◌, ◌-◌, ◌+◌, ◌++◌, min, ℕ, zero, suc, ℤ, List, [], Option, Some, None, Result}
 use Rattle.nest_lang.specs.declared.tree.Head.{Head}
-use Rattle.nest_lang.specs.declared.tree.Head.TheVariants.{For, While}
 use Rattle.nest_lang.specs.Stores.{Store}
-use Rattle.nest_lang.specs.Traces.{Observation, Trace, Finish, cut_of, cut, seen_in}
-use Rattle.nest_lang.specs.Loops.{Around}
+use Rattle.nest_lang.specs.Traces.{Observation, Halt, Trace, Finish, cut_of, cut, seen_in}
+use Rattle.nest_lang.specs.Expressions.{Frame}
+use Rattle.nest_lang.specs.Statements.{announced}
+use Rattle.nest_lang.specs.Heads.{Yield, head_of}
 use Rattle.block_exec.specs.Watches.{Chain}
 
 -- a moment of a run: the store, the steps left and used of its budget, and its watch
@@ -28,11 +29,21 @@ pub record Ran {W : Type 0} (may : W → Observation → W → Type 0) (trace : 
 abbrev pub RanWithin : {W : Type 0} → (W → Observation → W → Type 0) → (ℕ → Store → Trace) → Moment W → Moment W → Finish → Type 0
 RanWithin may trace a b finish = (k : ℕ) → a.left < k → Ran may (trace k) a b finish
 
--- the loops around a loop at a level, from 0: the first so many turn numbers and values
-abbrev pub around_of : ℕ → List ℤ → List ℤ → Around
-around_of level counters values = record { counters = take level counters; values = take level values }
+-- a head is evaluated where a step is left for it
+abbrev pub where_left : {A : Type 0} → ℕ → A → Option A
+where_left zero a = None
+where_left (suc n) a = Some a
 
--- the head of a `while`
-abbrev pub IsWhile : Head → Type 0
-IsWhile (For lower upper stride) = ⊥
-IsWhile (While condition) = Unit {0}
+-- and what it then shows
+abbrev pub shown_where_left : ℕ → List Observation → List Observation
+shown_where_left zero os = []
+shown_where_left (suc n) os = os
+
+-- a head was evaluated between two moments, where a step was left for it, and yields this (nothing where
+-- none was left): it changes nothing, takes one step, and shows that it is due and then what it shows
+pub record Evaluated {W : Type 0} (may : W → Observation → W → Type 0) (f : Frame) (head : Head) (a b : Moment W) (yields : Option (Result Yield Halt)) : Type 0 where
+  pub value : yields ≡ where_left a.left (head_of f head a.store).value
+  pub store : b.store ≡ a.store
+  pub left : b.left ≡ a.left - 1
+  pub used : b.used ≡ a.used + min 1 a.left
+  pub shown : Chain may a.watch (announced f a.store ++ shown_where_left a.left (head_of f head a.store).seen) b.watch

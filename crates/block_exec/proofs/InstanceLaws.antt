@@ -3,13 +3,12 @@ use Rattle.std.proofs.Common.{◌≡◌, refl, ap, sym, ◌∙◌, ℕ, zero, su
 use Rattle.nest_lang.specs.declared.tree.Stmt.{Stmt}
 use Rattle.nest_lang.specs.declared.tree.Head.{Head}
 use Rattle.nest_lang.specs.Stores.{Store}
-use Rattle.nest_lang.specs.Traces.{Observation, Entry, Halt, Trace, joined, in_turn, Step, traced, Done, Halted, Limited, Cut, cut_of, cut, after_all, seen_of, seen_in}
+use Rattle.nest_lang.specs.Traces.{Observation, Entry, Halt, Trace, joined, in_turn, Transition, traced, Done, Halted, Limited, Cut, cut_of, cut, after_all, seen_of, seen_in}
 use Rattle.nest_lang.specs.Expressions.{Frame}
 use Rattle.nest_lang.specs.Statements.{statement_trace, block_trace, started, announced, shown_before, instance_trace}
 use Rattle.nest_lang.specs.Heads.{Yield, head_of, head_step, headed}
 use Rattle.nest_lang.proofs.Cuts.{trace_of, cut-stop, cut-cons, cut-end, cut-step, cut-due, seen-step, seen-due}
 use Rattle.nest_lang.proofs.StatementLemmas.{statement-due}
-use Rattle.block_exec.specs.Ends.{where_left, shown_where_left}
 
 -- what is shown before a step changes nothing
 cut-shown_before : (os : List Observation) (es : List Entry) (halt : Option Halt) (s : Store) (left used : ℕ) → cut (trace_of (shown_before os es) halt) s left used ≡ cut (trace_of es halt) s left used
@@ -68,51 +67,3 @@ cut-no_instance f s t left used = cut-end None t left used
 pub seen-no_instance : (f : Frame) (s : Store) (left : ℕ) → seen_in (instance_trace f [] s) left ≡ []
 unfolding instance_trace block_trace seen_in
 seen-no_instance f s left = refl
-
-some-none : {A : Type 0} {a : A} → Some a ≡ None → ⊥
-some-none e = grind arith
-
-some-inner : {A : Type 0} {a b : A} → Some a ≡ Some b → a ≡ b
-some-inner e = grind arith
-
-module _ (f : Frame) (h : Head) (go : Yield → List (Store → Trace)) (s : Store) where
-  -- where a head yields, a run goes on with what follows from it
-  pub cut-head_yields : (left used left' used' : ℕ) (yield : Yield) → Some (Ok yield) ≡ where_left left (head_of f h s).value → left' ≡ left - 1 → used' ≡ used + min 1 left → cut (traced (headed f h go s) s) s left used ≡ cut (in_turn (go yield) s) s left' used'
-  cut-head_yields zero used left' used' yield e l u = absurd (some-none e)
-  cut-head_yields (suc n) used left' used' yield e l u =
-      let value : (head_of f h s).value ≡ Ok yield = sym (some-inner e) in
-      rw value (cut-step (head_step (announced f s) (head_of f h s).seen (Ok yield) go) s (suc n) used left' used' (omega arith) l u)
-
-  pub cut-head_halts : (left used left' used' : ℕ) (halt : Halt) → Some (Err halt) ≡ where_left left (head_of f h s).value → left' ≡ left - 1 → used' ≡ used + min 1 left → cut (traced (headed f h go s) s) s left used ≡ cut_of s left' used' (Halted halt)
-  cut-head_halts zero used left' used' halt e l u = absurd (some-none e)
-  cut-head_halts (suc n) used left' used' halt e l u =
-      let value : (head_of f h s).value ≡ Err halt = sym (some-inner e) in
-      rw value (cut-step (head_step (announced f s) (head_of f h s).seen (Err halt) go) s (suc n) used left' used' (omega arith) l u)
-
-  pub cut-head_limited : (left used left' used' : ℕ) → None ≡ where_left left (head_of f h s).value → left' ≡ left - 1 → used' ≡ used + min 1 left → cut (traced (headed f h go s) s) s left used ≡ cut_of s left' used' Limited
-  cut-head_limited zero used left' used' e l u =
-      let a : left' ≡ 0 = omega arith in
-      let b : used' ≡ used = omega arith in
-      rw (a, b) (cut-due (headed f h go s) s 0 used refl)
-  cut-head_limited (suc n) used left' used' e l u = absurd (some-none (sym e))
-
-  -- and what it shows
-  pub seen-head_yields : (left left' : ℕ) (yield : Yield) → Some (Ok yield) ≡ where_left left (head_of f h s).value → left' ≡ left - 1 → seen_in (traced (headed f h go s) s) left ≡ announced f s ++ shown_where_left left (head_of f h s).seen ++ seen_in (in_turn (go yield) s) left'
-  seen-head_yields zero left' yield e l = absurd (some-none e)
-  seen-head_yields (suc n) left' yield e l =
-      let value : (head_of f h s).value ≡ Ok yield = sym (some-inner e) in
-      rw value (seen-step (head_step (announced f s) (head_of f h s).seen (Ok yield) go) s (suc n) left' (omega arith) l)
-
-  pub seen-head_halts : (left left' : ℕ) (halt : Halt) → Some (Err halt) ≡ where_left left (head_of f h s).value → left' ≡ left - 1 → seen_in (traced (headed f h go s) s) left ≡ announced f s ++ shown_where_left left (head_of f h s).seen
-  seen-head_halts zero left' halt e l = absurd (some-none e)
-  seen-head_halts (suc n) left' halt e l =
-      let value : (head_of f h s).value ≡ Err halt = sym (some-inner e) in
-      rw value (seen-step (head_step (announced f s) (head_of f h s).seen (Err halt) go) s (suc n) left' (omega arith) l ∙ append-nil _)
-
-  pub seen-head_limited : (left : ℕ) → None ≡ where_left left (head_of f h s).value → seen_in (traced (headed f h go s) s) left ≡ announced f s ++ shown_where_left left (head_of f h s).seen
-  seen-head_limited zero e = seen-due (headed f h go s) s 0 refl ∙ head_before (head_of f h s).value ∙ sym (append-nil (announced f s))
-    where
-      head_before : (v : Result Yield Halt) → (head_step (announced f s) (head_of f h s).seen v go).entry.before ≡ announced f s
-      head_before (Ok yield) = refl
-      head_before (Err halt) = refl
-  seen-head_limited (suc n) e = absurd (some-none (sym e))

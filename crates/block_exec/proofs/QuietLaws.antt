@@ -1,5 +1,5 @@
 -- Ports that verify nothing stop nothing.
-use Rattle.std.proofs.Common.{◌≡◌, refl, sym, ◌∙◌, ℕ, ℤ, pos, negsuc, List, Option, Some, None, Result, Ok, Err, Bool, true, false, arith, rules}
+use Rattle.std.proofs.Common.{◌≡◌, ℕ, ℤ, List, Option, Some, None, Err, Bool, false, arith}
 use Rattle.nest_lang.specs.declared.observe.Stop.{Stop}
 use Rattle.nest_lang.specs.declared.observe.Stop.TheVariants.{Outside, Unexpected}
 use Rattle.nest_lang.specs.Lookups.{Interval, look, word_or_outside}
@@ -7,7 +7,7 @@ use Rattle.nest_lang.specs.Stores.{word_at}
 use Rattle.nest_lang.specs.Expressions.{or_stopped}
 use Rattle.block_exec.specs.declared.halt.Halt as code
 use Rattle.block_exec.specs.declared.halt.Halt.TheVariants as halt
-use Rattle.block_exec.specs.Ends.{halt_by, IsTrap}
+use Rattle.block_exec.specs.Halts.{halt_by, IsTrap}
 
 -- a word is found, or there is none
 outside-quiet : (address seen : ℤ) (line : Option ℤ) (found : Option ℤ) → Err (Unexpected seen line) ≡ word_or_outside address found → ⊥

@@ -7,18 +7,8 @@ use Rattle.nest_lang.specs.Expressions.{Frame}
 use Rattle.nest_lang.specs.Statements.{statement_trace, block_trace}
 use Rattle.nest_lang.proofs.Cuts.{cut-step, cut-end, seen-step, seen-ends, rest_seen, rest_seen-not, trace_of, cut-stop, cut-cons}
 use Rattle.nest_lang.proofs.StatementLemmas.{statements, run-next, run-out, block-end, seen-block-end, seen-block-at}
-use Rattle.block_exec.specs.declared.block.BlockEnd.{BlockEnd}
-use Rattle.block_exec.specs.declared.block.BlockEnd.TheVariants as block
-use Rattle.block_exec.specs.Ends.{finish_by}
 use Rattle.block_exec.specs.Watches.{Chain}
-use Rattle.block_exec.proofs.Chained.{chain-append, chain-one}
-
--- an end that is not `Ended` is not done
-pub finish-not : (e : BlockEnd) → (e ≡ block.Ended → ⊥) → finish_by e ≡ Done → ⊥
-finish-not block.Ended other h = other refl
-finish-not (block.Trapped trap) other h = grind arith
-finish-not (block.Stopped access seen expected) other h = grind arith
-finish-not block.Limited other h = grind arith
+use Rattle.block_exec.proofs.ChainLaws.{chain-append, chain-one}
 
 -- a statement was run and was done: a chain for what is left of the block makes one for the whole
 pub shown-next : {W : Type 0} (may : W → Observation → W → Type 0) (f : Frame) (xs : List Stmt) (i : ℕ) (x : Stmt) (s s' : Store) (left used left' used' : ℕ) (e : Finish) (w0 w w' : W) (whole : List Observation) → cut_of s' left' used' e ≡ cut (statement_trace f x s) s left used → e ≡ Done → i < length xs → x ≡ get_or xs i x → Chain may w (seen_in (statement_trace f x s) left) w' → ((v : W) → Chain may w (seen_in (block_trace f (drop i xs) s) left) v → Chain may w0 whole v) → (v : W) → Chain may w' (seen_in (block_trace f (drop (i + 1) xs) s') left') v → Chain may w0 whole v
@@ -62,7 +52,3 @@ cut-bare t s left used = rw (after-bare s (take left t.entries)) refl
 -- the locals of a block are gone after it
 pub without-locals : (t : Trace) (s s' : Store) (left used left' used' : ℕ) (e : Finish) → cut_of s' left' used' e ≡ cut t s left used → cut_of (bare s') left' used' e ≡ cut t (bare s) left used
 without-locals t s s' left used left' used' e run = ap bare_cut run ∙ sym (cut-bare t s left used)
-
-pub ruleset steps = (statements, cut-step, cut-end, seen-step, seen-ends, chain-append, chain-one, append-nil)
-
-pub ruleset joins = (run-next, run-out, block-end, seen-block-end)
