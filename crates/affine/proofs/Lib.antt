@@ -1,8 +1,12 @@
 pub mod DivisorLemmas
 pub mod FloorLemmas
 pub mod IntegerLemmas
+pub mod InverseLaws
 pub mod MatrixLemmas
+pub mod MoveLaws
+pub mod MovedSumLaws
 pub mod NormalLemmas
 pub mod OneToOneLemmas
+pub mod PlaceLaws
 pub mod RowLemmas
 pub mod SumLemmas

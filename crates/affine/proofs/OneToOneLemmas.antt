@@ -21,12 +21,12 @@ product-weighted (row ∷ rows) q x p y h = rw (dot-weighted_point row q x p y h
 
 -- ---- the unit matrix
 
-dot-zeros : (n : ℕ) (ys : List ℤ) → dot (replicate n (pos 0)) ys ≡ pos 0
+pub dot-zeros : (n : ℕ) (ys : List ℤ) → dot (replicate n (pos 0)) ys ≡ pos 0
 dot-zeros zero ys = refl
 dot-zeros (suc n) [] = refl
 dot-zeros (suc n) (y ∷ ys) = rw (zero-*ℤ y, dot-zeros n ys) refl
 
-dot-unit_row : (n place : ℕ) (ys : List ℤ) → place < n → dot (unit_row n place) ys ≡ get_or ys place (pos 0)
+pub dot-unit_row : (n place : ℕ) (ys : List ℤ) → place < n → dot (unit_row n place) ys ≡ get_or ys place (pos 0)
 dot-unit_row zero place ys h = absurd (omega arith)
 dot-unit_row (suc n) zero [] h = refl
 dot-unit_row (suc n) zero (y ∷ ys) h = rw (one-*ℤ y, dot-zeros n ys, +ℤ_idr y) refl

@@ -1,11 +1,12 @@
 -- Laws of rows and matrices, each for all of them and for all whole-number points.
-use Rattle.std.specs.Prelude.{◌≡◌, ◌↔◌, ℤ, pos, ◌+ℤ◌, ◌*ℤ◌, ◌≤ℤ◌, ◌<ℤ◌, ◌<◌, ◌≢◌, ℕ, length, slice_index_or, swap, List, []}
+use Rattle.std.specs.Prelude.{◌≡◌, ◌↔◌, ℤ, pos, neg_ℤ, ◌+ℤ◌, ◌*ℤ◌, ◌≤ℤ◌, ◌<ℤ◌, ◌<◌, ◌≢◌, ℕ, length, slice_index_or, swap, List, []}
 use Rattle.std.specs.Int.{int_div_euclid}
 use Rattle.affine.specs.declared.row.Row.{Row}
-use Rattle.affine.specs.Matrices.{product, identity, skew, IsOneToOne}
-use Rattle.affine.specs.Sums.{weighted}
+use Rattle.affine.specs.Inverses.{across, IsSquare, IsInverse}
+use Rattle.affine.specs.Matrices.{product, identity, skew, IsOneToOne, IsOnto}
+use Rattle.affine.specs.Sums.{dot, weighted}
 use Rattle.affine.specs.Divisors.{common_divisor, IsGreatestDivisor}
-use Rattle.affine.specs.Rows.{variables, sum_at, Meets, combination, normal}
+use Rattle.affine.specs.Rows.{row_of, variables, sum_at, Meets, combination, normal}
 
 -- what Euclid's rule gives divides each number, and each number that divides them all divides it
 abbrev pub DivisorIsGreatest : Type 0
@@ -46,3 +47,41 @@ SwapKeepsOneToOne = (n : ℕ) (rows : List (List ℤ)) (a b : ℕ) → a < lengt
 -- and after a row has gained a multiple of another row of the same length
 abbrev pub SkewKeepsOneToOne : Type 0
 SkewKeepsOneToOne = (n : ℕ) (rows : List (List ℤ)) (a b : ℕ) (m : ℤ) → a < length rows → a ≢ b → length (slice_index_or rows a []) ≡ length (slice_index_or rows b []) → IsOneToOne n rows → IsOneToOne n (skew rows a b m)
+
+-- the unit matrix is its own inverse
+abbrev pub IdentityIsInverse : Type 0
+IdentityIsInverse = (n : ℕ) → IsInverse n (identity n) (identity n)
+
+-- an exchange of two rows exchanges the same two columns of the inverse
+abbrev pub SwapKeepsInverse : Type 0
+SwapKeepsInverse = (n : ℕ) (rows columns : List (List ℤ)) (a b : ℕ) → a < n → b < n → IsInverse n rows columns → IsInverse n (swap rows a b) (swap columns a b)
+
+-- where row a gains m times row b, column b of the inverse loses m times column a
+abbrev pub SkewKeepsInverse : Type 0
+SkewKeepsInverse =
+    (n : ℕ) (rows columns : List (List ℤ)) (a b : ℕ) (m : ℤ) → a < n → b < n → a ≢ b → IsInverse n rows columns
+    → IsInverse n (skew rows a b m) (skew columns b a (neg_ℤ m))
+
+-- a matrix that has an inverse maps whole-number points one to one and onto
+pub record InvertedIsOneToOneAndOnto : Type 0 where
+  pub one : (n : ℕ) (rows columns : List (List ℤ)) → IsInverse n rows columns → IsOneToOne n rows
+  pub onto : (n : ℕ) (rows columns : List (List ℤ)) → IsInverse n rows columns → IsOnto n rows
+
+-- a sum of products over points is one over the products of the points, with the products of the columns as its
+-- coefficients
+abbrev pub FormOverPlaces : Type 0
+FormOverPlaces =
+    (n : ℕ) (columns : List (List ℤ)) (coef place : List ℤ) → IsSquare n columns → length coef ≡ n → length place ≡ n
+    → dot coef (across n columns place) ≡ dot (product columns coef) place
+
+-- a row over points as a row over their products
+abbrev pub RowOverPlaces : Type 0
+RowOverPlaces =
+    (n : ℕ) (rows columns : List (List ℤ)) (row : Row) (point : List ℤ) → IsInverse n rows columns → variables row ≡ n → length point ≡ n
+    → Meets point row ↔ Meets (product rows point) (row_of (product columns row.coef.items) row.cst)
+
+-- the numbers with one floored quotient are those from the product with it up to below the next
+abbrev pub QuotientIsInterval : Type 0
+QuotientIsInterval =
+    (number divisor quotient : ℤ) → pos 0 <ℤ divisor
+    → (int_div_euclid number divisor ≡ quotient) ↔ (((divisor *ℤ quotient) ≤ℤ number) × (number <ℤ (divisor *ℤ (quotient +ℤ pos 1))))

@@ -1,5 +1,6 @@
 pub mod Divisors
 pub mod Forms
+pub mod Inverses
 pub mod Laws
 pub mod Matrices
 pub mod Rows

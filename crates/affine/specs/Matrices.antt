@@ -34,3 +34,13 @@ HasSmallEntries rows = All (AllWithinSize (2 ^ 20)) rows
 -- equal products come from equal points of n numbers only
 abbrev pub IsOneToOne : ℕ → List (List ℤ) → Type 0
 IsOneToOne n rows = (first second : List ℤ) → length first ≡ n → length second ≡ n → product rows first ≡ product rows second → first ≡ second
+
+-- a point of n numbers that a matrix maps to a place
+pub record ComesFrom (n : ℕ) (rows : List (List ℤ)) (place : List ℤ) : Type 0 where
+  pub point : List ℤ
+  pub long : length point ≡ n
+  pub maps : product rows point ≡ place
+
+-- each list of n numbers is the product of a point of n numbers
+abbrev pub IsOnto : ℕ → List (List ℤ) → Type 0
+IsOnto n rows = (place : List ℤ) → length place ≡ n → ComesFrom n rows place

@@ -1,7 +1,8 @@
 //! Square matrices that schedules are made of.
 
-ghost use Rattle.std.specs.Prelude.{◌≡◌, ◌≤◌, ◌<◌, ◌≢◌, ◌^◌, ◌+ℤ◌, ◌*ℤ◌, ℤ, pos, length, slice_index_or, slice_set, swap, FitsSigned, List, []};
+ghost use Rattle.std.specs.Prelude.{◌≡◌, ◌≤◌, ◌<◌, ◌≢◌, ◌^◌, ◌+ℤ◌, ◌*ℤ◌, ℤ, pos, length, slice_index_or, slice_set, swap, unsigned_abs, FitsSigned, List, []};
 ghost use Rattle.std.specs.Int.{w64};
+ghost use Rattle.std.specs.List.{All};
 ghost use Rattle.affine.specs.Forms.{AllWithinSize};
 ghost use Rattle.affine.specs.Matrices.{identity, product, skew, unit_row};
 ghost use Rattle.affine.specs.Sums.{weighted};
@@ -63,10 +64,12 @@ impl<const D: usize> Matrix<D> {
         rows[a] = row;
     }
 
-    /// The product with a point: at each place the sum of that row's products. D is at most 6.
+    /// The product with a point: at each place the sum of that row's products, which is below 2^106 in size. D is at
+    /// most 6.
     pub fn map(&self, point: &[i64; D]) -> [i128; D]
         requires { D < 7 }
-        ensures { result ≡ product self.now point.now }
+        ensures value { result ≡ product self.now point.now }
+        ensures size { All (λ number. unsigned_abs number < 2 ^ 106) result }
     {
         let mut places = [0; D];
         for place in 0..D {

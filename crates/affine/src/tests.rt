@@ -3,7 +3,7 @@
 ghost use Rattle.std.specs.Prelude.{◌≤◌, ◌^◌, length, unsigned_abs};
 ghost use Rattle.affine.specs.Forms.{AllWithinSize};
 
-use crate::{Form, Matrix, Row};
+use crate::{Form, Matrix, Row, Unimodular};
 use arrayvec::ArrayVec;
 use std::alloc::AllocError;
 
@@ -84,4 +84,15 @@ fn matrix_moves(rt: HostRuntime) {
     matrix.swap(1, 2);
     assert_eq!(rt; matrix.map(&[5, 7, 11]), [5, 11, -3]);
     assert_eq!(rt; matrix.rows, [[1, 0, 0], [0, 0, 1], [-2, 1, 0]]);
+}
+
+#[test]
+fn inverse_moves_along(rt: HostRuntime) {
+    let mut made: Unimodular<2> = Unimodular::identity();
+    made.skew(1, 0, 2);
+    assert_eq!(rt; made.matrix().rows, [[1, 0], [2, 1]]);
+    assert_eq!(rt; made.columns().rows, [[1, -2], [0, 1]]);
+    made.swap(0, 1);
+    assert_eq!(rt; made.matrix().rows, [[2, 1], [1, 0]]);
+    assert_eq!(rt; made.columns().rows, [[0, 1], [1, -2]]);
 }

@@ -1,0 +1,12 @@
+use Rattle.std.proofs.Common.{◌≡◌, ◌<◌, ◌≤◌, ℕ, ℤ, pos, length, get_or, unsigned_abs, ◌*◌, ◌^◌, ◌+ℤ◌, List, drop}
+use Rattle.std.specs.Int.{int_div_euclid}
+use Rattle.transform.specs.Schedules.{place, wave_of}
+use Rattle.transform.specs.Scripts.{lines_of, schedule_from}
+use Rattle.transform.proofs.schedule.Schedule.lead_at.Given as goal
+
+abbrev pub invariant-loop-row : goal.invariant-loop-row
+invariant-loop-row g l = record {
+  long : length l.lead ≡ g.row.D;
+  values : (k : ℕ) → k < l.row → get_or l.lead k (pos 0) ≡ get_or l.numbers k (pos 0);
+  zeros : (k : ℕ) → l.row ≤ k → k < g.row.D → get_or l.lead k (pos 0) ≡ pos 0;
+}
