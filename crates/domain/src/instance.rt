@@ -1,0 +1,27 @@
+//! Instances of the blocks of a nest, and chunks of turns.
+
+use std::marker::Model;
+
+/// Some turns of the outermost loop: the number of the first, and how many.
+#[derive(Clone, Copy, Debug, PartialEq, Eq)]
+pub struct Chunk {
+    pub first: i64,
+    pub turns: i64,
+}
+
+/// An instance: the rank of its block, and its D counters, with zeros after those that the block has.
+#[derive(Clone, Copy, Debug, PartialEq, Eq)]
+pub struct Instance<const D: usize> {
+    pub block: u8,
+    pub at: [i64; D],
+}
+
+impl<const D: usize> Model for Instance<D> {
+    ghost use Rattle.domain.specs.Instances.{Instance as Point};
+
+    ghost Value = { Point };
+
+    ghost view = { λ x. record { block = x.block; at = x.at } };
+
+    ghost inverse = { λ x. record { block = x.block; at = x.at } };
+}

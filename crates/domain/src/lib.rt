@@ -1,0 +1,10 @@
+//! What a prediction expects of a nest's instances.
+#![tactic(auto)]
+
+mod instance;
+mod prediction;
+mod table;
+
+pub use instance::{Chunk, Instance};
+pub use prediction::{Prediction, What};
+pub use table::{AccessForm, BlockForms, LoopForms, LoopKind};
