@@ -1,3 +1,4 @@
 pub mod Expected
 pub mod Instances
+pub mod Steps
 pub mod Tables

@@ -3,6 +3,7 @@
 
 mod instance;
 mod prediction;
+mod steps;
 mod table;
 
 pub use instance::{Chunk, Instance};
