@@ -5,6 +5,7 @@ mod instance;
 mod prediction;
 mod steps;
 mod table;
+mod walk;
 
 pub use instance::{Chunk, Instance};
 pub use prediction::{Prediction, What};

@@ -1,13 +1,14 @@
 //! Predictions: the forms of a nest's data.
 
-ghost use Rattle.std.specs.Prelude.{◌≡◌, ◌<◌, ℤ, Option};
+ghost use Rattle.std.specs.Prelude.{◌≡◌, ◌<◌, ◌≤◌, ℤ, Option, IfSome, length};
 ghost use Rattle.std.specs.Option.{option_copied};
 ghost use Rattle.affine.specs.Forms.{value_at};
-ghost use Rattle.domain.specs.Tables.{Table, IsTable, head_level};
+ghost use Rattle.domain.specs.Tables.{Table, IsTable, IsBlock, block_at, depth, head_level, rank_of, repeats, trip};
 ghost use Rattle.domain.specs.Expected.{form_of, tube_of, expected_of};
 
 use crate::instance::Instance;
-use crate::table::{BlockForms, LoopForms};
+use crate::steps::cut;
+use crate::table::{BlockForms, LoopForms, LoopKind};
 use affine::Form;
 use nest_lang::Part;
 use std::marker::Model;
@@ -32,7 +33,7 @@ pub struct Prediction<const D: usize> {
 
 impl<const D: usize> Model for Prediction<D> {
     ghost use Rattle.std.specs.Prelude.{◌≡◌, length};
-    ghost use Rattle.domain.specs.Tables.{Table, IsTable, head_level};
+    ghost use Rattle.domain.specs.Tables.{Table, IsTable, IsBlock, block_at, depth, head_level, rank_of, repeats, trip};
 
     ghost Value = { Table };
 
@@ -48,6 +49,49 @@ impl<const D: usize> Prediction<D> {
         ensures { result ≡ record { levels = levels.entry.items; blocks = blocks.entry.items } }
     {
         Prediction { levels, blocks }
+    }
+
+    /// The rank of the block of that part and level, where it is present.
+    pub(crate) fn rank(&self, part: Part, level: usize) -> Option<u8>
+        ensures rank { result ≡ rank_of self.now part level }
+        ensures small { IfSome result (λ rank. rank < 18) }
+    {
+        for (rank, block) in self.blocks.iter().enumerate() {
+            if block.is(part, level) {
+                return Some(rank as u8);
+            }
+        }
+        None
+    }
+
+    /// The block of a rank.
+    pub(crate) fn block(&self, rank: u8) -> &BlockForms<D>
+        requires { rank < length self.now.blocks }
+        ensures block { result.now ≡ block_at self.now rank }
+        ensures is { IsBlock D result.now }
+        ensures short { length self.now.blocks ≤ 18 }
+        ensures deep { depth self.now ≡ D }
+    {
+        &self.blocks[rank as usize]
+    }
+
+    /// Whether the loop inside so many others is a `while`.
+    pub(crate) fn repeats(&self, around: usize) -> bool
+        requires { around < D }
+        ensures { result ≡ repeats self.now around }
+    {
+        matches!(self.levels[around].kind, LoopKind::While)
+    }
+
+    /// The predicted trip of the loop inside so many others, at the counters of these alone.
+    pub(crate) fn trip(&self, around: usize, at: &[i64; D]) -> i128
+        requires { around < D }
+        ensures { result ≡ trip self.now around at.now }
+    {
+        match &self.levels[around].trip {
+            Some(form) => form.at(&cut(at, around)),
+            None => 0,
+        }
     }
 
     /// The loop of which the block is the head.

@@ -2,7 +2,7 @@
 
 ghost use Rattle.std.specs.Prelude.{◌≡◌, ◌<◌, length};
 ghost use Rattle.std.specs.Option.{option_copied};
-ghost use Rattle.domain.specs.Tables.{scalar_at, access_at, line_of, tube_by};
+ghost use Rattle.domain.specs.Tables.{is_block, scalar_at, access_at, line_of, tube_by};
 
 use affine::Form;
 use nest_lang::Part;
@@ -68,6 +68,13 @@ impl<const D: usize> Model for BlockForms<D> {
 }
 
 impl<const D: usize> BlockForms<D> {
+    /// Whether it is the block of that part and level.
+    pub fn is(&self, part: Part, level: usize) -> bool
+        ensures { result ≡ is_block part level self.now }
+    {
+        self.part == part && self.level as usize == level
+    }
+
     /// The form of a scalar, from 0.
     pub fn scalar(&self, number: u8) -> Option<Form<D>>
         ensures { result ≡ scalar_at self.now number }
