@@ -1,3 +1,4 @@
+pub mod PlaceLaws
 pub mod PointLaws
 pub mod StepLaws
 pub mod TableLaws

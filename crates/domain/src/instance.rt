@@ -1,13 +1,6 @@
-//! Instances of the blocks of a nest, and chunks of turns.
+//! Instances of the blocks of a nest.
 
 use std::marker::Model;
-
-/// Some turns of the outermost loop: the number of the first, and how many.
-#[derive(Clone, Copy, Debug, PartialEq, Eq)]
-pub struct Chunk {
-    pub first: i64,
-    pub turns: i64,
-}
 
 /// An instance: the rank of its block, and its D counters, with zeros after those that the block has.
 #[derive(Clone, Copy, Debug, PartialEq, Eq)]
