@@ -1,4 +1,6 @@
 pub mod PlaceLaws
 pub mod PointLaws
+pub mod RankLaws
+pub mod SpotLaws
 pub mod StepLaws
 pub mod TableLaws
