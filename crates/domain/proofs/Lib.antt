@@ -4,3 +4,4 @@ pub mod RankLaws
 pub mod SpotLaws
 pub mod StepLaws
 pub mod TableLaws
+pub mod WithinLaws
