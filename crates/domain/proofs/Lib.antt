@@ -1,3 +1,4 @@
+pub mod GapLaws
 pub mod PlaceLaws
 pub mod PointLaws
 pub mod RankLaws

@@ -114,3 +114,44 @@ less-rises n p q us vs r = rises-less n 0 p q us vs r.index (omega arith) (omega
 
 pub less-agree : (n : ℕ) (p q : ℕ → ℤ) (us vs : List ℤ) → Agree n p q → slice_cmp int_cmp (map p (range_with_len 0 n) ++ us) (map q (range_with_len 0 n) ++ vs) ≡ slice_cmp int_cmp us vs
 less-agree n p q us vs same = agree-less n 0 p q us vs (λ i l m. same i (omega arith))
+
+-- ---- one after another
+
+pub before-trans : (n : ℕ) (a b c : Spot) → Before n a b → Before n b c → Before n a c
+before-trans n a b c (inr h) (inr k) = inr (λ i l. h.0 i l ∙ k.0 i l, (let x = h.1 in let y = k.1 in omega arith))
+before-trans n a b c (inr h) (inl r) =
+    let less = r.less in let e = h.0 r.index r.inside in
+    inl (record { index = r.index; inside = r.inside; same = λ i l. h.0 i (omega (arith, r.inside)) ∙ r.same i l; less = omega (arith, ints) })
+before-trans n a b c (inl r) (inr h) =
+    let less = r.less in let e = h.0 r.index r.inside in
+    inl (record { index = r.index; inside = r.inside; same = λ i l. r.same i l ∙ h.0 i (omega (arith, r.inside)); less = omega (arith, ints) })
+before-trans n a b c (inl r) (inl s) = at (cases_lt r.index s.index) (cases_lt s.index r.index)
+  where
+    at : (r.index < s.index) ⊎ (s.index ≤ r.index) → (s.index < r.index) ⊎ (r.index ≤ s.index) → Before n a c
+    at (inl m) o =
+        let less = r.less in let e = s.same r.index m in
+        inl (record { index = r.index; inside = r.inside; same = λ i l. r.same i l ∙ s.same i (omega arith); less = omega (arith, ints) })
+    at (inr m) (inl o) =
+        let less = s.less in let e = r.same s.index o in
+        inl (record { index = s.index; inside = s.inside; same = λ i l. r.same i (omega arith) ∙ s.same i l; less = omega (arith, ints) })
+    at (inr m) (inr o) =
+        let e : r.index ≡ s.index = omega arith in
+        let f = ap b.place e in let g = ap c.place e in
+        let less = r.less in let more = s.less in
+        inl (record { index = r.index; inside = r.inside; same = λ i l. r.same i l ∙ s.same i (omega arith); less = omega (arith, ints) })
+
+-- another spot with the same point and place
+pub before-right : (n : ℕ) (a b c : Spot) → Agree n b.place c.place → b.text ≡ c.text → Before n a b → Before n a c
+before-right n a b c same e (inr h) = inr (λ i l. h.0 i l ∙ same i l, (let x = h.1 in omega arith))
+before-right n a b c same e (inl r) =
+    let less = r.less in let f = same r.index r.inside in
+    inl (record { index = r.index; inside = r.inside; same = λ i l. r.same i l ∙ same i (omega (arith, r.inside)); less = omega (arith, ints) })
+
+pub before-left : (n : ℕ) (a b c : Spot) → Agree n a.place b.place → a.text ≡ b.text → Before n b c → Before n a c
+before-left n a b c same e (inr h) = inr (λ i l. same i l ∙ h.0 i l, (let x = h.1 in omega arith))
+before-left n a b c same e (inl r) =
+    let less = r.less in let f = same r.index r.inside in
+    inl (record { index = r.index; inside = r.inside; same = λ i l. same i (omega (arith, r.inside)) ∙ r.same i l; less = omega (arith, ints) })
+
+pub agree_sym : (n : ℕ) (p q : ℕ → ℤ) → Agree n p q → Agree n q p
+agree_sym = agree-sym
