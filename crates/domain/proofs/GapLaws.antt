@@ -83,9 +83,9 @@ module _ (D : ℕ) (t : Table) (is : IsTable D t) (chunk : Chunk) where
     around some = record { from = turn.from; below = turn.below; inner = λ j l m. turn.inner j l (omega arith) }
 
     pub next-gap :
-        ((z : Instance) → Predicted t chunk z → text_at D t is z.block < y.text → (k ≡ 0 → ⊥) × ((text_at D t is z.block < k + k + 2) ⊎ ((text_at D t is z.block ≤ k + k + 2) × (repeats t k ≡ false))))
+        ((z : Instance) → Predicted t chunk z → Begins D t is chunk k at z → place t (block_of t z) z.at k ≡ counter at k +ℤ pos 1 → text_at D t is z.block < y.text → ⊥)
         → (z : Instance) → Predicted t chunk z → Before D (end (suc k) at) (At z) → Before D (At z) y → ⊥
-    next-gap low z p after before = ⊎_elim stays turns (cases_≤ℤ (counter at k) (place t (block_of t z) z.at k) first)
+    next-gap none z p after before = ⊎_elim stays turns (cases_≤ℤ (counter at k) (place t (block_of t z) z.at k) first)
       where
         begun : Agree k (place t (post (suc k)) at) (place t (block_of t z) z.at)
         begun = between D k (end (suc k) at) (At z) y (omega arith) same after before
@@ -103,7 +103,7 @@ module _ (D : ℕ) (t : Table) (is : IsTable D t) (chunk : Chunk) where
         stays e = top (suc k) at (omega arith) (omega arith) size turn z p (agree-more k (place t (post (suc k)) at) (place t (block_of t z) z.at) begun (end-counter (suc k) at k (omega arith) ∙ e)) after
 
         turns : counter at k <ℤ place t (block_of t z) z.at k → ⊥
-        turns l = ended (low z p text)
+        turns l = none z p (λ j m. sym (begun j m) ∙ end-counter (suc k) at j (omega arith)) (here ∙ next) text
           where
             here : place t (block_of t z) z.at k ≡ y.place k
             here = let s = second in let e = next in omega (arith, ints)
@@ -114,20 +114,30 @@ module _ (D : ℕ) (t : Table) (is : IsTable D t) (chunk : Chunk) where
             text : text_at D t is z.block < y.text
             text = by_text D (At z) y (λ i m. all i (omega arith)) before
 
-            ended : (k ≡ 0 → ⊥) × ((text_at D t is z.block < k + k + 2) ⊎ ((text_at D t is z.block ≤ k + k + 2) × (repeats t k ≡ false))) → ⊥
-            ended (inner, h) = ⊎_elim (λ some. by some) (λ none. inner (omega arith)) (cases_lt 0 k)
-              where
-                positive : 1 ≤ k → pos 0 ≤ℤ counter at k
-                positive some = (turn.inner k some (omega arith)).0
+  -- what begins the next turn of an inner loop
+  module _ (k : ℕ) (at : List ℤ) (some : 1 ≤ k) (size : length at ≡ D) (turn : InTurn t chunk (suc k) at) (z : Instance) (p : Predicted t chunk z) (begins : Begins D t is chunk k at z) (here : place t (block_of t z) z.at k ≡ counter at k +ℤ pos 1) where
+    up : pos 0 ≤ℤ counter at k
+    up = (turn.inner k some (omega arith)).0
 
-                by : 0 < k → ⊥
-                by some = at_kind (within D t is chunk k at (omega arith) size (around (omega arith)) z p (λ j m. sym (begun j m) ∙ end-counter (suc k) at j (omega arith)))
-                  where
-                    up : pos 0 ≤ℤ counter at k
-                    up = positive (omega arith)
+    stood : Within D t is chunk k at z
+    stood = within D t is chunk k at some size (record { from = turn.from; below = turn.below; inner = λ j l m. turn.inner j l (omega arith) }) z p begins
 
-                    at_kind : Within D t is chunk k at z → ⊥
-                    at_kind (Outer none text_is) = let e = none k (omega arith) in let u = up in omega (arith, ints)
-                    at_kind (Last stands inside shown rest) = let e = text-stands D t is Post k z.block stands in ⊎_elim (λ m. let m' = m in omega arith) (λ m. let m' = m.0 in omega arith) h
-                    at_kind (Inner inside from below text_is) = ⊎_elim (λ m. let m' = m in omega arith) (λ m. let m' = m.0 in omega arith) h
-                    at_kind (Test inside while text_is tested rest) = ⊎_elim (λ m. let m' = m in omega arith) (λ m. let e = m.1 in let f : true ≡ false = sym while ∙ e in cc) h
+    -- stands at the head of the loop or after it, and at a head that repeats before no other block
+    pub turn-none : (text_at D t is z.block < k + k + 2) ⊎ ((text_at D t is z.block ≤ k + k + 2) × (repeats t k ≡ false)) → ⊥
+    turn-none h = by stood
+      where
+        by : Within D t is chunk k at z → ⊥
+        by (Outer zeros text) = let e = zeros k (omega arith) in let u = up in let f = here in omega (arith, ints)
+        by (Last stands inside turns zeros) = let e = text-stands D t is Post k z.block stands in ⊎_elim (λ m. let l = m in omega arith) (λ m. let l = m.0 in omega arith) h
+        by (Inner inside from below text) = ⊎_elim (λ m. let l = m in omega arith) (λ m. let l = m.0 in omega arith) h
+        by (Test inside while text tested zeros) = ⊎_elim (λ m. let l = m in omega arith) (λ m. let f : true ≡ false = sym while ∙ m.1 in cc) h
+
+    -- after the last turn of a `for` nothing stands before what is behind the loop
+    pub leave-none : repeats t k ≡ false → trip t k at ≤ℤ (counter at k +ℤ pos 1) → text_at D t is z.block < D + D + D + 3 - k → ⊥
+    leave-none for last text = by stood
+      where
+        by : Within D t is chunk k at z → ⊥
+        by (Outer zeros text_is) = let e = zeros k (omega arith) in let u = up in let f = here in omega (arith, ints)
+        by (Last stands inside turns zeros) = let e = text-stands D t is Post k z.block stands in omega arith
+        by (Inner inside from below text_is) = let f = here in omega (arith, ints)
+        by (Test inside while text_is tested zeros) = let f : true ≡ false = sym while ∙ for in cc

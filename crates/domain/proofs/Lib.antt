@@ -1,4 +1,5 @@
 pub mod GapLaws
+pub mod LeadLaws
 pub mod PlaceLaws
 pub mod PointLaws
 pub mod RankLaws

@@ -61,11 +61,11 @@ counters-of t part level rank s =
 pub turning-of : (t : Table) (part : Part) (level rank : ℕ) → Stands t part level rank → turning (block_at t rank) ≡ turning_by part level
 turning-of t part level rank s = ap (λ (p : Part). turning_by p (block_at t rank).level) s.part_is ∙ ap (turning_by part) s.level_is
 
-head-most : (w : Bool) (level : ℕ) → counters_by Head w level ≤ level
+pub head-most : (w : Bool) (level : ℕ) → counters_by Head w level ≤ level
 head-most true level = omega arith
 head-most false level = omega arith
 
-head-least : (w : Bool) (level : ℕ) → level ≤ counters_by Head w level + 1
+pub head-least : (w : Bool) (level : ℕ) → level ≤ counters_by Head w level + 1
 head-least true level = omega arith
 head-least false level = omega arith
 
