@@ -42,7 +42,7 @@ turned-after k at j l = other (λ e. omega arith) ∙ cut-after k at j (omega ar
     other : (j ≡ k → ⊥) → counter (turned k at) j ≡ counter (cut k at) j
     other ne = rw get_or-set_other refl
 
-cut-zeros : (xs : List ℤ) → cut 0 xs ≡ replicate (length xs) (pos 0)
+pub cut-zeros : (xs : List ℤ) → cut 0 xs ≡ replicate (length xs) (pos 0)
 cut-zeros [] = refl
 cut-zeros (x ∷ xs) = ap (λ (zs : List ℤ). pos 0 ∷ zs) (cut-zeros xs)
 

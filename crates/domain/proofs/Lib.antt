@@ -6,4 +6,5 @@ pub mod RankLaws
 pub mod SpotLaws
 pub mod StepLaws
 pub mod TableLaws
+pub mod WalkLaws
 pub mod WithinLaws
