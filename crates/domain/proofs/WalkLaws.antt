@@ -1,8 +1,8 @@
 -- The instance after an instance is the next predicted one.
 use Rattle.std.proofs.Common.{◌≡◌, refl, sym, ap, ap₂, subst, ◌∙◌, ℕ, zero, suc, ◌<◌, ◌≤◌, ◌+◌, ◌-◌, ℤ, pos, ◌+ℤ◌, ◌≤ℤ◌, ◌<ℤ◌, Bool, true, false, List, [], ◌∷◌, Option, Some, None, length, get_or, set, replicate, ◌⊎◌, inl, inr, ⊎_elim, nat_lt, arith}
-use Rattle.std.specs.Prelude.{int_lt, unwrap_or}
+use Rattle.std.specs.Prelude.{int_lt, unwrap_or, not, ◌&&◌, if◌then◌else◌}
 use Rattle.std.proofs.lemmas.Int.{ints}
-use Rattle.std.proofs.lemmas.Bool.{cases_lt}
+use Rattle.std.proofs.lemmas.Bool.{cases_lt, and_parts, not-true}
 use Rattle.std.proofs.lemmas.Bool.Decides.{nat_tests}
 use Rattle.plain_lemmas.proofs.IntegerLaws.{int_lt-true, int_lt-false}
 use Rattle.plain_lemmas.proofs.OrderLaws.{cases_int_cmp}
@@ -11,12 +11,12 @@ use Rattle.nest_lang.specs.declared.tree.Part.TheVariants.{Head, Pre, Post}
 use Rattle.domain.specs.declared.chunk.Chunk.{Chunk}
 use Rattle.domain.specs.Tables.{Table, Block, depth, block_at, repeats, rank_of, cut, trip, counters, counters_by, turning, is_post, IsTable}
 use Rattle.domain.specs.Instances.{Instance, instance, block_of, counter, turns_of, place, IsInstance, InTurn, Tested, Predicted, opening_at}
-use Rattle.domain.specs.Steps.{turned, left_by, turn_by, head_rank, next_turn, after_loop}
+use Rattle.domain.specs.Steps.{turned, left_by, turn_by, head_rank, next_turn, after_loop, ends_loop, next_by, next}
 use Rattle.domain.proofs.PointLaws.{length-cut, cut-before, cut-after, trip-cut}
 use Rattle.domain.proofs.PlaceLaws.{place-counter, place-turns, place-rest, place-zero}
 use Rattle.domain.proofs.SpotLaws.{Spot, Agree, Rises, Before, three, before-trans, before-right, before-left, agree_sym, by_text, between}
 use Rattle.domain.proofs.RankLaws.{Stands, stands, has_rank, absent, Kind, AtHead, AtPre, AtPost, kind, text_at, text-stands, ranks-rise}
-use Rattle.domain.proofs.WithinLaws.{counters-of, turning-of, turns-trip, turns-none, trip-same, Begins}
+use Rattle.domain.proofs.WithinLaws.{counters-of, turning-of, turns-trip, turns-none, trip-same, Begins, head-most, places-up, Within, Outer, Last, Inner, Test, within}
 use Rattle.domain.proofs.StepLaws.{next_turn-outermost, next_turn-inner}
 use Rattle.domain.proofs.GapLaws.{post, end, At, end-counter, end-turns, end-rest, next-gap, turn-none, leave-none}
 use Rattle.domain.proofs.LeadLaws.{length-turned, turned-before, turned-here, turned-after, cut-zeros, head-next, pre-next, First, FirstHead, FirstPre, FirstInner, first, plain-place, enters, entered, turned-turn, Leads, turn-leads}
@@ -315,3 +315,143 @@ module _ (D : ℕ) (t : Table) (is : IsTable D t) (chunk : Chunk) where
             let low = by_text D (At D t is chunk x) (At D t is chunk z) there l in
             let high = by_text D (At D t is chunk z) (E D x.at) (λ j o. sym (there j o) ∙ same j o) m in
             two z q (omega arith, omega arith) e
+
+    head-zero : (level : ℕ) → Stands t Head level x.block → (j : ℕ) → level ≤ j → counter x.at j ≡ pos 0
+    head-zero level s j l = let c = counters-of t Head level x.block s in let most = head-most (repeats t (level - 1)) level in p.is.rest j (omega arith)
+
+    head-plain : (level : ℕ) → Stands t Head level x.block → (j : ℕ) → place t (block_of t x) x.at j ≡ counter x.at j
+    head-plain level s j = plain-place D t is x p.is (ap is_post s.part_is) j
+
+    from_head : (level : ℕ) → 1 ≤ level → level ≤ D → Stands t Head level x.block → ((m : ℕ) → 1 ≤ m → level ≡ suc m → counter x.at m <ℤ trip t m x.at) → L (At D t is chunk x) (instance (x.block + 1) x.at)
+    from_head level from to s more =
+        let next = head-next D t is level x.block from to s in
+        ahead-leads x p (ap is_post s.part_is) next.0 (enters D t is level (x.block + 1) x.at size (head-zero level s) next.1) (entered D t is chunk level (x.block + 1) x.at from size turns (head-zero level s) next.1)
+      where
+        around : InTurn t chunk (turning (block_of t x)) x.at
+        around = p.turn
+
+        turns : InTurn t chunk level x.at
+        turns = record { from = p.turn.from; below = p.turn.below; inner = inner }
+          where
+            inner : (j : ℕ) → 1 ≤ j → j < level → (pos 0 ≤ℤ counter x.at j) × (counter x.at j <ℤ trip t j x.at)
+            inner j f l =
+                ⊎_elim (λ m. p.turn.inner j f m)
+                (λ m. let o = turning-of t Head level x.block s in
+                let e : level ≡ suc j = omega arith in
+                (subst (λ (v : ℤ). pos 0 ≤ℤ v) (head-plain level s j) (places-up D t is chunk x p j f), more j f e))
+                (cases_lt j (turning (block_of t x)))
+
+    -- the head of a loop that has no further turn
+    from_end : (k : ℕ) → 1 ≤ k → Stands t Head (suc k) x.block → suc k ≤ D → trip t k x.at ≤ℤ counter x.at k → L (At D t is chunk x) (after_loop t k x.at)
+    from_end k some s to past =
+        leave-leads k x.at (At D t is chunk x) some (omega arith) size turn_k (inr (same, omega (arith, text))) gap
+        (subst (λ (n : ℕ). L (E n x.at) (next_turn t (k - 1) x.at)) e (leads-turn (k - 1) x.at (omega arith) size (subst (λ (n : ℕ). InTurn t chunk n x.at) (sym e) turn_k)))
+      where
+        e : suc (k - 1) ≡ k
+        e = omega arith
+
+        text : text_at D t is x.block ≡ suc k + suc k
+        text = text-stands D t is Head (suc k) x.block s
+
+        turn_k : InTurn t chunk k x.at
+        turn_k = turn-of Head (suc k) k s (let o = turning-of t Head (suc k) x.block s in omega arith)
+
+        begins : Begins D t is chunk k x.at x
+        begins j l = head-plain (suc k) s j
+
+        shown : counter x.at k ≡ turns_of (trip t k x.at)
+        shown = by (within D t is chunk k x.at some size turn_k x p begins)
+          where
+            here : place t (block_of t x) x.at k ≡ counter x.at k
+            here = head-plain (suc k) s k
+
+            by : Within D t is chunk k x.at x → counter x.at k ≡ turns_of (trip t k x.at)
+            by (Outer zeros text_is) = let z = zeros k (omega arith) in let h = here in let q = past in let n = turns-none (trip t k x.at) (omega (arith, ints)) in omega (arith, ints)
+            by (Last stands_k inside turns zeros) = turns-at turns
+              where
+                turns-at : place t (block_of t x) x.at k ≡ turns_of (trip t k x.at) → counter x.at k ≡ turns_of (trip t k x.at)
+                turns-at f = sym here ∙ f
+            by (Inner inside from below text_is) = absurd (let h = here in let q = past in omega (arith, ints))
+            by (Test inside while text_is tested zeros) =
+                ⊎_elim (λ z. let h = here in let q = past in let n = turns-none (trip t k x.at) (omega (arith, ints)) in omega (arith, ints))
+                (λ b. let low = b.0 in let high = b.1 in let h = here in let q = past in let n = turns-trip (trip t k x.at) (omega (arith, ints)) in omega (arith, ints)) tested
+
+        same : Agree D (place t (block_of t x) x.at) (place t (post k) x.at)
+        same j l =
+            head-plain (suc k) s j
+            ∙ ⊎_elim (λ m. sym (end-counter D t is chunk k x.at j m))
+            (λ m. ⊎_elim (λ n. head-zero (suc k) s j (omega arith) ∙ sym (end-rest D t is chunk k x.at j n))
+            (λ n. let f : k ≡ j = omega arith in subst (λ (i : ℕ). counter x.at i ≡ place t (post k) x.at i) f (shown ∙ sym (end-turns D t is chunk k x.at)))
+            (cases_lt k j))
+            (cases_lt j k)
+
+        gap : (z : Instance) → Predicted t chunk z → Before D (At D t is chunk x) (At D t is chunk z) → Before D (At D t is chunk z) (E k x.at) → ⊥
+        gap z q l h = by (within D t is chunk k x.at some size turn_k z q (λ j m. sym (there j (omega arith)) ∙ begins j m))
+          where
+            there : Agree D (place t (block_of t x) x.at) (place t (block_of t z) z.at)
+            there = between D D (At D t is chunk x) (At D t is chunk z) (E k x.at) (omega arith) same l h
+
+            low : suc k + suc k < text_at D t is z.block
+            low = let m = by_text D (At D t is chunk x) (At D t is chunk z) there l in omega (arith, text)
+
+            high : text_at D t is z.block < D + D + D + 3 - k
+            high = by_text D (At D t is chunk z) (E k x.at) (λ j o. sym (there j o) ∙ same j o) h
+
+            at_k : place t (block_of t z) z.at k ≡ counter x.at k
+            at_k = sym (there k (omega arith)) ∙ head-plain (suc k) s k
+
+            by : Within D t is chunk k x.at z → ⊥
+            by (Outer zeros text_is) = ⊎_elim (λ m. let n = m in let o = low in omega arith) (λ m. let n = m.0 in let o = low in omega arith) text_is
+            by (Last stands_k inside turns zeros) = let o = high in let f = text-stands D t is Post k z.block stands_k in omega arith
+            by (Inner inside from below text_is) = let f = at_k in let q = past in omega (arith, ints)
+            by (Test inside while text_is tested zeros) = let o = low in omega arith
+
+    next-is : (part : Part) (level : ℕ) → Stands t part level x.block → next t x ≡ next_by t part level x.block x.at
+    unfolding next
+    next-is part level s = ap (λ (q : Part). next_by t q (block_of t x).level x.block x.at) s.part_is ∙ ap (λ (n : ℕ). next_by t part n x.block x.at) s.level_is
+
+    pub next-leads : L (At D t is chunk x) (next t x)
+    next-leads = by (kind D t is x.block p.is.block)
+      where
+        led : (y : Instance) → next t x ≡ y → L (At D t is chunk x) y → L (At D t is chunk x) (next t x)
+        led y e lead = subst (L (At D t is chunk x)) (sym e) lead
+
+        from_pre : (level : ℕ) → 1 ≤ level → level ≤ D → Stands t Pre level x.block → (level < D) ⊎ (D ≤ level) → L (At D t is chunk x) (next t x)
+        from_pre level from to s (inl l) =
+            let test : nat_lt level (depth t) ≡ true = let deep = is.deep in grind (arith, nat_tests) in
+            let next_block = pre-next D t is level x.block from l s in
+            let c = counters-of t Pre level x.block s in
+            let zeros : (j : ℕ) → level ≤ j → counter x.at j ≡ pos 0 = λ j m. p.is.rest j (omega arith) in
+            led (instance (x.block + 1) x.at) (next-is Pre level s ∙ ap (λ (b : Bool). if b then instance (x.block + 1) x.at else next_turn t (level - 1) x.at) test)
+            (ahead-leads x p (ap is_post s.part_is) next_block.0 (enters D t is level (x.block + 1) x.at size zeros (inr next_block.1))
+            (entered D t is chunk level (x.block + 1) x.at from size (turn-of Pre level level s (turning-of t Pre level x.block s)) zeros (inr next_block.1)))
+        from_pre level from to s (inr l) =
+            let test : nat_lt level (depth t) ≡ false = let deep = is.deep in grind (arith, nat_tests) in
+            let e : level ≡ D = omega arith in
+            led (next_turn t (level - 1) x.at) (next-is Pre level s ∙ ap (λ (b : Bool). if b then instance (x.block + 1) x.at else next_turn t (level - 1) x.at) test)
+            (subst (λ (n : ℕ). L (At D t is chunk x) (next_turn t (n - 1) x.at)) (sym e) (from_body (subst (λ (n : ℕ). Stands t Pre n x.block) e s)))
+
+        at_head : (level : ℕ) → 1 ≤ level → level ≤ D → Stands t Head level x.block → (ends : Bool) → ends_loop t level x.at ≡ ends → L (At D t is chunk x) (next t x)
+        at_head level from to s true e =
+            let parts = and_parts (nat_lt 1 level) (not (int_lt (counter x.at (level - 1)) (trip t (level - 1) x.at))) e in
+            let first_part = parts.0 in
+            let inner : 1 < level = grind (arith, nat_tests) in
+            let whole : suc (level - 1) ≡ level = omega arith in
+            led (after_loop t (level - 1) x.at) (next-is Head level s ∙ ap (λ (b : Bool). if b then after_loop t (level - 1) x.at else instance (x.block + 1) x.at) e)
+            (from_end (level - 1) (omega arith) (subst (λ (n : ℕ). Stands t Head n x.block) (sym whole) s) (omega arith) (int_lt-false (counter x.at (level - 1)) (trip t (level - 1) x.at) (not-true _ parts.1)))
+        at_head level from to s false e =
+            led (instance (x.block + 1) x.at) (next-is Head level s ∙ ap (λ (b : Bool). if b then after_loop t (level - 1) x.at else instance (x.block + 1) x.at) e)
+            (from_head level from to s (λ m f g. let h : level - 1 ≡ m = omega arith in
+            subst (λ (n : ℕ). counter x.at n <ℤ trip t n x.at) h (int_lt-true (counter x.at (level - 1)) (trip t (level - 1) x.at) (turns m f g (int_lt (counter x.at (level - 1)) (trip t (level - 1) x.at)) refl))))
+          where
+            turns : (m : ℕ) → 1 ≤ m → level ≡ suc m → (b : Bool) → int_lt (counter x.at (level - 1)) (trip t (level - 1) x.at) ≡ b → int_lt (counter x.at (level - 1)) (trip t (level - 1) x.at) ≡ true
+            turns m f g true h = h
+            turns m f g false h =
+                let test : nat_lt 1 level ≡ true = grind (arith, nat_tests) in
+                let ended : ends_loop t level x.at ≡ true = ap (λ (b : Bool). b && not (int_lt (counter x.at (level - 1)) (trip t (level - 1) x.at))) test ∙ ap not h in
+                let z : true ≡ false = sym ended ∙ e in cc
+
+        by : Kind D t is x.block → L (At D t is chunk x) (next t x)
+        by (AtHead level from to here text) = at_head level from to here (ends_loop t level x.at) refl
+        by (AtPre level from to here text) = from_pre level from to here (cases_lt level D)
+        by (AtPost level from to here text) = led (next_turn t (level - 1) x.at) (next-is Post level here) (from_post level from to here)
