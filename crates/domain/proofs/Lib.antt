@@ -1,5 +1,6 @@
 pub mod GapLaws
 pub mod LeadLaws
+pub mod OriginalLaws
 pub mod PlaceLaws
 pub mod PointLaws
 pub mod RankLaws

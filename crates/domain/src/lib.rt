@@ -3,6 +3,7 @@
 
 mod chunk;
 mod instance;
+mod order;
 mod padding;
 mod prediction;
 mod steps;
@@ -11,6 +12,7 @@ mod walk;
 
 pub use chunk::Chunk;
 pub use instance::Instance;
+pub use order::successor;
 pub use padding::padded;
 pub use prediction::{Prediction, What, expected};
 pub use table::{AccessForm, BlockForms, LoopForms, LoopKind};

@@ -71,6 +71,7 @@ impl<const D: usize> Prediction<D> {
         ensures is { IsBlock D result.now }
         ensures short { length self.now.blocks ≤ 18 }
         ensures deep { depth self.now ≡ D }
+        ensures table { IsTable D self.now }
     {
         &self.blocks[rank as usize]
     }

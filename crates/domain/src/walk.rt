@@ -1,7 +1,7 @@
 //! The instance after an instance: a walk that knows no list.
 
 ghost use Rattle.std.specs.Prelude.{◌≡◌, ◌<◌, ◌≤◌, ◌+◌, ◌-◌, ◌+ℤ◌, pos, int_lt, length};
-ghost use Rattle.domain.specs.Tables.{trip};
+ghost use Rattle.domain.specs.Tables.{trip, IsTable};
 ghost use Rattle.domain.specs.Instances.{instance, counter};
 ghost use Rattle.domain.specs.Steps.{CanTurn, next_turn, after_loop, next, ends_loop};
 
@@ -84,7 +84,8 @@ impl<const D: usize> Prediction<D> {
         requires few { D < 7 }
         requires block { inst.now.block < length self.now.blocks }
         requires can { CanTurn inst.now.at }
-        ensures { result ≡ next self.now inst.now }
+        ensures next { result ≡ next self.now inst.now }
+        ensures table { IsTable D self.now }
     {
         let block = self.block(inst.block);
         let level = block.level as usize;
