@@ -1,0 +1,11 @@
+pub mod GapLaws
+pub mod LeadLaws
+pub mod OriginalLaws
+pub mod PlaceLaws
+pub mod PointLaws
+pub mod RankLaws
+pub mod SpotLaws
+pub mod StepLaws
+pub mod TableLaws
+pub mod WalkLaws
+pub mod WithinLaws
