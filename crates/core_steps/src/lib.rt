@@ -19,7 +19,7 @@ mod step;
 mod tests;
 mod view;
 
-pub use ends::{CoreEnd, NoMemory};
+pub use ends::CoreEnd;
 pub use machine::Core;
 pub use plan::{Plan, Tile};
 pub use sequence::Sequence;
