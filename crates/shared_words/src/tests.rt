@@ -1,0 +1,1 @@
+// What the seats do when they run.
