@@ -131,6 +131,7 @@ impl MainSeat {
         requires none_out { self.old.view.out ≡ [] }
         ensures table { self.new.table ≡ self.old.table }
         ensures view { self.new.view ≡ settled_view self.old.view (overlaid self.old.view.own self.old.view.base) }
+        ensures length { length self.new.view.base ≡ length self.old.view.base }
         ensures step { (flag : ℕ) × EndsPhase self.old.view flag self.new.view × (IsTrue result ↔ (flag ≡ self.old.view.epoch)) }
     {
         words.table.shared.load::<SettlePhase>(&mut self.seat, 0) == self.epoch
