@@ -18,6 +18,7 @@ mod step;
 #[cfg(test)]
 mod tests;
 mod view;
+mod writers;
 
 pub use ends::CoreEnd;
 pub use machine::Core;

@@ -1,10 +1,8 @@
 //! Which tile of a plan writes each address: the test whether a plan is separate, by one look-up for each address.
-ghost use Rattle.std.specs.Prelude.{◌≡◌, ◌≢◌, ℕ, ◌<◌, ◌↔◌, Some, true, false, length, IsTrue, IfOk};
+ghost use Rattle.std.specs.Prelude.{◌≡◌, ℕ, ◌<◌, ◌↔◌, false, length, nat_eq, IsTrue, IfOk};
 ghost use Rattle.std.specs.HashMap.{get};
-ghost use Rattle.std.specs.Prelude.{nat_eq};
-ghost use Rattle.core_steps.specs.Numbers.{has};
 ghost use Rattle.core_steps.specs.Plans.{WritesAlone};
-ghost use Rattle.core_steps.specs.Writers.{NotesWrites, IsWrittenBy};
+ghost use Rattle.core_steps.specs.Writers.{reads_of_tile, NotesWrites, IsWrittenElsewhere, ReadsApart};
 
 use crate::plan::Tile;
 use std::alloc::{AllocError, Global};
@@ -33,7 +31,7 @@ fn note_writes(
     addresses: &[u64],
 ) -> Result<bool, AllocError>
     ensures noted { IfOk result (λ yes. IsTrue yes → NotesWrites tile addresses.now (get nat_eq writers.old) (get nat_eq writers.new)) }
-    ensures met { IfOk result (λ yes. yes ≡ false → IsWrittenBy tile addresses.now (get nat_eq writers.old)) }
+    ensures met { IfOk result (λ yes. yes ≡ false → IsWrittenElsewhere tile addresses.now (get nat_eq writers.old)) }
 {
     for address in addresses {
         if let Some(other) = writers.insert(*address, tile)? {
@@ -47,7 +45,7 @@ fn note_writes(
 
 /// Whether no tile reads what another writes.
 fn all_read_apart(writers: &Writers, tiles: &[Tile]) -> bool
-    ensures { IsTrue result ↔ ((k : ℕ) → k < length tiles.now → ReadsApart k (tile_reads tiles.now k) (get nat_eq writers.now)) }
+    ensures { IsTrue result ↔ ((k : ℕ) → k < length tiles.now → ReadsApart k (reads_of_tile tiles.now k) (get nat_eq writers.now)) }
 {
     for tile in 0..tiles.len() {
         if !reads_apart(writers, tile, tiles[tile].reads.as_slice()) {

@@ -1,3 +1,4 @@
 pub mod SeatLaws
 pub mod WorkerSteps
 pub mod MainSteps
+pub mod ViewSteps

@@ -12,6 +12,7 @@
 //! view, told by the clause `view`.
 #![tactic(auto)]
 
+pub mod laws;
 mod main_seat;
 mod steps;
 #[cfg(test)]
