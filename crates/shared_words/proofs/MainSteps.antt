@@ -1,11 +1,10 @@
 -- What each step of main's seat owes the table: it is the step of the core.
-use Rattle.std.proofs.Common.{◌≡◌, ℕ, zero, suc, ◌+◌, ◌-◌, ◌<◌, ◌≤◌, true, false, List, [], ◌∷◌, ◌++◌, length, get_or, set, inl, refl, sym, ap, ◌∙◌, subst, arith, replicate}
+use Rattle.std.proofs.Common.{◌≡◌, ℕ, zero, suc, ◌+◌, ◌-◌, ◌<◌, ◌≤◌, true, false, List, [], ◌∷◌, ◌++◌, length, get_or, set, inl, refl, sym, ap, subst, arith, replicate}
 use Rattle.std.specs.Prelude.{ℤ, pos}
 use Rattle.std.specs.Int.{w64, cast_signed, cast_unsigned}
 use mathlib.Core.Option.{some, some-injective}
 use lib.ListN.{get_elem?}
 use Rattle.atomic_table.specs.Table.{Me, keeps, Allows, Splits, Joins}
-use Rattle.core_steps.specs.declared.step.Step.{Step}
 use Rattle.core_steps.specs.declared.step.Step.TheVariants.{Post, Load, Store, Settle}
 use Rattle.core_steps.specs.declared.plan.Plan.{Plan}
 use Rattle.core_steps.specs.declared.view.View.{View}
@@ -13,8 +12,7 @@ use Rattle.core_steps.specs.Numbers.{has}
 use Rattle.core_steps.specs.Plans.{IsSeparate, IsInside}
 use Rattle.core_steps.specs.Views.{first_view, overlaid, based_view, posted_view, settled_view, lending_view, lent_view, joined_view, spent_view}
 use Rattle.core_steps.specs.States.{State, memory_word, memory_of}
-use Rattle.core_steps.specs.Steps.{Lawful, state_after, answer_of}
-use Rattle.core_steps.specs.Invariant.{IsSound}
+use Rattle.core_steps.specs.Steps.{Lawful}
 use Rattle.core_steps.proofs.WordLists.{memory_shown}
 use Rattle.core_steps.proofs.Quiet.{shows_base, shows_values}
 use Rattle.core_steps.proofs.StoreKeeps.{main_store_keeps}

@@ -1,12 +1,9 @@
 -- The views after a split and after a join.
-use Rattle.std.proofs.Common.{◌≡◌, ℕ, zero, suc, ◌<◌, List, ◌∷◌, drop, set, refl, sym, ap, ◌∙◌, arith}
+use Rattle.std.proofs.Common.{◌≡◌, zero, suc, List, ◌∷◌, drop, set, refl, sym, ap, ◌∙◌, arith}
 use mathlib.Core.Option.{some-injective}
-use Rattle.core_steps.specs.declared.step.Step.TheVariants.{Join}
 use Rattle.core_steps.specs.declared.view.View.{View}
 use Rattle.core_steps.specs.Views.{joined_view, spent_view}
-use Rattle.core_steps.specs.States.{State, views_of, view_of, with_view}
-use Rattle.core_steps.specs.Steps.{Lawful, state_after}
-use Rattle.core_steps.specs.Invariant.{At, IsSound}
+use Rattle.core_steps.specs.States.{view_of, with_view}
 use Rattle.core_steps.proofs.StateSteps.{seat_of_worker}
 use Rattle.shared_words.specs.Laws.{SplitIsItsStep, JoinIsItsStep}
 use Rattle.shared_words.proofs.WorkerSteps.{worker_at}

@@ -1,6 +1,6 @@
 -- What each step of a worker's seat owes the table: it is the step of the core.
-use Rattle.std.proofs.Common.{◌≡◌, ◌≢◌, ℕ, zero, suc, ◌-◌, ◌<◌, Bool, true, false, eqb, cond, List, [], ◌∷◌, length, get_or, set, inr, refl, sym, ap, ◌∙◌, subst, ne_eqb, arith}
-use Rattle.std.specs.Prelude.{ℤ, pos, unwrap_or}
+use Rattle.std.proofs.Common.{◌≡◌, ℕ, zero, suc, ◌-◌, ◌<◌, Bool, true, false, eqb, cond, List, [], ◌∷◌, length, get_or, set, inr, refl, sym, ap, ◌∙◌, subst, ne_eqb, arith}
+use Rattle.std.specs.Prelude.{ℤ, pos}
 use Rattle.std.specs.Int.{w64, cast_signed, cast_unsigned}
 use Rattle.std.proofs.lemmas.List.{set-get_or}
 use mathlib.Core.Option.{some, some-injective}
@@ -12,9 +12,9 @@ use Rattle.core_steps.specs.declared.step.Step.TheVariants.{Load, Store, See, Ra
 use Rattle.core_steps.specs.declared.plan.Plan.{Plan}
 use Rattle.core_steps.specs.declared.view.View.{View}
 use Rattle.core_steps.specs.Plans.{touches, writes}
-use Rattle.core_steps.specs.Views.{value_at, may_load, may_store, storing_view, based_view, seeing_view, failed_view, holding_view, knowing_view, claiming_view, Holds}
+use Rattle.core_steps.specs.Views.{value_at, may_load, may_store, storing_view, based_view, seeing_view, failed_view, holding_view, knowing_view, claiming_view}
 use Rattle.core_steps.specs.States.{State, memory_word, claim_word, flag_of, claim_of, views_of, view_of, with_view, IsOut}
-use Rattle.core_steps.specs.Steps.{Lawful, state_after, answer_of, seat_of, with_seat, with_word}
+use Rattle.core_steps.specs.Steps.{Lawful, state_after, seat_of, with_seat, with_word}
 use Rattle.core_steps.specs.Invariant.{At, IsSound}
 use Rattle.core_steps.proofs.StateSteps.{step_keeps, out_found, any_held, seat_of_worker, with_seat_worker}
 use Rattle.core_steps.proofs.ViewLists.{at_same, set_here}

@@ -1,7 +1,7 @@
 -- What a call on a seat is: one step of the core.
 use Rattle.std.specs.Prelude.{◌≡◌, ◌↔◌, ℕ, ℤ, ◌<◌, true, length, pos}
 use Rattle.core_steps.specs.declared.step.Step.{Step}
-use Rattle.core_steps.specs.declared.step.Step.TheVariants.{See, Raise, Claim, Settle}
+use Rattle.core_steps.specs.declared.step.Step.TheVariants.{See, Raise, Settle}
 use Rattle.core_steps.specs.declared.view.View.{View}
 use Rattle.core_steps.specs.Numbers.{IsSingle}
 use Rattle.core_steps.specs.Plans.{IsSeparate}

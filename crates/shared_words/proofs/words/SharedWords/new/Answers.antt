@@ -1,4 +1,4 @@
-use Rattle.std.proofs.Common.{◌≡◌, ℕ, ◌+◌, [], ◌∷◌, List, Vec, Global, length, arith, ap, subst, sym, ◌∙◌}
+use Rattle.std.proofs.Common.{ℕ, [], ◌∷◌, List, Vec, Global, arith, ap, subst, sym, ◌∙◌}
 use Rattle.std.specs.Int.{cast_unsigned, w64}
 use Rattle.std.proofs.lemmas.List.{length-map}
 use Rattle.core_steps.specs.Views.{first_view}
