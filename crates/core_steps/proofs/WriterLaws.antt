@@ -1,7 +1,7 @@
 -- How the writers of a plan are told, tile by tile, and what they say of the plan.
 use Rattle.std.proofs.Common.{◌≡◌, ◌≢◌, ℕ, zero, suc, ◌+◌, ◌<◌, Bool, true, false, true≢false, List, [], ◌∷◌, length, get_or, Option, Some, ◌⊎◌, inl, inr, ⊎_elim, refl, sym, ap, ◌∙◌, subst, arith}
 use Rattle.std.proofs.lemmas.Option.{same_Some, none-some}
-use Rattle.std.proofs.lemmas.Bool.{cases_lt}
+use Rattle.std.proofs.lemmas.Bool.{cases_lt, false_from_ne_true, or_cases, or_left, or_right}
 use Rattle.std.proofs.lemmas.List.{get_or_past}
 use mathlib.Core.Logic.{dite}
 use native.Mathlib.Decide.{ℕ_discrete}
@@ -9,7 +9,7 @@ use Rattle.core_steps.specs.declared.plan.Tile.{Tile}
 use Rattle.core_steps.specs.Numbers.{has}
 use Rattle.core_steps.specs.Plans.{no_tile, writes_of, touches_of, WritesAlone}
 use Rattle.core_steps.specs.Writers.{TellsWriters, NotesWrites, IsWrittenElsewhere, ReadsApart, reads_of_tile}
-use Rattle.core_steps.proofs.NumberLists.{has_here, has_there, or_cases, or_left, or_right, not_both, is_false}
+use Rattle.core_steps.proofs.NumberLists.{has_here, has_there, not_both}
 
 -- a test is true or false
 either : (b : Bool) → (b ≡ true) ⊎ (b ≡ false)
@@ -47,7 +47,7 @@ has_at (x ∷ xs) (suc i) lt = has_there (get_or xs i 0) x xs (has_at xs i (omeg
 
 -- a plan is separate exactly where the writers of all tiles are told and no tile reads what another writes
 pub told_separate : (tiles : List Tile) (f : ℕ → Option ℕ) → TellsWriters tiles (length tiles) f → ((k : ℕ) → k < length tiles → ReadsApart k (reads_of_tile tiles k) f) → (j : ℕ) → WritesAlone tiles j
-told_separate tiles f h apart j k ne a writes = is_false (touches_of (get_or tiles k no_tile) a) (λ t. both_within t) where
+told_separate tiles f h apart j k ne a writes = false_from_ne_true (touches_of (get_or tiles k no_tile) a) (λ t. both_within t) where
   within : (i : ℕ) → touches_of (get_or tiles i no_tile) a ≡ true → i < length tiles
   within i t = ⊎_elim (λ lt. lt) (λ ge. absurd (true≢false (sym t ∙ ap (λ (u : Tile). touches_of u a) (get_or_past tiles i no_tile ge)))) (cases_lt i (length tiles))
 

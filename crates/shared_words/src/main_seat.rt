@@ -130,9 +130,12 @@ impl MainSeat {
         requires posted { self.old.view.posted ≡ true }
         requires none_out { self.old.view.out ≡ [] }
         ensures table { self.new.table ≡ self.old.table }
-        ensures view { self.new.view ≡ settled_view self.old.view (overlaid self.old.view.own self.old.view.base) }
+        ensures view { let m = self.old.view in self.new.view ≡ settled_view m (overlaid m.own m.base) }
         ensures length { length self.new.view.base ≡ length self.old.view.base }
-        ensures step { (flag : ℕ) × EndsPhase self.old.view flag self.new.view × (IsTrue result ↔ (flag ≡ self.old.view.epoch)) }
+        ensures step {
+            let m = self.old.view in (flag : ℕ) × (IsTrue result ↔ (flag ≡ m.epoch))
+                × EndsPhase m flag self.new.view
+        }
     {
         words.table.shared.load::<SettlePhase>(&mut self.seat, 0) == self.epoch
     }

@@ -65,7 +65,7 @@ impl WorkSeat {
         requires tile { may_load self.old.view address ≡ true }
         ensures unchanged { self.new ≡ self.old }
         ensures value { result ≡ cast_signed w64 (value_at self.old.view address) }
-        ensures step { IsStepOf self.old.view.number self.old.view (Load self.old.view.number address) result self.new.view }
+        ensures step { let v = self.old.view in IsStepOf v.number v (Load v.number address) result self.new.view }
     {
         words
             .table
@@ -80,7 +80,7 @@ impl WorkSeat {
         requires tile { may_store self.old.view address ≡ true }
         ensures table { self.new.table ≡ self.old.table }
         ensures view { self.new.view ≡ storing_view self.old.view address (cast_unsigned w64 value) }
-        ensures step { IsStepOf self.old.view.number self.old.view (Store self.old.view.number address value) (pos 0) self.new.view }
+        ensures step { let v = self.old.view in IsStepOf v.number v (Store v.number address value) (pos 0) self.new.view }
     {
         words.table.shared.store::<WorkStore>(
             &mut self.seat,
@@ -97,7 +97,10 @@ impl WorkSeat {
         ensures table { self.new.table ≡ self.old.table }
         ensures won { IsTrue result → self.new.view ≡ holding_view self.old.view tile }
         ensures lost { result ≡ false → self.new.view ≡ knowing_view self.old.view tile }
-        ensures step { (old : ℕ) × IsStepOf self.old.view.number self.old.view (Claim self.old.view.number tile) (pos old) self.new.view × (IsTrue result ↔ (old ≢ self.old.view.epoch)) }
+        ensures step {
+            let v = self.old.view in (old : ℕ) × (IsTrue result ↔ (old ≢ v.epoch))
+                × IsStepOf v.number v (Claim v.number tile) (pos old) self.new.view
+        }
     {
         let old =
             words
@@ -125,7 +128,10 @@ impl WorkSeat {
         requires table { self.old.table ≡ words.now }
         ensures table { self.new.table ≡ self.old.table }
         ensures view { self.new.view ≡ record self.old.view { seen = self.old.view.seen || result } }
-        ensures step { (flag : ℕ) × FindsFlag self.old.view flag self.new.view × (IsTrue result ↔ (flag ≡ self.old.view.epoch)) }
+        ensures step {
+            let v = self.old.view in (flag : ℕ) × (IsTrue result ↔ (flag ≡ v.epoch))
+                × FindsFlag v flag self.new.view
+        }
     {
         words.table.shared.load::<SeeFlag>(&mut self.seat, FLAG) == self.epoch
     }
