@@ -29,9 +29,9 @@ tells_more tiles n f g h is a j = (told, tell) where
   tell both = dite (ℕ_discrete j n)
       (λ same. is.noted a (subst (λ (y : ℕ). writes_of (get_or tiles y no_tile) a ≡ true) same both.1) ∙ ap (λ (y : ℕ). Some y) (sym same))
       (λ ne. let below : j < n = (let lt = both.0 in omega arith) in by_test ne ((h a j).1 (below, both.1)) (either (writes_of (get_or tiles n no_tile) a))) where
-    by_test : j ≢ n → f a ≡ Some j → (writes_of (get_or tiles n no_tile) a ≡ true) ⊎ (writes_of (get_or tiles n no_tile) a ≡ false) → g a ≡ Some j
-    by_test ne old (inl t) = ⊎_elim (λ e. absurd (none-some j (sym e ∙ old))) (λ e. absurd (ne (same_Some j n (sym old ∙ e)))) (is.free a t)
-    by_test ne old (inr t) = is.kept a t ∙ old
+        by_test : j ≢ n → f a ≡ Some j → (writes_of (get_or tiles n no_tile) a ≡ true) ⊎ (writes_of (get_or tiles n no_tile) a ≡ false) → g a ≡ Some j
+        by_test ne old (inl t) = ⊎_elim (λ e. absurd (none-some j (sym e ∙ old))) (λ e. absurd (ne (same_Some j n (sym old ∙ e)))) (is.free a t)
+        by_test ne old (inr t) = is.kept a t ∙ old
 
 -- an address that two tiles write
 pub written_twice : (tiles : List Tile) (n : ℕ) (f : ℕ → Option ℕ) → TellsWriters tiles n f → IsWrittenElsewhere n (get_or tiles n no_tile).writes f → ¬ ((j : ℕ) → WritesAlone tiles j)

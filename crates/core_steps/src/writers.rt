@@ -25,11 +25,7 @@ pub fn are_separate(alloc: Global, tiles: &[Tile]) -> Result<bool, AllocError>
 }
 
 /// Notes that the tile writes these addresses. False where another tile writes one of them.
-fn note_writes(
-    writers: &mut Writers,
-    tile: usize,
-    addresses: &[u64],
-) -> Result<bool, AllocError>
+fn note_writes(writers: &mut Writers, tile: usize, addresses: &[u64]) -> Result<bool, AllocError>
     ensures noted { IfOk result (λ yes. IsTrue yes → NotesWrites tile addresses.now (get nat_eq writers.old) (get nat_eq writers.new)) }
     ensures met { IfOk result (λ yes. yes ≡ false → IsWrittenElsewhere tile addresses.now (get nat_eq writers.old)) }
 {

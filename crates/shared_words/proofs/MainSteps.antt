@@ -54,18 +54,23 @@ main_stored_in : (ws : List ℕ) (views : List View) (a bits : ℕ) (v : View) �
 main_stored_in ws views a bits v h at = at_main
     (λ l all u. u.posted ≡ false → a < length u.base
     → IsCoreState (set l (memory_word a) bits) (set all 0 (based_view u a bits)) × ((x : ℤ) → cast_unsigned w64 x ≡ bits → IsStepOf 0 u (Store 0 a x) (pos 0) (based_view u a bits))) ws views v h at
-    (λ m ms k off lt. let wide = k.phase.width in
-    (main_store_keeps ws m ms a bits k off lt,
-     λ x is. record { state = record { words = ws; main = m; seats = ms }; sound = k; lawful = inl (refl, (off, omega arith)); before = refl; answered = refl; after = ap (λ (b : ℕ). based_view m a b) is }))
+    (λ m ms k off lt. let wide = k.phase.width in (
+      main_store_keeps ws m ms a bits k off lt,
+      λ x is. record { state = record { words = ws; main = m; seats = ms }; sound = k; lawful = inl (refl, (off, omega arith)); before = refl; answered = refl; after = ap (λ (b : ℕ). based_view m a b) is },
+    ))
 
 pub main_stores : (slots id a bits : ℕ) (me : Me (Unit {0}) View) → id ≡ 0 → me.0.posted ≡ false → a < length me.0.base
     → Allows IsKept slots id me (memory_word a) (λ _. bits)
     (λ _ w. (w ≡ (based_view me.0 (memory_word a - 65537) bits, me.1)) × ((x : ℤ) → cast_unsigned w64 x ≡ bits → IsStepOf 0 me.0 (Store 0 (memory_word a - 65537) x) (pos 0) w.0))
 main_stores slots id a bits me first off lt s h homes at small = let back : a ≡ memory_word a - 65537 = omega arith in let
     w : Me (Unit {0}) View = (based_view me.0 a bits, me.1) in let
-    both = main_stored_in s.words s.views a bits me.0 h (subst (λ (j : ℕ). get_elem? s.views j ≡ some me.0) first at) off lt in
-    (based_view me.0 a bits, keeps, tt, subst (λ (j : ℕ). IsCoreState (set s.words (memory_word a) bits) (set s.views j (based_view me.0 a bits))) (sym first) both.0,
-     (ap (λ (b : ℕ). (based_view me.0 b bits, me.1)) back, λ x is. subst (λ (b : ℕ). IsStepOf 0 me.0 (Store 0 b x) (pos 0) w.0) back (both.1 x is)))
+    both = main_stored_in s.words s.views a bits me.0 h (subst (λ (j : ℕ). get_elem? s.views j ≡ some me.0) first at) off lt in (
+      based_view me.0 a bits,
+      keeps,
+      tt,
+      subst (λ (j : ℕ). IsCoreState (set s.words (memory_word a) bits) (set s.views j (based_view me.0 a bits))) (sym first) both.0,
+      (ap (λ (b : ℕ). (based_view me.0 b bits, me.1)) back, λ x is. subst (λ (b : ℕ). IsStepOf 0 me.0 (Store 0 b x) (pos 0) w.0) back (both.1 x is)),
+    )
 
 -- post
 
@@ -82,9 +87,10 @@ posted_in ws views plan v h at = at_main
     (λ m ms k p. let
     s : State = record { words = ws; main = m; seats = ms } in let
     same : memory_of ws ≡ m.base = memory_shown ws m.base (shows_base ws m ms k p.off) in let
-    lawful : Lawful (Post plan) s = (p.off, k.phase.none_out p.off, (p.separate, p.few, subst (λ (b : List ℕ). IsInside (length b) plan) (sym same) p.inside)) in
-    (subst (λ (b : List ℕ). IsCoreState ws (posted_view m b plan ∷ ms)) same (step_keeps (Post plan) s k lawful),
-     record { state = s; sound = k; lawful = lawful; before = refl; answered = refl; after = ap (λ (b : List ℕ). posted_view m b plan) same }))
+    lawful : Lawful (Post plan) s = (p.off, k.phase.none_out p.off, (p.separate, p.few, subst (λ (b : List ℕ). IsInside (length b) plan) (sym same) p.inside)) in (
+      subst (λ (b : List ℕ). IsCoreState ws (posted_view m b plan ∷ ms)) same (step_keeps (Post plan) s k lawful),
+      record { state = s; sound = k; lawful = lawful; before = refl; answered = refl; after = ap (λ (b : List ℕ). posted_view m b plan) same },
+    ))
 
 pub posts : (slots id : ℕ) (me : Me (Unit {0}) View) (plan : Plan) → id ≡ 0 → IsPostable me.0 plan
     → Allows IsKept slots id me 0 (λ n. n) (λ _ w. (w ≡ (posted_view me.0 me.0.base plan, me.1)) × IsStepOf 0 me.0 (Post plan) (pos 0) w.0)
@@ -103,17 +109,18 @@ settled_in ws views v h at = at_main
     s : State = record { words = ws; main = m; seats = ms } in let
     base : List ℕ = overlaid m.own m.base in let
     same : memory_of ws ≡ base = memory_shown ws base (shows_values ws m ms k none) in let
-    lawful : Lawful Settle s = (on, none) in
-    (subst (λ (b : List ℕ). IsCoreState ws (settled_view m b ∷ ms)) same (step_keeps Settle s k lawful),
-     record {
-       step = record { state = s; sound = k; lawful = lawful; before = refl; answered = refl; after = ap (λ (b : List ℕ). settled_view m b) same };
-       single = k.tiles.once 0 m refl;
-       planned = λ n holds. (k.tiles.claimed n 0 m refl holds).0;
-       known = λ n knows. known_held s k lawful n 0 m refl knows;
-       failed = (k.phase.failed 0 m refl, λ is. main_failed s k lawful is);
-       seen = k.phase.seen 0 m refl;
-       separate = k.phase.separate;
-     }))
+    lawful : Lawful Settle s = (on, none) in (
+      subst (λ (b : List ℕ). IsCoreState ws (settled_view m b ∷ ms)) same (step_keeps Settle s k lawful),
+      record {
+        step = record { state = s; sound = k; lawful = lawful; before = refl; answered = refl; after = ap (λ (b : List ℕ). settled_view m b) same };
+        single = k.tiles.once 0 m refl;
+        planned = λ n holds. (k.tiles.claimed n 0 m refl holds).0;
+        known = λ n knows. known_held s k lawful n 0 m refl knows;
+        failed = (k.phase.failed 0 m refl, λ is. main_failed s k lawful is);
+        seen = k.phase.seen 0 m refl;
+        separate = k.phase.separate;
+      },
+    ))
 
 pub settles : (slots id : ℕ) (me : Me (Unit {0}) View) → id ≡ 0 → me.0.posted ≡ true → me.0.out ≡ []
     → Allows IsKept slots id me 0 (λ n. n) (λ n w. (w ≡ (settled_view me.0 (overlaid me.0.own me.0.base), me.1)) × EndsPhase me.0 n w.0)

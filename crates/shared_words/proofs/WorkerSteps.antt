@@ -84,15 +84,17 @@ loads_in ws [] id a v h at out may = absurd h
 loads_in ws (m ∷ ms) id a v h at out may = let
     s : State = record { words = ws; main = m; seats = ms } in let
     w = worker_at s id v h at out in let
-    tile = any_held (λ k. touches v.plan k a) v.held may in
-    (load_value ws m (m ∷ ms) id tile.0 a v h at out tile.1 tile.2, record {
-      state = s;
-      sound = h;
-      lawful = inr (w.out, subst (λ (u : View). may_load u a ≡ true) (sym (sym (seat_of_worker v.number s out) ∙ w.seat)) may);
-      before = w.seat;
-      answered = refl;
-      after = w.seat;
-    })
+    tile = any_held (λ k. touches v.plan k a) v.held may in (
+      load_value ws m (m ∷ ms) id tile.0 a v h at out tile.1 tile.2,
+      record {
+        state = s;
+        sound = h;
+        lawful = inr (w.out, subst (λ (u : View). may_load u a ≡ true) (sym (sym (seat_of_worker v.number s out) ∙ w.seat)) may);
+        before = w.seat;
+        answered = refl;
+        after = w.seat;
+      },
+    )
 
 pub loads : (slots id a : ℕ) (me : Me (Unit {0}) View) → 0 < me.0.number → may_load me.0 a ≡ true
     → Allows IsKept slots id me (memory_word a) (λ n. n)
@@ -120,19 +122,25 @@ store_step ws (m ∷ ms) id a x v h at out may = let
     n : ℕ = v.number in let
     lawful : Lawful (Store n a x) s = inr (w.out, subst (λ (u : View). may_store u a ≡ true) (sym (sym (seat_of_worker n s out) ∙ w.seat)) may) in let
     leads : state_after (Store n a x) s ≡ with_seat n (storing_view v a bits) (with_word (memory_word a) bits s) =
-        ap (λ (b : Bool). with_seat n (cond b (based_view (seat_of n s) a bits) (storing_view (seat_of n s) a bits)) (with_word (memory_word a) bits s)) (ne_eqb n 0 (λ e. omega arith))
-        ∙ ap (λ (u : View). with_seat n (storing_view u a bits) (with_word (memory_word a) bits s)) w.seat in
+    ap (λ (b : Bool). with_seat n (cond b (based_view (seat_of n s) a bits) (storing_view (seat_of n s) a bits)) (with_word (memory_word a) bits s)) (ne_eqb n 0 (λ e. omega arith))
+    ∙ ap (λ (u : View). with_seat n (storing_view u a bits) (with_word (memory_word a) bits s)) w.seat in
     record { state = s; sound = h; lawful = lawful; before = w.seat; answered = refl; after = (worker_step (Store n a x) s id v (storing_view v a bits) (set ws (memory_word a) bits) h at out refl lawful leads).1 }
 
 pub stores : (slots id a bits : ℕ) (me : Me (Unit {0}) View) → 0 < me.0.number → may_store me.0 a ≡ true
     → Allows IsKept slots id me (memory_word a) (λ _. bits)
     (λ _ w. (w ≡ (storing_view me.0 (memory_word a - 65537) bits, me.1)) × ((x : ℤ) → cast_unsigned w64 x ≡ bits → IsStepOf me.0.number me.0 (Store me.0.number (memory_word a - 65537) x) (pos 0) w.0))
 stores slots id a bits me out may s h homes at small = let back : a ≡ memory_word a - 65537 = omega arith in let
-    w : Me (Unit {0}) View = (storing_view me.0 a bits, me.1) in
-    (storing_view me.0 a bits, keeps, tt, stored_in s.words s.views id a bits me.0 h at out may,
-     (ap (λ (b : ℕ). (storing_view me.0 b bits, me.1)) back,
-      λ x is. subst (λ (b : ℕ). IsStepOf me.0.number me.0 (Store me.0.number b x) (pos 0) w.0) back
-        (subst (λ (y : ℕ). IsStepOf me.0.number me.0 (Store me.0.number a x) (pos 0) (storing_view me.0 a y)) is (store_step s.words s.views id a x me.0 h at out may))))
+    w : Me (Unit {0}) View = (storing_view me.0 a bits, me.1) in (
+      storing_view me.0 a bits,
+      keeps,
+      tt,
+      stored_in s.words s.views id a bits me.0 h at out may,
+      (
+        ap (λ (b : ℕ). (storing_view me.0 b bits, me.1)) back,
+        λ x is. subst (λ (b : ℕ). IsStepOf me.0.number me.0 (Store me.0.number b x) (pos 0) w.0) back
+            (subst (λ (y : ℕ). IsStepOf me.0.number me.0 (Store me.0.number a x) (pos 0) (storing_view me.0 a y)) is (store_step s.words s.views id a x me.0 h at out may)),
+      ),
+    )
 
 -- see
 

@@ -11,7 +11,7 @@ ghost use Rattle.shared_words.specs.Calls.{IsStepOf, EndsPhase};
 use crate::steps::{
     JoinSeat, MainLoad, MainStore, Numbered, Planned, PostPlan, SettlePhase, SplitSeat,
 };
-use crate::words::{MEMORY, SharedWords};
+use crate::words::{FLAG, MEMORY, SharedWords};
 use crate::work_seat::WorkSeat;
 use atomic_table::Seat;
 use core_steps::{Plan, View};
@@ -75,7 +75,7 @@ impl MainSeat {
         ensures view { self.new.view ≡ posted_view self.old.view self.old.view.base plan.now }
         ensures step { IsStepOf 0 self.old.view (Post plan.now) (pos 0) self.new.view }
     {
-        let _ = words.table.shared.load::<PostPlan<J>>(&mut self.seat, 0);
+        let _ = words.table.shared.load::<PostPlan<J>>(&mut self.seat, FLAG);
         self.epoch += 1;
     }
 
@@ -105,7 +105,10 @@ impl MainSeat {
         ensures count { memory_words self.old.table ≡ length self.old.view.base }
     {
         let _worker = worker;
-        let seat = words.table.shared.split_seat::<SplitSeat<J>>(&mut self.seat);
+        let seat = words
+            .table
+            .shared
+            .split_seat::<SplitSeat<J>>(&mut self.seat);
         WorkSeat::lent(seat, self.epoch)
     }
 
@@ -132,12 +135,10 @@ impl MainSeat {
         ensures table { self.new.table ≡ self.old.table }
         ensures view { let m = self.old.view in self.new.view ≡ settled_view m (overlaid m.own m.base) }
         ensures length { length self.new.view.base ≡ length self.old.view.base }
-        ensures step {
-            let m = self.old.view in (flag : ℕ) × (IsTrue result ↔ (flag ≡ m.epoch))
-                × EndsPhase m flag self.new.view
-        }
+        ensures step { let m = self.old.view in (flag : ℕ) × (IsTrue result ↔ (flag ≡ m.epoch))
+            × EndsPhase m flag self.new.view }
     {
-        words.table.shared.load::<SettlePhase>(&mut self.seat, 0) == self.epoch
+        words.table.shared.load::<SettlePhase>(&mut self.seat, FLAG) == self.epoch
     }
 
     /// The word at an address of the memory, where no plan is posted.

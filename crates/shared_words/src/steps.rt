@@ -71,7 +71,7 @@ impl Play<(), View> for WorkStore {
 
     ghost then = { λ s m n w. (w ≡ (storing_view m.0 (s.word - 65537) s.first, m.1))
         × ((x : ℤ) → cast_unsigned w64 x ≡ s.first
-            → IsStepOf m.0.number m.0 (Store m.0.number (s.word - 65537) x) (pos 0) w.0) };
+        → IsStepOf m.0.number m.0 (Store m.0.number (s.word - 65537) x) (pos 0) w.0) };
 }
 
 /// A worker's load of the flag.

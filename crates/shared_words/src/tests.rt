@@ -25,7 +25,12 @@ fn plan_of_one(alloc: Global) -> Result<Plan, AllocError>
 }
 
 /// The row of a phase: worker 1 claims the tile, loads word 0 and stores 9 to word 1.
-fn phase<R: Abort>(rt: &R, alloc: Global, words: SharedWords, mut main: MainSeat) -> Result<(), Fail>
+fn phase<R: Abort>(
+    rt: &R,
+    alloc: Global,
+    words: SharedWords,
+    mut main: MainSeat,
+) -> Result<(), Fail>
     requires table { main.table ≡ words }
     requires start { main.view ≡ first_view (5 ∷ 6 ∷ []) }
 {
@@ -117,7 +122,10 @@ fn claims_beside<R: Threads + Sync + Abort>(
     by_left.extend_from_slice(by_right.as_slice())?;
     by_left.sort_unstable();
     let all: Vec<u32> = (0..tiles).collect(alloc)?;
-    assert!(rt; by_left.as_slice() == all.as_slice(), "a tile is held twice or by nobody");
+    assert!(rt;
+        by_left.as_slice() == all.as_slice(),
+        "a tile is held twice or by nobody"
+    );
     Ok(())
 }
 

@@ -13,10 +13,17 @@ use std::iter;
 use std::marker::Model;
 use std::snapshot::Snapshot;
 
-/// Word 0 is the flag, then come the claims of 65,536 tiles, and the memory begins here.
+/// The flag's word (docs/WORDS.md, Layout).
+pub const FLAG: usize = 0;
+
+/// The claim of tile 0; those of the other 65,535 tiles follow.
+pub const CLAIMS: usize = 1;
+
+/// The word 0 of the memory; the others follow.
 pub const MEMORY: usize = 65_537;
 
-/// The words that all seats step on: the flag, the claims and the memory. Contracts see which table it is.
+/// The words that all seats step on: the flag, the claims and the memory (docs/WORDS.md). Contracts see which table
+/// it is.
 #[derive(Drop)]
 pub struct SharedWords {
     pub(crate) table: Table<(), View, Snapshot<Vec<u64>>, CoreRule, Global>,

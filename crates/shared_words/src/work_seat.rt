@@ -7,16 +7,10 @@ ghost use Rattle.shared_words.specs.Seats.{KeepsSeat};
 ghost use Rattle.shared_words.specs.Calls.{IsStepOf, FindsFlag, RaisesFlag};
 
 use crate::steps::{ClaimTile, RaiseFlag, SeeFlag, WorkLoad, WorkStore};
-use crate::words::{MEMORY, SharedWords};
+use crate::words::{CLAIMS, FLAG, MEMORY, SharedWords};
 use atomic_table::Seat;
 use core_steps::View;
 use std::marker::Model;
-
-/// The flag's word.
-const FLAG: usize = 0;
-
-/// The claim of tile 0; those of the others follow.
-const CLAIMS: usize = 1;
 
 /// The seat that main lent to one worker. It may go to another thread, and may be dropped. Contracts see its table
 /// and its view.
@@ -97,16 +91,13 @@ impl WorkSeat {
         ensures table { self.new.table ≡ self.old.table }
         ensures won { IsTrue result → self.new.view ≡ holding_view self.old.view tile }
         ensures lost { result ≡ false → self.new.view ≡ knowing_view self.old.view tile }
-        ensures step {
-            let v = self.old.view in (old : ℕ) × (IsTrue result ↔ (old ≢ v.epoch))
-                × IsStepOf v.number v (Claim v.number tile) (pos old) self.new.view
-        }
+        ensures step { let v = self.old.view in (old : ℕ) × (IsTrue result ↔ (old ≢ v.epoch))
+            × IsStepOf v.number v (Claim v.number tile) (pos old) self.new.view }
     {
-        let old =
-            words
-                .table
-                .shared
-                .swap::<ClaimTile>(&mut self.seat, CLAIMS + tile as usize, self.epoch);
+        let old = words
+            .table
+            .shared
+            .swap::<ClaimTile>(&mut self.seat, CLAIMS + tile as usize, self.epoch);
         old != self.epoch
     }
 
@@ -128,10 +119,8 @@ impl WorkSeat {
         requires table { self.old.table ≡ words.now }
         ensures table { self.new.table ≡ self.old.table }
         ensures view { self.new.view ≡ record self.old.view { seen = self.old.view.seen || result } }
-        ensures step {
-            let v = self.old.view in (flag : ℕ) × (IsTrue result ↔ (flag ≡ v.epoch))
-                × FindsFlag v flag self.new.view
-        }
+        ensures step { let v = self.old.view in (flag : ℕ) × (IsTrue result ↔ (flag ≡ v.epoch))
+            × FindsFlag v flag self.new.view }
     {
         words.table.shared.load::<SeeFlag>(&mut self.seat, FLAG) == self.epoch
     }
