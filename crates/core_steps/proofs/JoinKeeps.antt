@@ -1,5 +1,6 @@
 -- A join keeps the invariant: main takes over what a worker's view has, and the seat is spent.
 use Rattle.std.proofs.Common.{◌≡◌, ◌≢◌, ℕ, zero, suc, ◌<◌, true, false, true≢false, List, ◌∷◌, length, Some, None, set, inl, ⊎_elim, refl, sym, subst, arith}
+use Rattle.std.proofs.lemmas.Bool.{or_cases, or_left, or_right}
 use mathlib.Core.Option.{some-injective}
 use mathlib.Core.Logic.{dite}
 use native.Mathlib.Decide.{ℕ_discrete}
@@ -9,7 +10,7 @@ use Rattle.core_steps.specs.Plans.{writes}
 use Rattle.core_steps.specs.Views.{Holds, Knows, stored_at, spent_view, joined_view}
 use Rattle.core_steps.specs.States.{flag_of, claim_of, word_of}
 use Rattle.core_steps.specs.Invariant.{At, IsUntouched, IsLentBy, PhaseIsSound, TilesAreSound, ValuesAreSound, Inv}
-use Rattle.core_steps.proofs.NumberLists.{or_left, or_right, or_cases, has_none, has_append, has_left, has_right, has_without, has_rest, single_without, single_append}
+use Rattle.core_steps.proofs.NumberLists.{has_none, has_append, has_left, has_right, has_without, has_rest, single_without, single_append}
 use Rattle.core_steps.proofs.StoreLists.{no_option, stored_append, unstored_append}
 use Rattle.core_steps.proofs.ViewLists.{at_same, set_else, each_joined, somewhere_joined, one_joined}
 

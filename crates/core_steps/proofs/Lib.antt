@@ -18,6 +18,7 @@ pub mod Starts
 pub mod Applied
 pub mod Places
 pub mod PlanTests
+pub mod WriterLaws
 pub mod Phases
 pub mod OwnValues
 pub mod OwnLoads

@@ -1,36 +1,13 @@
 -- Lists of numbers that stand for sets.
-use Rattle.std.proofs.Common.{◌≡◌, ◌≢◌, ℕ, Bool, true, false, true≢false, ◌||◌, not, eqb, cond, List, [], ◌∷◌, ◌++◌, ◌⊎◌, inl, inr, ⊎_elim, refl, sym, ap, ◌∙◌, subst, eq-eqb, ne_eqb}
+use Rattle.std.proofs.Common.{◌≡◌, ◌≢◌, ℕ, Bool, true, false, true≢false, not, eqb, cond, List, [], ◌∷◌, ◌++◌, ◌⊎◌, inl, inr, ⊎_elim, refl, sym, ap, ◌∙◌, subst, eq-eqb, ne_eqb}
+use Rattle.std.proofs.lemmas.Bool.{false_from_ne_true, or_cases, or_left, or_right}
 use mathlib.Core.Logic.{dite}
 use native.Mathlib.Decide.{ℕ_discrete}
 use Rattle.core_steps.specs.Numbers.{has, without, IsSingle}
 
-pub or_left : (a b : Bool) → a ≡ true → (a || b) ≡ true
-or_left true b h = refl
-or_left false b h = absurd (true≢false (sym h))
-
-pub or_right : (a b : Bool) → b ≡ true → (a || b) ≡ true
-or_right true b h = refl
-or_right false b h = h
-
-pub or_cases : (a b : Bool) → (a || b) ≡ true → (a ≡ true) ⊎ (b ≡ true)
-or_cases true b h = inl refl
-or_cases false b h = inr h
-
-pub or_neither : (a b : Bool) → (a || b) ≡ false → (a ≡ false) × (b ≡ false)
-or_neither true b h = absurd (true≢false h)
-or_neither false b h = (refl, h)
-
--- a test that isn't true is false
-pub is_false : (b : Bool) → ¬ (b ≡ true) → b ≡ false
-is_false true n = absurd (n refl)
-is_false false n = refl
-
 -- a test that is true isn't false
 pub not_both : (b : Bool) → b ≡ true → b ≡ false → ⊥
 not_both b t f = true≢false (sym t ∙ f)
-
-pub equal_of_test : (a b : ℕ) → eqb a b ≡ true → a ≡ b
-equal_of_test a b t = dite (ℕ_discrete a b) (λ e. e) (λ ne. absurd (not_both (eqb a b) t (ne_eqb a b ne)))
 
 pub has_here : (x : ℕ) (ys : List ℕ) → has x (x ∷ ys) ≡ true
 has_here x ys = or_left (eqb x x) (has x ys) (eq-eqb x x refl)
@@ -87,12 +64,12 @@ pub single_without : (y : ℕ) (ys : List ℕ) → IsSingle ys → IsSingle (wit
 single_without y [] h = tt
 single_without y (z ∷ ys) h = dite (ℕ_discrete z y)
     (λ e. subst IsSingle (sym (without_same y z ys e)) (single_without y ys h.1))
-    (λ n. subst IsSingle (sym (without_other y z ys n)) (is_false (has z (without y ys)) (λ t. not_both (has z ys) (has_rest z y ys t).1 h.0), single_without y ys h.1))
+    (λ n. subst IsSingle (sym (without_other y z ys n)) (false_from_ne_true (has z (without y ys)) (λ t. not_both (has z ys) (has_rest z y ys t).1 h.0), single_without y ys h.1))
 
 pub single_append : (xs ys : List ℕ) → IsSingle xs → IsSingle ys → ((n : ℕ) → has n xs ≡ true → ¬ (has n ys ≡ true)) → IsSingle (xs ++ ys)
 single_append [] ys p q apart = q
 single_append (x ∷ xs) ys p q apart =
-    (is_false (has x (xs ++ ys)) (λ t. ⊎_elim (λ a. not_both (has x xs) a p.0) (λ b. apart x (has_here x xs) b) (has_append x xs ys t)), single_append xs ys p.1 q (λ n a b. apart n (has_there n x xs a) b))
+    (false_from_ne_true (has x (xs ++ ys)) (λ t. ⊎_elim (λ a. not_both (has x xs) a p.0) (λ b. apart x (has_here x xs) b) (has_append x xs ys t)), single_append xs ys p.1 q (λ n a b. apart n (has_there n x xs a) b))
 
 pub single_snoc : (k : ℕ) (ks : List ℕ) → IsSingle ks → ¬ (has k ks ≡ true) → IsSingle (ks ++ k ∷ [])
 single_snoc k ks one fresh = single_append ks (k ∷ []) one (refl, tt) (λ n a b. ⊎_elim (λ e. fresh (subst (λ (j : ℕ). has j ks ≡ true) e a)) (λ r. true≢false (sym r)) (has_cons n k [] b))

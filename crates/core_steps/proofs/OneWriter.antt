@@ -3,6 +3,7 @@ use Rattle.std.proofs.Common.{◌≡◌, ℕ, suc, ◌<◌, Bool, true, false, t
 use Rattle.std.specs.Prelude.{ℤ}
 use Rattle.std.specs.List.{list_any}
 use Rattle.std.specs.Int.{w64, cast_unsigned}
+use Rattle.std.proofs.lemmas.Bool.{eqb-true, or_parts}
 use mathlib.Core.Option.{some-injective}
 use lib.ListN.{get_elem?}
 use mathlib.Core.Logic.{dite}
@@ -17,7 +18,7 @@ use Rattle.core_steps.specs.States.{State, views_of, view_of, IsOut}
 use Rattle.core_steps.specs.Steps.{Lawful, Runs, state_after, with_seat}
 use Rattle.core_steps.specs.Invariant.{At, IsSound}
 use Rattle.core_steps.specs.Laws.{is_settle, is_join, RunsWithin}
-use Rattle.core_steps.proofs.NumberLists.{not_both, or_neither, equal_of_test}
+use Rattle.core_steps.proofs.NumberLists.{not_both}
 use Rattle.core_steps.proofs.StoreLists.{no_option, stored_same, stored_other}
 use Rattle.core_steps.proofs.StoreKeeps.{write_touches}
 use Rattle.core_steps.proofs.StateSteps.{step_keeps, run_keeps, out_found, any_held, with_seat_worker}
@@ -72,7 +73,7 @@ main_keeps Settle a s h on p go st = absurd (true≢false go)
 
 -- at its join main takes the worker's own values over
 join_takes : (x : Step) (w a : ℕ) (s : State) → is_join w x ≡ true → Stored a (view_of w s.seats).own → Stored a (state_after x s).main.own
-join_takes (Join v) w a s t st = stored_right a s.main.own (view_of v s.seats).own (subst (λ (n : ℕ). Stored a (view_of n s.seats).own) (sym (equal_of_test v w t)) st)
+join_takes (Join v) w a s t st = stored_right a s.main.own (view_of v s.seats).own (subst (λ (n : ℕ). Stored a (view_of n s.seats).own) (sym (eqb-true v w t)) st)
 join_takes (Post plan) w a s t st = absurd (true≢false (sym t))
 join_takes (Split v) w a s t st = absurd (true≢false (sym t))
 join_takes (Load i b) w a s t st = absurd (true≢false (sym t))
@@ -85,7 +86,7 @@ join_takes Settle w a s t st = absurd (true≢false (sym t))
 main_run : (steps : List Step) (a : ℕ) (s t : State) → IsSound s → s.main.posted ≡ true → Runs steps s t → list_any is_settle steps ≡ false → Stored a s.main.own → Stored a t.main.own
 main_run [] a s t h on run go st = subst (λ (z : State). Stored a z.main.own) run st
 main_run (x ∷ xs) a s t h on run go st = let
-    none = or_neither (is_settle x) (list_any is_settle xs) go in let
+    none = or_parts (is_settle x) (list_any is_settle xs) go in let
     step = step_in_phase x s h on run.0 none.0 in
     main_run xs a (state_after x s) t (step_keeps x s h run.0) (step.posted ∙ on) run.1 none.1 (main_keeps x a s h on run.0 none.0 st)
 
@@ -104,7 +105,7 @@ by_join x xs w a s t h on run go rest sound on' out st more false joined = let
 writer_run : (steps : List Step) (w a : ℕ) (s t : State) → IsSound s → s.main.posted ≡ true → Runs steps s t → list_any is_settle steps ≡ false → IsOut w s → Stored a (view_of w s.seats).own → KeptBy w a steps t
 writer_run [] w a s t h on run go out st = subst (λ (z : State). KeptBy w a [] z) run (inl (refl, out, st))
 writer_run (x ∷ xs) w a s t h on run go out st = let
-    none = or_neither (is_settle x) (list_any is_settle xs) go in let
+    none = or_parts (is_settle x) (list_any is_settle xs) go in let
     step = step_in_phase x s h on run.0 none.0 in let
     sound = step_keeps x s h run.0 in
     by_join x xs w a s t h on run none.0 none.1 sound (step.posted ∙ on) out st (λ o q. writer_run xs w a (state_after x s) t sound (step.posted ∙ on) run.1 none.1 o q) (is_join w x) refl

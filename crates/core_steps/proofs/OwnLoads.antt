@@ -3,6 +3,7 @@ use Rattle.std.proofs.Common.{◌≡◌, ◌≢◌, ℕ, suc, ◌<◌, Bool, tru
 use Rattle.std.specs.Prelude.{ℤ, unwrap_or}
 use Rattle.std.specs.List.{list_any}
 use Rattle.std.specs.Int.{w64, cast_unsigned, cast_signed}
+use Rattle.std.proofs.lemmas.Bool.{or_parts}
 use mathlib.Core.Logic.{dite}
 use native.Mathlib.Decide.{ℕ_discrete}
 use Rattle.core_steps.specs.declared.plan.Plan.{Plan}
@@ -16,7 +17,7 @@ use Rattle.core_steps.specs.States.{State, views_of, view_of, word_of, memory_of
 use Rattle.core_steps.specs.Steps.{Lawful, Runs, state_after, answer_of, with_seat}
 use Rattle.core_steps.specs.Invariant.{At, IsSound}
 use Rattle.core_steps.specs.Laws.{is_settle, is_join, IsInPhase, stored_after, latest}
-use Rattle.core_steps.proofs.NumberLists.{not_both, or_neither, has_cons, has_rest}
+use Rattle.core_steps.proofs.NumberLists.{not_both, has_cons, has_rest}
 use Rattle.core_steps.proofs.StoreLists.{stored_same, stored_other}
 use Rattle.core_steps.proofs.WordLists.{shows_memory}
 use Rattle.core_steps.proofs.LoadKeeps.{load_value}
@@ -102,7 +103,7 @@ run_stores : (steps : List Step) (w a : ℕ) (s t : State) (stored : Option ℕ)
     → (IsOut w s → stored_at a (view_of w s.seats).own ≡ stored) → IsOut w t → stored_at a (view_of w t.seats).own ≡ latest w a steps stored
 run_stores [] w a s t stored h on run go before = subst (λ (z : State). IsOut w z → stored_at a (view_of w z.seats).own ≡ stored) run before
 run_stores (x ∷ xs) w a s t stored h on run go before = let
-    none = or_neither (is_settle x) (list_any is_settle xs) go in let
+    none = or_parts (is_settle x) (list_any is_settle xs) go in let
     step = step_in_phase x s h on run.0 none.0 in
     run_stores xs w a (state_after x s) t (stored_after w a x stored) (step_keeps x s h run.0) (step.posted ∙ on) run.1 none.1 (step_stores x w a s stored h on run.0 none.0 before)
 

@@ -2,6 +2,7 @@
 use Rattle.std.proofs.Common.{◌≡◌, ℕ, zero, suc, ◌<◌, true, false, true≢false, List, [], ◌∷◌, length, Option, Some, None, get_or, ⊎_elim, refl, sym, ap, ◌∙◌, subst, arith}
 use Rattle.std.specs.Prelude.{ℤ}
 use Rattle.std.specs.List.{list_any}
+use Rattle.std.proofs.lemmas.Bool.{or_parts}
 use mathlib.Core.Option.{some-injective}
 use lib.ListN.{get_elem?}
 use Rattle.core_steps.specs.declared.plan.Plan.{Plan}
@@ -14,7 +15,7 @@ use Rattle.core_steps.specs.States.{State, start_of, bits_of, views_of, view_of,
 use Rattle.core_steps.specs.Steps.{Lawful, Runs, state_after, with_seat}
 use Rattle.core_steps.specs.Invariant.{At, Each, IsUntouched, IsSound}
 use Rattle.core_steps.specs.Laws.{IsReached, is_settle, IsInPhase}
-use Rattle.core_steps.proofs.NumberLists.{or_neither, not_both, has_none}
+use Rattle.core_steps.proofs.NumberLists.{not_both, has_none}
 use Rattle.core_steps.proofs.WordLists.{shows_memory}
 use Rattle.core_steps.proofs.StateSteps.{step_keeps, run_keeps, out_found, with_seat_worker}
 use Rattle.core_steps.proofs.Starts.{first_sound}
@@ -58,7 +59,7 @@ joined_phases m n o p q = record { posted = q.posted ∙ p.posted; epoch = q.epo
 pub run_in_phase : (steps : List Step) (s t : State) → IsSound s → s.main.posted ≡ true → Runs steps s t → list_any is_settle steps ≡ false → IsSamePhase s.main t.main
 run_in_phase [] s t h on run go = subst (λ (u : State). IsSamePhase s.main u.main) run (same_phase s.main)
 run_in_phase (x ∷ xs) s t h on run go = let
-    none = or_neither (is_settle x) (list_any is_settle xs) go in let
+    none = or_parts (is_settle x) (list_any is_settle xs) go in let
     step = step_in_phase x s h on run.0 none.0 in
     joined_phases s.main (state_after x s).main t.main step (run_in_phase xs (state_after x s) t (step_keeps x s h run.0) (step.posted ∙ on) run.1 none.1)
 

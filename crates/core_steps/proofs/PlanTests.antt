@@ -1,45 +1,30 @@
 -- What the tests of a plan say.
-use Rattle.std.proofs.Common.{◌≡◌, ◌≢◌, ℕ, zero, suc, ◌-◌, ◌<◌, Bool, true, false, true≢false, ◌&&◌, not, List, [], ◌∷◌, length, get_or, ◌⊎◌, inl, inr, ⊎_elim, refl, sym, ap, ◌∙◌, subst, arith}
+use Rattle.std.proofs.Common.{◌≡◌, ◌≢◌, ℕ, zero, suc, ◌-◌, ◌<◌, Bool, true, false, true≢false, not, List, [], ◌∷◌, length, get_or, ◌⊎◌, inl, inr, ⊎_elim, refl, sym, ap, ◌∙◌, subst, arith}
 use Rattle.std.specs.Prelude.{nat_lt}
 use Rattle.std.specs.List.{list_all}
-use Rattle.std.proofs.lemmas.Bool.{ltb-true, lt-ltb}
+use Rattle.std.proofs.lemmas.Bool.{and_from, and_parts, lt-ltb, ltb-true, not-true, not_from_false, or_cases, or_left, or_right}
 use Rattle.std.proofs.lemmas.List.{get_or_past, get_or_default}
 use mathlib.Core.Logic.{dite}
 use native.Mathlib.Decide.{ℕ_discrete}
 use Rattle.core_steps.specs.declared.plan.Tile.{Tile}
 use Rattle.core_steps.specs.Numbers.{has}
 use Rattle.core_steps.specs.Plans.{no_tile, touches_of, writes_of, AreApart, WritesAlone, are_apart, are_below, keeps_inside}
-use Rattle.core_steps.proofs.NumberLists.{not_both, or_cases, or_left, or_right, has_here, has_there, has_cons}
-
-and_both : (a b : Bool) → (a && b) ≡ true → (a ≡ true) × (b ≡ true)
-and_both true b h = (refl, h)
-and_both false b h = absurd (true≢false (sym h))
-
-both_and : (a b : Bool) → a ≡ true → b ≡ true → (a && b) ≡ true
-both_and a b p q = cc
+use Rattle.core_steps.proofs.NumberLists.{not_both, has_here, has_there, has_cons}
 
 -- a test that all numbers of the list pass
 has_all : (p : ℕ → Bool) (xs : List ℕ) → list_all p xs ≡ true → (a : ℕ) → has a xs ≡ true → p a ≡ true
 has_all p [] h a t = absurd (true≢false (sym t))
-has_all p (x ∷ xs) h a t = let both = and_both (p x) (list_all p xs) h in ⊎_elim (λ e. subst (λ (y : ℕ). p y ≡ true) (sym e) both.0) (λ r. has_all p xs both.1 a r) (has_cons a x xs t)
+has_all p (x ∷ xs) h a t = let both = and_parts (p x) (list_all p xs) h in ⊎_elim (λ e. subst (λ (y : ℕ). p y ≡ true) (sym e) both.0) (λ r. has_all p xs both.1 a r) (has_cons a x xs t)
 
 all_has : (p : ℕ → Bool) (xs : List ℕ) → ((a : ℕ) → has a xs ≡ true → p a ≡ true) → list_all p xs ≡ true
 all_has p [] h = refl
-all_has p (x ∷ xs) h = both_and (p x) (list_all p xs) (h x (has_here x xs)) (all_has p xs (λ a t. h a (has_there a x xs t)))
-
-not_true : (b : Bool) → not b ≡ true → b ≡ false
-not_true true h = absurd (true≢false (sym h))
-not_true false h = refl
-
-true_not : (b : Bool) → b ≡ false → not b ≡ true
-true_not true h = absurd (true≢false h)
-true_not false h = refl
+all_has p (x ∷ xs) h = and_from (p x) (list_all p xs) (h x (has_here x xs)) (all_has p xs (λ a t. h a (has_there a x xs t)))
 
 pub apart_fact : (one other : Tile) → are_apart one other ≡ true → AreApart one other
-apart_fact one other h a t = not_true (touches_of other a) (has_all (λ b. not (touches_of other b)) one.writes h a t)
+apart_fact one other h a t = not-true (touches_of other a) (has_all (λ b. not (touches_of other b)) one.writes h a t)
 
 pub apart_test : (one other : Tile) → AreApart one other → are_apart one other ≡ true
-apart_test one other h = all_has (λ b. not (touches_of other b)) one.writes (λ a t. true_not (touches_of other a) (h a t))
+apart_test one other h = all_has (λ b. not (touches_of other b)) one.writes (λ a t. not_from_false (touches_of other a) (h a t))
 
 within_or_past : (k n : ℕ) → (k < n) ⊎ (¬ (k < n))
 within_or_past k n = dite (ℕ_discrete (suc k - n) 0) (λ e. inl (omega arith)) (λ ne. inr (λ lt. ne (omega arith)))
@@ -65,18 +50,18 @@ below_test : (n : ℕ) (xs : List ℕ) → ((a : ℕ) → has a xs ≡ true → 
 below_test n xs h = all_has (λ b. nat_lt b n) xs (λ a t. lt-ltb a n (h a t))
 
 inside_fact : (n : ℕ) (tile : Tile) → keeps_inside n tile ≡ true → (a : ℕ) → touches_of tile a ≡ true → a < n
-inside_fact n tile h a t = let both = and_both (are_below n tile.reads) (are_below n tile.writes) h in
+inside_fact n tile h a t = let both = and_parts (are_below n tile.reads) (are_below n tile.writes) h in
     ⊎_elim (λ r. below_fact n tile.reads both.0 a r) (λ w. below_fact n tile.writes both.1 a w) (or_cases (has a tile.reads) (has a tile.writes) t)
 
 pub all_inside_fact : (n : ℕ) (tiles : List Tile) → list_all (keeps_inside n) tiles ≡ true → (k a : ℕ) → touches_of (get_or tiles k no_tile) a ≡ true → a < n
 all_inside_fact n [] h k a t = absurd (true≢false (sym t))
-all_inside_fact n (x ∷ xs) h zero a t = inside_fact n x (and_both (keeps_inside n x) (list_all (keeps_inside n) xs) h).0 a t
-all_inside_fact n (x ∷ xs) h (suc k) a t = all_inside_fact n xs (and_both (keeps_inside n x) (list_all (keeps_inside n) xs) h).1 k a t
+all_inside_fact n (x ∷ xs) h zero a t = inside_fact n x (and_parts (keeps_inside n x) (list_all (keeps_inside n) xs) h).0 a t
+all_inside_fact n (x ∷ xs) h (suc k) a t = all_inside_fact n xs (and_parts (keeps_inside n x) (list_all (keeps_inside n) xs) h).1 k a t
 
 pub all_inside_test : (n : ℕ) (tiles : List Tile) → ((k a : ℕ) → touches_of (get_or tiles k no_tile) a ≡ true → a < n) → list_all (keeps_inside n) tiles ≡ true
 all_inside_test n [] h = refl
-all_inside_test n (x ∷ xs) h = both_and (keeps_inside n x) (list_all (keeps_inside n) xs)
-    (both_and (are_below n x.reads) (are_below n x.writes) (below_test n x.reads (λ a t. h 0 a (or_left (has a x.reads) (has a x.writes) t))) (below_test n x.writes (λ a t. h 0 a (or_right (has a x.reads) (has a x.writes) t))))
+all_inside_test n (x ∷ xs) h = and_from (keeps_inside n x) (list_all (keeps_inside n) xs)
+    (and_from (are_below n x.reads) (are_below n x.writes) (below_test n x.reads (λ a t. h 0 a (or_left (has a x.reads) (has a x.writes) t))) (below_test n x.writes (λ a t. h 0 a (or_right (has a x.reads) (has a x.writes) t))))
     (all_inside_test n xs (λ k a t. h (suc k) a t))
 
 -- two tiles that were found not to be apart

@@ -1,16 +1,16 @@
 -- A load of the flag keeps the invariant: the seat remembers whether it saw the flag at its epoch.
 use Rattle.std.proofs.Common.{◌≡◌, ◌≢◌, ℕ, ◌<◌, true, ◌||◌, eqb, List, ◌∷◌, set, ⊎_elim, refl, ◌∙◌, arith}
+use Rattle.std.proofs.lemmas.Bool.{eqb-true, or_cases}
 use Rattle.core_steps.specs.declared.view.View.{View}
 use Rattle.core_steps.specs.Views.{seeing_view, spent_view}
 use Rattle.core_steps.specs.States.{flag_of}
 use Rattle.core_steps.specs.Invariant.{At, IsLentBy, Inv}
-use Rattle.core_steps.proofs.NumberLists.{or_cases, equal_of_test}
 use Rattle.core_steps.proofs.ViewLists.{each_set, each_kept, somewhere_set, one_set}
 use Rattle.core_steps.proofs.Moves.{phase_moves, tiles_stay, values_stay}
 
 -- what the seat then has seen is so
 saw : (words : List ℕ) (v : View) (epoch : ℕ) → v.epoch ≡ epoch → (v.seen ≡ true → flag_of words ≡ epoch) → (v.seen || eqb (flag_of words) v.epoch) ≡ true → flag_of words ≡ epoch
-saw words v epoch same before t = ⊎_elim (λ s. before s) (λ e. equal_of_test (flag_of words) v.epoch e ∙ same) (or_cases v.seen (eqb (flag_of words) v.epoch) t)
+saw words v epoch same before t = ⊎_elim (λ s. before s) (λ e. eqb-true (flag_of words) v.epoch e ∙ same) (or_cases v.seen (eqb (flag_of words) v.epoch) t)
 
 pub see_keeps : (words : List ℕ) (m : View) (views : List View) (i : ℕ) (v : View) → Inv words m views → At views i v → 0 < v.number → Inv words m (set views i (seeing_view v (flag_of words)))
 see_keeps words m views i v h at out = let

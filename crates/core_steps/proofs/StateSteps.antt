@@ -3,6 +3,7 @@ use Rattle.std.proofs.Common.{◌≡◌, ◌≢◌, ℕ, zero, suc, ◌<◌, Boo
 use Rattle.std.specs.List.{list_any}
 use Rattle.std.specs.Prelude.{if◌then◌else◌}
 use Rattle.std.specs.Int.{w64, cast_unsigned}
+use Rattle.std.proofs.lemmas.Bool.{or_cases}
 use mathlib.Core.Option.{some-injective, some-ne-none}
 use mathlib.Core.Logic.{dite}
 use native.Mathlib.Decide.{ℕ_discrete}
@@ -24,7 +25,7 @@ use Rattle.core_steps.proofs.RaiseKeeps.{raise_keeps}
 use Rattle.core_steps.proofs.ClaimKeeps.{claim_keeps}
 use Rattle.core_steps.proofs.JoinKeeps.{join_keeps}
 use Rattle.core_steps.proofs.SettleKeeps.{settle_keeps}
-use Rattle.core_steps.proofs.NumberLists.{or_cases, has_here, has_there}
+use Rattle.core_steps.proofs.NumberLists.{has_here, has_there}
 
 -- the view of a worker in the list, its place there, and what it means to put another in its place
 pub record IsFound (w : ℕ) (views : List View) : Type 0 where

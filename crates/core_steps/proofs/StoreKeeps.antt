@@ -1,5 +1,6 @@
 -- A store keeps the invariant: a worker's, to a write of a tile that it holds, and main's between phases.
 use Rattle.std.proofs.Common.{◌≡◌, ◌≢◌, ℕ, ◌<◌, ◌≤◌, true, false, true≢false, List, ◌∷◌, length, Some, set, refl, sym, ap, ◌∙◌, subst, arith, length-set}
+use Rattle.std.proofs.lemmas.Bool.{or_right}
 use mathlib.Core.Logic.{dite}
 use native.Mathlib.Decide.{ℕ_discrete}
 use Rattle.core_steps.specs.declared.plan.Plan.{Plan}
@@ -9,7 +10,7 @@ use Rattle.core_steps.specs.Numbers.{has}
 use Rattle.core_steps.specs.Views.{Holds, stored_at, storing_view, based_view}
 use Rattle.core_steps.specs.States.{memory_word, word_of}
 use Rattle.core_steps.specs.Invariant.{At, IsEmptyHanded, PhaseIsSound, TilesAreSound, ValuesAreSound, Inv}
-use Rattle.core_steps.proofs.NumberLists.{or_right, not_both}
+use Rattle.core_steps.proofs.NumberLists.{not_both}
 use Rattle.core_steps.proofs.StoreLists.{no_option, stored_same, stored_other}
 use Rattle.core_steps.proofs.ViewLists.{each_set, set_here}
 use Rattle.core_steps.proofs.WordLists.{flag-set_memory, claim-set_memory, word-set_other, word-set_same, shows_store}

@@ -1,6 +1,6 @@
 -- The flag, the claims and the memory words, after a write of another word.
 use Rattle.std.proofs.Common.{◌≡◌, ◌≢◌, ℕ, ◌+◌, ◌-◌, ◌<◌, ◌≤◌, List, length, get_or, set, drop, sym, ap, ◌∙◌, arith, length-set, length-drop, get_or-set_same, get_or-set_other}
-use Rattle.std.proofs.lemmas.List.{get_or-drop}
+use Rattle.std.proofs.lemmas.List.{get_or-drop, ext_get_or}
 use mathlib.Core.Logic.{dite}
 use native.Mathlib.Decide.{ℕ_discrete}
 use Rattle.core_steps.specs.States.{claim_word, memory_word, flag_of, claim_of, word_of, memory_of}
@@ -55,3 +55,8 @@ shows_store words base a x h lt = let
           (λ e. ap (λ (j : ℕ). word_of (set words (memory_word a) x) j) e ∙ word-set_same words a x (omega arith) ∙ sym (get_or-set_same base a x 0 lt) ∙ ap (λ (j : ℕ). get_or (set base a x) j 0) (sym e))
           (λ ne. word-set_other words a b x ne ∙ h.values b (omega arith) ∙ sym (get_or-set_other base a b x 0 ne));
     }
+
+-- a list that has the memory's values is the memory
+pub memory_shown : (words base : List ℕ) → ShowsMemory words base → memory_of words ≡ base
+memory_shown words base h = let wide = h.width in let all = shows_memory words (omega arith) in let same = all.width in let len : length (memory_of words) ≡ length base = omega arith in
+    ext_get_or 0 (memory_of words) base len (λ a lt. sym (all.values a lt) ∙ h.values a (omega arith))

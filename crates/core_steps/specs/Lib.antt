@@ -1,5 +1,6 @@
 pub mod Numbers
 pub mod Plans
+pub mod Writers
 pub mod Views
 pub mod States
 pub mod Places

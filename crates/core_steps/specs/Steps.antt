@@ -72,11 +72,25 @@ answer_of (Claim w k) s = pos (claim_of s.words k)
 answer_of Settle s = pos (flag_of s.words)
 answer_of _ s = pos 0
 
--- what `apply` answers and leaves: the answer and the state after a lawful step, and the state as it was after a refusal
+-- the steps that take memory: those that begin or end a phase, lend a seat or take it back, and those of which a
+-- worker's view keeps a note
+abbrev pub TakesMemory : Step → Type 0
+TakesMemory (Post plan) = Unit {0}
+TakesMemory (Split w) = Unit {0}
+TakesMemory (Load i a) = ⊥
+TakesMemory (Store i a x) = 0 < i
+TakesMemory (See i) = ⊥
+TakesMemory (Raise w) = ⊥
+TakesMemory (Claim w k) = Unit {0}
+TakesMemory (Join w) = Unit {0}
+TakesMemory Settle = Unit {0}
+
+-- what `apply` answers and leaves: the answer and the state after a lawful step, and the state as it was after a
+-- refusal; want of memory refuses only a step that takes some
 abbrev pub IsApplied : Step → State → Result ℤ CoreEnd → State → Type 0
 IsApplied x s (Ok answer) t = Lawful x s × (answer ≡ answer_of x s) × (t ≡ state_after x s)
 IsApplied x s (Err Unlawful) t = (¬ Lawful x s) × (t ≡ s)
-IsApplied x s (Err NoMemory) t = t ≡ s
+IsApplied x s (Err NoMemory) t = TakesMemory x × (t ≡ s)
 
 -- the lawful steps of the list lead from s to t
 abbrev pub Runs : List Step → State → State → Type 0

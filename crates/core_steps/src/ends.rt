@@ -5,10 +5,6 @@ ghost use Rattle.core_steps.specs.declared.ends.CoreEnd.TheVariants.{NoMemory as
 use std::alloc::{AllocError, AllocFailed};
 use thiserror::Error;
 
-/// A growth that was refused.
-#[derive(Clone, Copy, Debug, PartialEq, Eq)]
-pub struct NoMemory;
-
 /// Why a step was not done. The core is then as it was.
 #[derive(Clone, Copy, Debug, PartialEq, Eq, Error)]
 pub enum CoreEnd {
@@ -18,12 +14,6 @@ pub enum CoreEnd {
     /// There was no room for what the step adds.
     #[error("out of memory")]
     NoMemory,
-}
-
-impl From<AllocError> for NoMemory {
-    fn from(_: AllocError) -> Self {
-        NoMemory
-    }
 }
 
 impl From<AllocError> for CoreEnd {

@@ -18,8 +18,9 @@ mod step;
 #[cfg(test)]
 mod tests;
 mod view;
+mod writers;
 
-pub use ends::{CoreEnd, NoMemory};
+pub use ends::CoreEnd;
 pub use machine::Core;
 pub use plan::{Plan, Tile};
 pub use sequence::Sequence;

@@ -7,7 +7,7 @@ ghost use Rattle.core_steps.specs.States.{IsOut, view_of, memory_of, start_of, b
 ghost use Rattle.core_steps.specs.Places.{IsPlaceFound};
 ghost use Rattle.core_steps.specs.Steps.{IsApplied, IsPlan, MayTouch, MayLoad};
 
-use crate::ends::{CoreEnd, NoMemory};
+use crate::ends::CoreEnd;
 use crate::plan::Plan;
 use crate::sequence::Sequence;
 use crate::step::Step;
@@ -44,7 +44,7 @@ impl Model for Core {
 
 impl Core {
     /// A core at epoch 0 with these words in its memory and no plan.
-    pub fn new(alloc: Global, words: &[i64]) -> Result<Core, NoMemory>
+    pub fn new(alloc: Global, words: &[i64]) -> Result<Core, AllocError>
         ensures { IfOk result (λ core. core ≡ start_of words.now) }
     {
         let base = bits(alloc, words)?;
@@ -64,7 +64,9 @@ impl Core {
     }
 
     /// Does one step and gives its answer, 0 where a step has none. Refuses a step exactly where its condition fails,
-    /// and leaves the core as it was after either refusal.
+    /// and leaves the core as it was after either refusal. Want of memory is answered only of the steps that take
+    /// some: a post, a split, a worker's store, a claim, a join and a settle. A load, a see, a raise and main's own
+    /// store take none.
     pub fn apply(&mut self, alloc: Global, step: &Step) -> Result<i64, CoreEnd>
         requires epoch { (plan : APlan) → step.now ≡ Step.Post plan → self.old.main.epoch < 2 ^ 63 - 1 }
         ensures { IsApplied step.now self.old result self.new }

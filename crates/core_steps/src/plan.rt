@@ -4,6 +4,7 @@ ghost use Rattle.core_steps.specs.Plans.{touches, writes, IsSeparate, IsInside, 
 ghost use Rattle.std.specs.List.{list_all};
 
 use crate::sequence::Sequence;
+use crate::writers::are_separate;
 use std::alloc::{AllocError, Global};
 
 /// The addresses that one tile may load from, and those that it may load from and store to.
@@ -126,11 +127,16 @@ impl Plan {
         }
     }
 
-    /// Whether no write of one tile is a read or a write of another tile.
+    /// Whether no write of one tile is a read or a write of another tile. Takes one look-up for each address, in a
+    /// table that it makes; where there is no room for one, each two tiles are compared, with the same answer.
     pub fn separate(&self) -> bool
         ensures { IsTrue result ↔ IsSeparate self.now }
     {
-        all_write_alone(self.tiles.as_slice())
+        let tiles = self.tiles.as_slice();
+        match are_separate(self.tiles.allocator(), tiles) {
+            Ok(separate) => separate,
+            Err(_) => all_write_alone(tiles),
+        }
     }
 
     /// Whether all addresses are below `count`.

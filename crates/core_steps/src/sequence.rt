@@ -49,6 +49,11 @@ impl<T> Sequence<T> {
         self.items.as_slice()
     }
 
+    /// Where the items take their memory.
+    pub fn allocator(&self) -> Global {
+        *self.items.allocator()
+    }
+
     pub fn len(&self) -> usize
         ensures { result ≡ length self.now }
     {

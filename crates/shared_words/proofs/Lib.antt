@@ -1,0 +1,4 @@
+pub mod SeatLaws
+pub mod WorkerSteps
+pub mod MainSteps
+pub mod ViewSteps
