@@ -53,7 +53,7 @@ module _ (f : Frame) (verified : f.expects.verifies ≡ true) where
   loads_alike : (m w : List ℤ) → AlikeWhereLoaded f.expects m w → look_load f.expects m ≡ look_load f.expects w
   loads_alike m w h = λ i access z. load_alike access m w z h i
 
-  told_alike : (s t : Store) (e : Expr) → StoreAlike s t → told f s e ≡ told f t e
+  pub told_alike : (s t : Store) (e : Expr) → StoreAlike s t → told f s e ≡ told f t e
   told_alike s t e h = ap₂ (λ (sc lo : List ℤ). told_by f sc lo (look_load f.expects s.memory) e) h.scalars h.locals ∙ ap (λ (find : ℕ → ℤ → Result ℤ Stop). told_by f t.scalars t.locals find e) (loads_alike s.memory t.memory h.memory)
 
   -- a store is refused in both or in none; the word that it replaces is no matter

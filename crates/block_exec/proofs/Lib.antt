@@ -6,8 +6,10 @@ pub mod EveryBlock
 pub mod ExpressionLaws
 pub mod HeadLaws
 pub mod InstanceLaws
+pub mod InstanceNear
 pub mod MemoryLaws
 pub mod PlaceLaws
+pub mod PlainOrStop
 pub mod QuietLaws
 pub mod RunLaws
 pub mod StatementLaws

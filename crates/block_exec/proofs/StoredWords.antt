@@ -20,11 +20,11 @@ look-verified true expected memory z e = refl
 look-verified false expected memory z e = absurd (cc)
 
 module _ (f : Frame) (verified : f.expects.verifies ≡ true) where
-  abbrev Goes : Effect → Type 0
+  abbrev pub Goes : Effect → Type 0
   Goes (Word address value) = IsStored f.expects address
   Goes effect = Unit {0}
 
-  abbrev Stays : List Entry → Type 0
+  abbrev pub Stays : List Entry → Type 0
   Stays es = AllByRecursion (λ e. Goes e.effect) es
 
   Inside : (Store → Trace) → Type 0
@@ -77,7 +77,7 @@ module _ (f : Frame) (verified : f.expects.verifies ≡ true) where
       let st = statement_level f x s in
       stays_joined st.halt (st.entry ∷ []) (in_turn st.rest (effect_on s st.entry.effect)) (level_inside x s, tt) (turn_inside st.rest (rest s) (effect_on s st.entry.effect))
 
-  block_inside : (block : List Stmt) (s : Store) → Stays (block_trace f block s).entries
+  pub block_inside : (block : List Stmt) (s : Store) → Stays (block_trace f block s).entries
   unfolding Inside block_trace
   block_inside block s = turn_inside (map (statement_trace f) block) (every_block f Inside traced_inside block) s
 
@@ -94,7 +94,7 @@ module _ (f : Frame) (verified : f.expects.verifies ≡ true) where
   effect_leaves s (Scalar i v) n none goes = refl
   effect_leaves s (Word i v) n none goes = get_set_other s.memory i n v (λ e. none (subst (IsStored f.expects) e goes))
 
-  after_leaves : (s : Store) (es : List Entry) (n : ℕ) → (IsStored f.expects n → ⊥) → Stays es → slice_get (after_all s es).memory n ≡ slice_get s.memory n
+  pub after_leaves : (s : Store) (es : List Entry) (n : ℕ) → (IsStored f.expects n → ⊥) → Stays es → slice_get (after_all s es).memory n ≡ slice_get s.memory n
   after_leaves s [] n none all = refl
   after_leaves s (e ∷ es) n none all = after_leaves (effect_on s e.effect) es n none all.1 ∙ effect_leaves s e.effect n none all.0
 

@@ -1,7 +1,7 @@
-ghost use Rattle.std.specs.Prelude.{◌≡◌};
+ghost use Rattle.std.specs.Prelude.{◌≡◌, ◌≤◌, ◌^◌};
 
 use super::*;
-use nest_lang::{BlockRef, Budget, Expr, Head, Op, Part, Place, Stmt, Trap};
+use nest_lang::{BlockRef, Budget, Expr, Op, Part, Place, Stmt, Trap};
 use sqlite_items::{Boxed, Items};
 use std::alloc::{AllocError, Global};
 use std::test::Fail;
@@ -61,39 +61,56 @@ fn pair(alloc: Global, first: Stmt, second: Stmt) -> Result<Items<Stmt>, AllocEr
     Ok(block)
 }
 
-/// An `if` of two statements on either side, run where scalar 0 has a value: how it ended, the words, the
-/// scalars and the steps.
-fn run_if(
-    alloc: Global,
-    choice: i64,
-) -> Result<(BlockEnd, [i64; 2], [i64; 2], Budget), AllocError> {
-    let first = pair(alloc, store(0, 7), store(1, 9))?;
-    let second = pair(alloc, store(0, 8), Stmt::Set(1, Expr::Number(5)))?;
-    let mut block = Items::new(alloc);
-    block.push(Stmt::If(scalar(0), first, second))?;
+/// After an instance: how it ended and why, the words, the scalars and the steps that are left.
+#[derive(Drop)]
+struct After {
+    end: Result<(), Cut>,
+    halt: Halt,
+    memory: [i64; 2],
+    scalars: [i64; 2],
+    left: u64,
+}
+
+/// Runs an instance of a block over two words that are 0 and these scalars.
+fn run_block<W: Watch>(block: &[Stmt], scalars: [i64; 2], left: u64, watch: &mut W) -> After
+    requires { left ≤ 2 ^ 32 }
+{
     let mut memory = [0, 0];
-    let mut scalars = [choice, 0];
-    let mut steps = Budget { left: 10, used: 0 };
+    let mut scalars = scalars;
     let mut port = MemoryPort::new(&mut memory);
-    let end = exec_block(
-        AT,
-        block.as_slice(),
-        &mut scalars,
-        &[],
-        &[],
-        &mut port,
-        &mut steps,
-        &mut Blind,
-    );
-    Ok((end, memory, scalars, steps))
+    let mut run = Run {
+        scalars: &mut scalars,
+        locals: [0; 16],
+        port: &mut port,
+        steps: Budget { left, used: 0 },
+        watch,
+        halt: Halt::NONE,
+    };
+    let places = Places::new();
+    let end = run.block(&places.site(AT, 0), block);
+    let (halt, left) = (run.halt, run.steps.left);
+    After {
+        end,
+        halt,
+        memory,
+        scalars,
+        left,
+    }
 }
 
 #[test]
 fn an_if_runs_one_branch_and_counts_it(rt: HostRuntime) -> Result<(), Fail> {
     let alloc = rt.alloc();
-    let steps = Budget { left: 7, used: 3 };
-    assert_eq!(rt; run_if(alloc, 1)?, (BlockEnd::Ended, [7, 9], [1, 0], steps));
-    assert_eq!(rt; run_if(alloc, 0)?, (BlockEnd::Ended, [8, 0], [0, 5], steps));
+    let first = pair(alloc, store(0, 7), store(1, 9))?;
+    let second = pair(alloc, store(0, 8), Stmt::Set(1, Expr::Number(5)))?;
+    let mut block = Items::new(alloc);
+    block.push(Stmt::If(scalar(0), first, second))?;
+    let after = run_block(block.as_slice(), [1, 0], 10, &mut Blind);
+    assert_eq!(rt; after.end, Ok(()));
+    assert_eq!(rt; (after.memory, after.scalars, after.left), ([7, 9], [1, 0], 7));
+    let after = run_block(block.as_slice(), [0, 0], 10, &mut Blind);
+    assert_eq!(rt; after.end, Ok(()));
+    assert_eq!(rt; (after.memory, after.scalars, after.left), ([8, 0], [0, 5], 7));
     Ok(())
 }
 
@@ -103,24 +120,10 @@ fn a_trap_in_mid_block_keeps_the_effects_before_it(rt: HostRuntime) -> Result<()
     let quotient = two(alloc, Op::Div, Expr::Number(1), scalar(0))?;
     let mut block = pair(alloc, store(0, 7), Stmt::Set(0, quotient))?;
     block.push(store(1, 9))?;
-    let mut memory = [0, 0];
-    let mut scalars = [0];
-    let mut steps = Budget { left: 10, used: 3 };
-    let mut port = MemoryPort::new(&mut memory);
-    let end = exec_block(
-        AT,
-        block.as_slice(),
-        &mut scalars,
-        &[],
-        &[],
-        &mut port,
-        &mut steps,
-        &mut Blind,
-    );
-    assert_eq!(rt; end, BlockEnd::Trapped(Trap::ZeroDivisor));
-    assert_eq!(rt; memory, [7, 0]);
-    assert_eq!(rt; scalars, [0]);
-    assert_eq!(rt; steps, Budget { left: 8, used: 5 });
+    let after = run_block(block.as_slice(), [0, 0], 10, &mut Blind);
+    assert_eq!(rt; after.end, Err(Cut::Halted));
+    assert_eq!(rt; after.halt, Halt::Trapped(Trap::ZeroDivisor));
+    assert_eq!(rt; (after.memory, after.scalars, after.left), ([7, 0], [0, 0], 8));
     Ok(())
 }
 
@@ -130,26 +133,15 @@ fn an_address_is_shown_where_it_is_refused(rt: HostRuntime) -> Result<(), Fail> 
     let mut block = Items::new(alloc);
     let value = load(alloc, 1, Expr::Number(5))?;
     block.push(Stmt::Store(2, Expr::Number(0), value))?;
-    let mut memory = [4, 4];
-    let mut scalars = [6];
-    let mut steps = Budget { left: 10, used: 0 };
     let mut watch = Record::new(alloc);
-    let mut port = MemoryPort::new(&mut memory);
-    let end = exec_block(
-        AT,
-        block.as_slice(),
-        &mut scalars,
-        &[],
-        &[],
-        &mut port,
-        &mut steps,
-        &mut watch,
-    );
-    assert_eq!(rt; end, BlockEnd::Trapped(Trap::Outside(5)));
-    assert_eq!(rt; memory, [4, 4]);
+    let after = run_block(block.as_slice(), [6, 4], 10, &mut watch);
+    assert_eq!(rt; after.end, Err(Cut::Halted));
+    assert_eq!(rt; after.halt, Halt::Trapped(Trap::Outside(5)));
+    assert_eq!(rt; after.memory, [0, 0]);
     let want = [
         (Seen::Start, 0),
         (Seen::Scalar(0), 6),
+        (Seen::Scalar(1), 4),
         (Seen::Address(1), 5),
     ];
     assert_eq!(rt; &watch.seen[..], &want[..]);
@@ -160,63 +152,63 @@ fn an_address_is_shown_where_it_is_refused(rt: HostRuntime) -> Result<(), Fail> 
 fn a_block_without_steps_shows_its_scalars(rt: HostRuntime) -> Result<(), Fail> {
     let alloc = rt.alloc();
     let block = pair(alloc, store(0, 7), store(1, 9))?;
-    let mut memory = [0, 0];
-    let mut scalars = [6];
-    let mut steps = Budget { left: 0, used: 0 };
     let mut watch = Record::new(alloc);
-    let mut port = MemoryPort::new(&mut memory);
-    let end = exec_block(
-        AT,
-        block.as_slice(),
-        &mut scalars,
-        &[],
-        &[],
-        &mut port,
-        &mut steps,
-        &mut watch,
-    );
-    assert_eq!(rt; end, BlockEnd::Limited);
-    assert_eq!(rt; memory, [0, 0]);
-    let want = [(Seen::Start, 0), (Seen::Scalar(0), 6)];
+    let after = run_block(block.as_slice(), [6, 4], 0, &mut watch);
+    assert_eq!(rt; after.end, Err(Cut::Limited));
+    assert_eq!(rt; after.memory, [0, 0]);
+    let want = [(Seen::Start, 0), (Seen::Scalar(0), 6), (Seen::Scalar(1), 4)];
     assert_eq!(rt; &watch.seen[..], &want[..]);
     Ok(())
 }
 
 #[test]
-fn a_for_yields_its_bounds(rt: HostRuntime) -> Result<(), Fail> {
+fn a_block_without_statements_shows_nothing(rt: HostRuntime) -> Result<(), Fail> {
+    let alloc = rt.alloc();
+    let mut watch = Record::new(alloc);
+    let after = run_block(&[], [6, 4], 0, &mut watch);
+    assert_eq!(rt; after.end, Ok(()));
+    assert_eq!(rt; watch.seen.len(), 0);
+    Ok(())
+}
+
+#[test]
+fn heads_show_what_they_yield(rt: HostRuntime) -> Result<(), Fail> {
     let alloc = rt.alloc();
     let lower = load(alloc, 1, Expr::Number(0))?;
-    let head = Head::For(lower, Expr::Number(0), -4);
     let mut memory = [9];
-    let mut steps = Budget { left: 1, used: 0 };
+    let mut scalars = [];
     let mut watch = Record::new(alloc);
     let mut port = MemoryPort::new(&mut memory);
-    let end = exec_head(AT, &head, &[], &[], &[], &mut port, &mut steps, &mut watch);
-    assert_eq!(rt; end, HeadEnd::For(9, 3));
-    assert_eq!(rt; steps, Budget { left: 0, used: 1 });
+    let mut run = Run {
+        scalars: &mut scalars,
+        locals: [0; 16],
+        port: &mut port,
+        steps: Budget { left: 2, used: 0 },
+        watch: &mut watch,
+        halt: Halt::NONE,
+    };
+    let places = Places::new();
+    let site = places.site(AT, 0);
+    let bounds = run.bounds(&site, &lower, &Expr::Number(0), -4);
+    let want = Bounds {
+        lower: 9,
+        stride: -4,
+        trip: 3,
+    };
+    assert_eq!(rt; bounds, Ok(want));
+    let condition = two(alloc, Op::Lt, Expr::Number(2), Expr::Number(2))?;
+    assert_eq!(rt; run.condition(&site, &condition), Ok(false));
+    assert_eq!(rt; run.condition(&site, &condition), Err(Cut::Limited));
+    assert_eq!(rt; run.steps, Budget { left: 0, used: 2 });
     let want = [
         (Seen::Start, 0),
         (Seen::Address(1), 0),
         (Seen::Lower, 9),
         (Seen::Trip, 3),
+        (Seen::Start, 0),
+        (Seen::Condition, 0),
+        (Seen::Start, 0),
     ];
     assert_eq!(rt; &watch.seen[..], &want[..]);
-    Ok(())
-}
-
-#[test]
-fn a_while_yields_its_condition(rt: HostRuntime) -> Result<(), Fail> {
-    let alloc = rt.alloc();
-    let head = Head::While(two(alloc, Op::Lt, scalar(0), Expr::Number(2))?);
-    let mut memory = [];
-    let mut steps = Budget { left: 1, used: 0 };
-    let mut watch = Record::new(alloc);
-    let mut port = MemoryPort::new(&mut memory);
-    let end = exec_head(AT, &head, &[2], &[], &[], &mut port, &mut steps, &mut watch);
-    assert_eq!(rt; end, HeadEnd::While(false));
-    let want = [(Seen::Start, 0), (Seen::Scalar(0), 2), (Seen::Condition, 0)];
-    assert_eq!(rt; &watch.seen[..], &want[..]);
-    let end = exec_head(AT, &head, &[2], &[], &[], &mut port, &mut steps, &mut Blind);
-    assert_eq!(rt; end, HeadEnd::Limited);
     Ok(())
 }

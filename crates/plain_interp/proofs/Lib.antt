@@ -6,7 +6,4 @@ pub mod OuterTurns
 pub mod Positions
 pub mod Rans
 pub mod Several
-pub mod StopsShort
-pub mod TurnLaws
 pub mod Turns
-pub mod Unstopped

@@ -8,7 +8,6 @@
 //! linear in the steps.
 #![tactic(auto)]
 
-pub mod laws;
 mod loops;
 mod outer;
 mod plain;

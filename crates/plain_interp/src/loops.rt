@@ -38,6 +38,7 @@ impl Level<'_> {
 /// Runs the loop of a level. Of the places it reads those of the loops around it, and leaves them as they
 /// are.
 #[cycle(loops)]
+#[inline(never)]
 pub fn run_loop<P: Port, W: Watch>(
     run: &mut Run<'_, P, W>,
     at: &Level<'_>,
@@ -119,6 +120,7 @@ fn run_while<P: Port, W: Watch>(
 /// Runs one turn of a level's loop, whose turn number and value are set: the block before the inner
 /// loops, these, and the block after them.
 #[cycle(loops)]
+#[inline(always)]
 pub fn run_turn<P: Port, W: Watch>(
     run: &mut Run<'_, P, W>,
     at: &Level<'_>,

@@ -42,7 +42,7 @@ pub fn enter<P: Port, W: Watch>(run: &mut Run<'_, P, W>, nest: &Nest) -> Entered
     requires rules { loops_keep nest.now.loops ≡ true }
     requires plain { (P.expects run.old.port.now).verifies ≡ false }
     ensures entry { IsEntry W.may nest.now.loops (P.expects run.old.port.now) (outside P.memory run.old) (outside P.memory run.new) result }
-    ensures position { (outer : _) → result ≡ Entered.At outer → IsPositionIn nest.now.loops outer }
+    ensures position { (outer : _) → result ≡ Entered.At outer → IsPositionIn nest.now.loops outer × (outer.next ≡ pos 0) }
     ensures kept { Kept P.expects P.basis run.old run.new }
 {
     let Some(first) = nest.loops.get(0) else {

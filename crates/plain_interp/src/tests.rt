@@ -2,9 +2,9 @@ ghost use Rattle.std.specs.Prelude.{◌≡◌, ◌≤◌, ◌^◌, ◌≤ℤ◌,
 ghost use Rattle.nest_lang.specs.Rules.{strides, has_statements, loops_keep};
 
 use super::*;
-use block_exec::{Blind, MemoryPort, Watch};
+use block_exec::{Blind, Halt, MemoryPort, Run, Watch};
 use nest_lang::{
-    BlockRef, Budget, Ending, Expr, Head, Loop, Nest, Op, Outer, Place, Seen, State, Stmt, Trap,
+    BlockRef, Budget, Ending, Expr, Head, Loop, Nest, Op, Place, Seen, State, Stmt, Trap,
     Turned,
 };
 use sqlite_items::{Boxed, Items};
@@ -278,14 +278,14 @@ fn two_nests_over_one_budget(rt: HostRuntime) -> Result<(), Fail> {
     Ok(())
 }
 
-/// Enters a nest and runs two lots of turns of it: how the second ended, the number of the next turn and
-/// the steps.
-fn in_two(
+/// Enters a nest and runs two lots of turns of it, under a watch: how the second ended, the number of the
+/// next turn and the steps.
+fn in_two<W: Watch>(
     nest: &Nest,
     state: &mut State,
+    watch: &mut W,
     limit: u64,
-    first: u64,
-    second: u64,
+    lots: (u64, u64),
 ) -> Option<(Turned, i64, u64)>
     requires rules { loops_keep nest.now.loops ≡ true }
     requires limit { limit ≤ 2 ^ 32 }
@@ -293,25 +293,27 @@ fn in_two(
 {
     let State { memory, scalars } = state;
     let mut port = MemoryPort::new(memory);
-    let mut steps = Budget {
-        left: limit,
-        used: 0,
+    let mut run = Run {
+        scalars,
+        locals: [0; 16],
+        port: &mut port,
+        steps: Budget {
+            left: limit,
+            used: 0,
+        },
+        watch,
+        halt: Halt::NONE,
     };
-    let mut outer = match enter(nest, scalars, &mut port, &mut steps) {
+    let mut outer = match enter(&mut run, nest) {
         Entered::At(outer) => outer,
         Entered::Trapped(_) => return None,
         Entered::Limited => return None,
     };
-    if run_turns(
-        nest, &mut outer, scalars, &mut port, first, &mut steps, &mut Blind,
-    ) != Turned::Went
-    {
+    if run_turns(&mut run, nest, &mut outer, lots.0) != Turned::Went {
         return None;
     }
-    let turned = run_turns(
-        nest, &mut outer, scalars, &mut port, second, &mut steps, &mut Blind,
-    );
-    Some((turned, outer.next, steps.used))
+    let turned = run_turns(&mut run, nest, &mut outer, lots.1);
+    Some((turned, outer.next, run.steps.used))
 }
 
 #[test]
@@ -320,26 +322,26 @@ fn some_turns_and_then_more(rt: HostRuntime) -> Result<(), Fail> {
     let mut state_of_trap = state(alloc, 100, 0)?;
     let trapped = Some((Turned::Trapped(Trap::ZeroDivisor), 41, 43));
     assert_eq!(rt;
-        in_two(&dividing(alloc)?, &mut state_of_trap, 1000, 36, 24),
+        in_two(&dividing(alloc)?, &mut state_of_trap, &mut Blind, 1000, (36, 24)),
         trapped
     );
     assert!(rt; are(&state_of_trap, 0, 41, 7, 0));
     let mut state_of_limit = state(alloc, 300, 0)?;
     let limited = Some((Turned::Limited, 49, 50));
     assert_eq!(rt;
-        in_two(&copying(alloc)?, &mut state_of_limit, 50, 36, 32),
+        in_two(&copying(alloc)?, &mut state_of_limit, &mut Blind, 50, (36, 32)),
         limited
     );
     let mut state_of_list = linked(alloc)?;
     let ended = Some((Turned::Ended, 69, 208));
     assert_eq!(rt;
-        in_two(&following(alloc)?, &mut state_of_list, 1000, 68, 32),
+        in_two(&following(alloc)?, &mut state_of_list, &mut Blind, 1000, (68, 32)),
         ended
     );
     let mut state_of_all = state(alloc, 300, 0)?;
     let went = Some((Turned::Went, 100, 101));
     assert_eq!(rt;
-        in_two(&copying(alloc)?, &mut state_of_all, 1000, 36, 64),
+        in_two(&copying(alloc)?, &mut state_of_all, &mut Blind, 1000, (36, 64)),
         went
     );
     Ok(())
@@ -363,33 +365,19 @@ impl Watch for Addresses {
     }
 }
 
+/// The head shows that it is due, the scalar, its lower bound and the number of turns; each turn that it is
+/// due, the scalar and two addresses.
 #[test]
-fn a_watch_is_shown_the_turns(rt: HostRuntime) -> Result<(), Fail> {
+fn a_watch_is_shown_the_entry_and_the_turns(rt: HostRuntime) -> Result<(), Fail> {
     let alloc = rt.alloc();
-    let nest = copying(alloc)?;
     let mut state = state(alloc, 300, 0)?;
-    let mut outer = Outer {
-        lower: 0,
-        next: 0,
-        left: Some(100),
-    };
-    let mut steps = Budget {
-        left: 1000,
-        used: 0,
-    };
     let mut watch = Addresses { shown: 0, sum: 0 };
-    let State { memory, scalars } = &mut state;
-    let mut port = MemoryPort::new(memory);
-    let Entered::At(entered) = enter(&nest, scalars, &mut port, &mut steps) else {
-        return Ok(());
-    };
-    assert_eq!(rt; entered, outer);
-    outer = entered;
-    let turned = run_turns(
-        &nest, &mut outer, scalars, &mut port, 3, &mut steps, &mut watch,
+    let went = Some((Turned::Went, 3, 4));
+    assert_eq!(rt;
+        in_two(&copying(alloc)?, &mut state, &mut watch, 1000, (1, 2)),
+        went
     );
-    assert_eq!(rt; turned, Turned::Went);
-    assert_eq!(rt; watch.shown, 12);
+    assert_eq!(rt; watch.shown, 16);
     assert_eq!(rt; watch.sum, 606);
     Ok(())
 }

@@ -1,5 +1,6 @@
-use Rattle.std.proofs.Common.{rules, refl, sym, ◌∙◌, ◌≡◌, pos, Some, FitsSigned, w64, to_z, of_z}
+use Rattle.std.proofs.Common.{rules, refl, ap, sym, ◌∙◌, ◌≡◌, pos, Some, FitsSigned, w64, to_z, of_z}
 use Rattle.std.proofs.lemmas.Int.{to_z-of_z}
+use Rattle.nest_lang.specs.declared.state.Outer.{Outer}
 use Rattle.nest_lang.specs.Loops.{outside}
 use Rattle.block_exec.specs.Runs as run
 use Rattle.plain_interp.proofs.LevelLaws.{stride-not_0, head-at}
@@ -29,7 +30,10 @@ returns-in-Ok-clause-position g c = λ outer entered.
     let lower : FitsSigned w64 c.in-Ok.bounds.lower = search rules in
     let same : c.in-Ok.bounds.stride ≡ c.in-For.stride = simp to_z-of_z at c.in-Ok.ensures.turns.0 in
     let at : record { lower = c.in-Ok.bounds.lower; next = pos 0; left = Some c.in-Ok.bounds.trip } ≡ outer = let h = simp to_z-of_z at entered in cc in
-    position-entered c.args.nest.now.loops c.in-Some.first.now _ _ c.in-For.stride c.in-Ok.bounds outer (rw c.in-Some.is at c.get.ensures.value) c.in-For.is same c.in-Ok.ensures.turns.1 at
+    (
+      position-entered c.args.nest.now.loops c.in-Some.first.now _ _ c.in-For.stride c.in-Ok.bounds outer (rw c.in-Some.is at c.get.ensures.value) c.in-For.is same c.in-Ok.ensures.turns.1 at,
+      ap (λ (o : Outer). o.next) (sym at),
+    )
 
 pub returns-in-Err-Halted-clause-entry : goal.returns-in-Err-Halted-clause-entry
 returns-in-Err-Halted-clause-entry g c =
