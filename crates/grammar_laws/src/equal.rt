@@ -39,7 +39,9 @@ pub fn examples()
 /// Every file that a text is keeps these rules: it has at most 16 scalars, whose names are a letter and then
 /// letters, digits and `_`, at most 32 bytes; at most 1,048,576 words; items that set words of the memory
 /// alone, to values of an i64; one to eight nests, each of one to six loops with no stride 0 and a statement
-/// in the innermost body.
+/// in the innermost body. In each block of a nest the accesses are numbered from 1 on in the order of
+/// evaluation, at most 64; the scalars are the file's, the names those of the loops around it, and the locals
+/// at most 16; and there are fewer than 2^20 statements, nested ones counted.
 #[tactic(auto, using(crate::proofs::Rules::rules_kept))]
 pub fn files_keep_rules()
     ensures { FilesKeepRules }

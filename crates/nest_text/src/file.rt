@@ -3,7 +3,7 @@
 ghost use Rattle.std.specs.Prelude.{◌≡◌, ◌+◌, ◌≤◌, ◌+ℤ◌, ◌*ℤ◌, pos, true, length, map, option_map, slice_get, FitsSigned, IfOk, IfSome};
 ghost use Rattle.std.specs.Int.{w64};
 ghost use Rattle.std.specs.List.{All, prefix_len};
-ghost use Rattle.nest_lang.specs.Rules.{loops_keep};
+ghost use Rattle.nest_lang.specs.Rules.{NestKeeps};
 ghost use Rattle.nest_grammar.specs.Contents.{reading, ramp_fits};
 ghost use Rattle.nest_grammar.specs.Files.{after_item, after_items, first_memory, first_store, nests_of, set_ramp, set_words};
 ghost use Rattle.grammar_laws.specs.Rules.{IsSpelled, KeepsRules, item_fits};
@@ -71,10 +71,11 @@ impl NestFile {
     }
 
     /// A nest, numbered from 0. None exactly where there is no such nest. It has one to six loops, no `for`
-    /// with a step of 0, and a statement in its innermost body.
+    /// with a step of 0, and a statement in its innermost body; in each of its blocks the accesses are
+    /// numbered from 1 on in the order of evaluation, at most 64, and the scalars are those of the file.
     pub fn nest(&self, number: usize) -> Option<&Nest>
         ensures nest { option_map (λ nest. nest.now) result ≡ slice_get (nests_of self.now) number }
-        ensures rules { IfSome result (λ nest. loops_keep nest.now.loops ≡ true) }
+        ensures rules { IfSome result (λ nest. NestKeeps (length self.now.scalars) nest.now.loops) }
     {
         match self.file.units.get(number) {
             Some(unit) => Some(&unit.nest),
