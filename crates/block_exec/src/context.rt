@@ -49,12 +49,7 @@ impl<P: Port, W: Watch> Run<'_, P, W> {
         ensures watch { W.may self.old.watch.now (observed site.now.block site.now.counters.now (Address access) address) self.new.watch.now }
         ensures looked { Looked P.memory P.expects P.basis self.old self.new }
     {
-        self.watch.see(
-            site.block,
-            site.counters,
-            Seen::Address(access),
-            i128::from(address),
-        );
+        self.show(site, Seen::Address(access), address);
         match self.port.load(access, address) {
             Ok(word) => Ok(word),
             Err(stop) => {

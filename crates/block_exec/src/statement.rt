@@ -96,12 +96,7 @@ impl<P: Port, W: Watch> Run<'_, P, W> {
         ensures err { OnErr result (P.memory self.new.port.now ≡ P.memory self.old.port.now) }
         ensures stored { Stored P.expects P.basis self.old self.new }
     {
-        self.watch.see(
-            site.block,
-            site.counters,
-            Seen::Address(access),
-            i128::from(address),
-        );
+        self.show(site, Seen::Address(access), address);
         match self.port.store(access, address, value) {
             Ok(()) => Ok(()),
             Err(stop) => {

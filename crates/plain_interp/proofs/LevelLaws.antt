@@ -1,5 +1,5 @@
 -- Levels: what runs of their blocks and heads say at their places.
-use Rattle.std.proofs.Common.{◌≡◌, refl, ap, ◌∙◌, sym, subst, ℕ, ◌<◌, ◌+◌, ◌-◌, ℤ, pos, negsuc, ◌≤ℤ◌, unsigned_abs, List, [], ◌∷◌, Option, Some, None, Result, Ok, Err, true, not, arith}
+use Rattle.std.proofs.Common.{◌≡◌, refl, ap, ◌∙◌, sym, subst, ℕ, ◌<◌, ◌+◌, ◌-◌, ℤ, pos, negsuc, ◌≤ℤ◌, unsigned_abs, List, [], ◌∷◌, length, Option, Some, None, Result, Ok, Err, true, not, arith}
 use Rattle.std.proofs.lemmas.Int.{ints}
 use Rattle.nest_lang.specs.declared.tree.BlockRef.{BlockRef}
 use Rattle.nest_lang.specs.declared.tree.Expr.{Expr}
@@ -12,7 +12,7 @@ use Rattle.nest_lang.specs.declared.tree.Stmt.{Stmt}
 use Rattle.nest_lang.specs.Values.{same}
 use Rattle.nest_lang.specs.Stores.{Store}
 use Rattle.nest_lang.specs.Lookups.{Expectation}
-use Rattle.nest_lang.specs.Traces.{Observation, Halt, Trace, Finish}
+use Rattle.nest_lang.specs.Traces.{Observation, Halt, Trace, Finish, Done}
 use Rattle.nest_lang.specs.Expressions.{Frame}
 use Rattle.nest_lang.specs.Statements.{instance_trace}
 use Rattle.nest_lang.specs.Heads.{Yield}
@@ -24,6 +24,8 @@ use Rattle.block_exec.specs.declared.halt.Cut.TheVariants as cut
 use Rattle.block_exec.specs.declared.halt.Halt as code
 use Rattle.block_exec.specs.declared.site.Places.{Places}
 use Rattle.block_exec.specs.Sites.{frame_at, around_at}
+use Rattle.block_exec.specs.Watches.{Chain}
+use Rattle.block_exec.proofs.InstanceLaws.{cut-no_instance, seen-no_instance}
 use Rattle.block_exec.specs.Moments.{Moment, Ran, Evaluated}
 use Rattle.block_exec.specs.Halts.{halt_by, yield_where_left, finish_of}
 use Rattle.plain_interp.specs.declared.loops.Level.{Level}
@@ -57,6 +59,15 @@ pos-unsigned_abs (pos n) h = refl
 pos-unsigned_abs (negsuc n) h = absurd (omega (arith, ints))
 
 module _ {W : Type 0} (may : W → Observation → W → Type 0) where
+  -- a block without statements has no instance
+  pub no_block : (f : Frame) (block : List Stmt) (a : Moment W) → length block ≡ 0 → Ran may (instance_trace f block) a a Done
+  no_block f [] a none =
+      record {
+        cut = sym (cut-no_instance f a.store a.store a.left a.used);
+        shown = subst (λ (os : List Observation). Chain may a.watch os a.watch) (sym (seen-no_instance f a.store a.left)) refl;
+      }
+  no_block f (x ∷ xs) a none = absurd (omega (arith, none))
+
   -- a block, run at a site of a level
   pub block-at : (site : Site) (ref : BlockRef) (x x0 : Expectation) (p : Part) (level : ℕ) (a a0 : Around) (block block0 : List Stmt) (m n : Moment W) (e : Finish)
       → ((y : Expectation) → frame_at site y ≡ frame_of y ref.part ref.level a) → ref ≡ record { part = p; level = level } → x ≡ x0 → a ≡ a0 → block ≡ block0

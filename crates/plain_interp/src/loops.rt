@@ -3,15 +3,16 @@
 ghost use Rattle.std.specs.Prelude.{◌≡◌, ◌+◌, ◌<◌, ◌≤◌, ◌^◌, length, IsOk};
 ghost use Rattle.nest_lang.specs.declared.tree.Head.TheVariants.{While};
 ghost use Rattle.nest_lang.specs.Values.{turn_value};
-ghost use Rattle.nest_lang.specs.Loops.{turns_from, inward};
+ghost use Rattle.nest_lang.specs.Statements.{instance_trace};
+ghost use Rattle.nest_lang.specs.Loops.{turns_from, inward, frame_of};
 ghost use Rattle.block_exec.specs.Sites.{around_at};
-ghost use Rattle.block_exec.specs.Moments.{RanWithin};
+ghost use Rattle.block_exec.specs.Moments.{Ran, RanWithin};
 ghost use Rattle.block_exec.specs.Halts.{TurnsFit, finish_of};
 ghost use Rattle.block_exec.specs.Runs.{Kept, outside};
 ghost use Rattle.plain_interp.specs.Levels.{IsLevel, level_trace, level_turn};
 
 use block_exec::{Bounds, Cut, Places, Port, Run, Watch, value_of_turn};
-use nest_lang::{BlockRef, Expr, Head, Loop, Part};
+use nest_lang::{BlockRef, Expr, Head, Loop, Part, Stmt};
 
 /// A level of a nest: a loop, the loops inside of it, the outermost first, and the number of those around
 /// it.
@@ -134,10 +135,7 @@ pub fn run_turn<P: Port, W: Watch>(
     ensures places { around_at (at.now.depth + 1) places.new ≡ around_at (at.now.depth + 1) places.old }
     ensures stepped { IsOk result → run.new.steps.left < run.old.steps.left }
 {
-    run.block(
-        &places.site(at.block(Part::Pre), at.depth + 1),
-        at.first.pre.as_slice(),
-    )?;
+    run_part(run, at, Part::Pre, at.first.pre.as_slice(), places)?;
     if let Some((first, rest)) = at.rest.split_first() {
         let inner = Level {
             first,
@@ -146,8 +144,26 @@ pub fn run_turn<P: Port, W: Watch>(
         };
         run_loop(run, &inner, places)?;
     }
-    run.block(
-        &places.site(at.block(Part::Post), at.depth + 1),
-        at.first.post.as_slice(),
-    )
+    run_part(run, at, Part::Post, at.first.post.as_slice(), places)
+}
+
+/// Runs an instance of a block of a level's loop, in the turn that is set; there is none of a block without
+/// statements.
+fn run_part<P: Port, W: Watch>(
+    run: &mut Run<'_, P, W>,
+    at: &Level<'_>,
+    part: Part,
+    block: &[Stmt],
+    places: &Places,
+) -> Result<(), Cut>
+    requires steps { run.old.steps.left + run.old.steps.used ≤ 2 ^ 32 }
+    requires scalars { length run.old.scalars.now ≤ 256 }
+    requires depth { at.now.depth < 6 }
+    ensures ran { Ran W.may (instance_trace (frame_of (P.expects run.old.port.now) part (at.now.depth + 1) (around_at (at.now.depth + 1) places.now)) block.now) (outside P.memory run.old) (outside P.memory run.new) (finish_of result run.new.halt) }
+    ensures kept { Kept P.expects P.basis run.old run.new }
+{
+    if block.is_empty() {
+        return Ok(());
+    }
+    run.block(&places.site(at.block(part), at.depth + 1), block)
 }

@@ -1,6 +1,5 @@
 use Rattle.std.proofs.Common.{rules, arith, refl, ap, sym, subst, ◌∙◌, ◌≡◌, ◌+◌, ◌-◌, ◌<◌, ℕ, ℤ, pos, ◌∷◌, [], length, true, false, Some, None, Ok, Err, FitsSigned, w64, to_z, of_z}
 use Rattle.std.proofs.lemmas.Int.{ints, to_z-of_z}
-use Rattle.nest_lang.specs.declared.tree.Part.TheVariants as part
 use Rattle.nest_lang.specs.Stores.{Store}
 use Rattle.nest_lang.specs.Traces.{Trace, Done}
 use Rattle.nest_lang.specs.Values.{turn_value}
@@ -15,7 +14,7 @@ use Rattle.block_exec.proofs.RunLaws.{finish-err, kept-trans}
 use Rattle.plain_interp.specs.Levels.{level_trace}
 use Rattle.plain_interp.proofs.Blocks.{instance-steps}
 use Rattle.plain_interp.proofs.Keeps.{loop_keeps-strides, loop_keeps-body}
-use Rattle.plain_interp.proofs.LevelLaws.{stride-not_0, inward-same, block-at, head-at, for-cut, while-cut, for_turns-moved}
+use Rattle.plain_interp.proofs.LevelLaws.{stride-not_0, inward-same, head-at, for-cut, while-cut, for_turns-moved}
 use Rattle.plain_interp.proofs.Rans.{ran-ends, turns-next, turns-out, turns-end, while-next, while-out, while-end}
 use Rattle.plain_interp.proofs.Turns.{for_turns, for-yields, turn-ran-before, turn-ran-inside, turn-moved, inner-moved, ran-no_loops, turn-ran-behind, while_frames, while_turns}
 use Rattle.plain_interp.proofs.loops.+loops.Goals as goal
@@ -114,16 +113,14 @@ run_loop-returns-in_ok-bounds-in-For-clause-ran g t c = λ k more.
     for-yields g.W.Watch.may x k (at.depth + 1) at.first.now at.rest.now place _ _ c.in-For.stride bounds.lower bounds.trip start here (outside g.P.Port.memory c.run_for.new.run) _ c.in-For.is head
     (for_turns-moved g.W.Watch.may _ x k (at.depth + 1) at.first.now at.rest.now place bounds.stride c.in-For.stride bounds.lower bounds.trip here (outside g.P.Port.memory c.run_for.new.run) _ c.in_ok-bounds-in-For.ensures.kept.expects_same same turns)
 
-pub run_turn-returns-in_err-block-clause-ran : goal.run_turn-returns-in_err-block-clause-ran
-run_turn-returns-in_err-block-clause-ran g t c = λ k more.
+pub run_turn-returns-in_err-run_part-clause-ran : goal.run_turn-returns-in_err-run_part-clause-ran
+run_turn-returns-in_err-run_part-clause-ran g t c = λ k more.
     let at = c.args.at.now in
     let x = g.P.Port.expects c.args.run.now.port.now in
     let place : Around = around_at (at.depth + 1) c.args.places.now in
-    let start : Moment _ = outside g.P.Port.memory c.args.run.now in
-    let here : Moment _ = outside g.P.Port.memory c.block-2.new.self in
-    let is : c.from_residual.result ≡ Err c.in_err-block.field-0.0 = search rules in
-    let before = block-at g.W.Watch.may c.site.result c.block.result x x part.Pre (at.depth + 1) place place _ at.first.now.pre start here _ c.site.ensures c.block.ensures refl refl c.as_slice.ensures c.in_err-block.ensures.ran in
-    rw is (turn-ran-before g.W.Watch.may x (at.depth + 1) at.first.now (loops_trace x k (at.depth + 1 + 1) at.rest.now) place start here _ before (finish-err c.in_err-block.field-0.0 c.block-2.new.self.halt))
+    let is : c.from_residual.result ≡ Err c.in_err-run_part.field-0.0 = search rules in
+    let before = rw c.as_slice.ensures at c.in_err-run_part.ensures.ran in
+    rw is (turn-ran-before g.W.Watch.may x (at.depth + 1) at.first.now (loops_trace x k (at.depth + 1 + 1) at.rest.now) place (outside g.P.Port.memory c.args.run.now) (outside g.P.Port.memory c.run_part.new.run) _ before (finish-err c.in_err-run_part.field-0.0 c.run_part.new.run.halt))
 
 pub run_turn-returns-in_err-run_loop-clause-ran : goal.run_turn-returns-in_err-run_loop-clause-ran
 run_turn-returns-in_err-run_loop-clause-ran g t c = λ k more.
@@ -131,12 +128,12 @@ run_turn-returns-in_err-run_loop-clause-ran g t c = λ k more.
     let x = g.P.Port.expects c.args.run.now.port.now in
     let place : Around = around_at (at.depth + 1) c.args.places.now in
     let start : Moment _ = outside g.P.Port.memory c.args.run.now in
-    let here : Moment _ = outside g.P.Port.memory c.block-2.new.self in
+    let here : Moment _ = outside g.P.Port.memory c.run_part.new.run in
     let next : Moment _ = outside g.P.Port.memory c.run_loop.new.run in
     let is : c.from_residual-in_err-run_loop.result ≡ Err c.in_err-run_loop.field-0.0 = search rules in
     let loops : c.in-Some.first.now ∷ c.in-Some.rest.now ≡ at.rest.now = search rules in
-    let before = block-at g.W.Watch.may c.site.result c.block.result x x part.Pre (at.depth + 1) place place _ at.first.now.pre start here _ c.site.ensures c.block.ensures refl refl c.as_slice.ensures c.in_ok-block.ensures.ran in
-    let inside = inner-moved g.W.Watch.may _ x k (at.depth + 1 + 1) _ at.rest.now place here next _ c.in_ok-block.ensures.kept.expects_same loops (c.in_err-run_loop.ensures.ran k (omega (arith, more, c.in_ok-block.ensures.kept.fewer))) in
+    let before = rw c.as_slice.ensures at c.in_ok-run_part.ensures.ran in
+    let inside = inner-moved g.W.Watch.may _ x k (at.depth + 1 + 1) _ at.rest.now place here next _ c.in_ok-run_part.ensures.kept.expects_same loops (c.in_err-run_loop.ensures.ran k (omega (arith, more, c.in_ok-run_part.ensures.kept.fewer))) in
     rw is (turn-ran-inside g.W.Watch.may x (at.depth + 1) at.first.now (loops_trace x k (at.depth + 1 + 1) at.rest.now) place start here next _ before inside (finish-err c.in_err-run_loop.field-0.0 c.run_loop.new.run.halt))
 
 pub run_turn-returns-clause-ran : goal.run_turn-returns-clause-ran
@@ -146,26 +143,24 @@ run_turn-returns-clause-ran g t c = λ k more.
     let place : Around = around_at (at.depth + 1) c.args.places.now in
     let inner : Around → Store → Trace = loops_trace x k (at.depth + 1 + 1) at.rest.now in
     let start : Moment _ = outside g.P.Port.memory c.args.run.now in
-    let here : Moment _ = outside g.P.Port.memory c.block-2.new.self in
+    let here : Moment _ = outside g.P.Port.memory c.run_part.new.run in
     let last : Moment _ = outside g.P.Port.memory c.match-split_first.run in
-    let end : Moment _ = outside g.P.Port.memory c.block-4.new.self in
-    let before = block-at g.W.Watch.may c.site.result c.block.result x x part.Pre (at.depth + 1) place place _ at.first.now.pre start here Done c.site.ensures c.block.ensures refl refl c.as_slice.ensures c.in_ok-block.ensures.ran in
+    let end : Moment _ = outside g.P.Port.memory c.run_part-2.new.run in
+    let before = rw c.as_slice.ensures at c.in_ok-run_part.ensures.ran in
     elim c.match-split_first.branch [
       | run_turn-in-Some+in_ok-run_loop w ↦
           let next : Moment _ = outside g.P.Port.memory w.run_loop.new.run in
           let loops : w.in-Some.first.now ∷ w.in-Some.rest.now ≡ at.rest.now = search rules in
-          let inside = inner-moved g.W.Watch.may _ x k (at.depth + 1 + 1) _ at.rest.now place here next Done c.in_ok-block.ensures.kept.expects_same loops (w.in_ok-run_loop.ensures.ran k (omega (arith, more, c.in_ok-block.ensures.kept.fewer))) in
-          let expects = ap (λ r. g.P.Port.expects r.port.now) w.run-is ∙ w.in_ok-run_loop.ensures.kept.expects_same ∙ c.in_ok-block.ensures.kept.expects_same in
+          let inside = inner-moved g.W.Watch.may _ x k (at.depth + 1 + 1) _ at.rest.now place here next Done c.in_ok-run_part.ensures.kept.expects_same loops (w.in_ok-run_loop.ensures.ran k (omega (arith, more, c.in_ok-run_part.ensures.kept.fewer))) in
+          let expects = ap (λ r. g.P.Port.expects r.port.now) w.run-is ∙ w.in_ok-run_loop.ensures.kept.expects_same ∙ c.in_ok-run_part.ensures.kept.expects_same in
           let around = ap (around_at (at.depth + 1)) w.places-is ∙ w.in_ok-run_loop.ensures.places in
-          let behind = block-at g.W.Watch.may c.site-2.result c.block-3.result _ x part.Post (at.depth + 1) _ place _ at.first.now.post last end _ c.site-2.ensures c.block-3.ensures expects around c.as_slice-2.ensures c.block-4.ensures.ran in
-          turn-ran-behind g.W.Watch.may x x (at.depth + 1) at.first.now inner place place at.first.now.post start here last next end _ refl refl refl (ap (outside g.P.Port.memory) w.run-is) before inside behind
+          turn-ran-behind g.W.Watch.may _ x (at.depth + 1) at.first.now inner _ place c.as_slice-2.result.now start here last next end _ expects around c.as_slice-2.ensures (ap (outside g.P.Port.memory) w.run-is) before inside c.run_part-2.ensures.ran
       | run_turn-in_default w ↦
           let none : length at.rest.now ≡ 0 = search rules in
-          let expects = ap (λ r. g.P.Port.expects r.port.now) w.run-is ∙ c.in_ok-block.ensures.kept.expects_same in
+          let expects = ap (λ r. g.P.Port.expects r.port.now) w.run-is ∙ c.in_ok-run_part.ensures.kept.expects_same in
           let around = ap (around_at (at.depth + 1)) w.places-is in
-          let behind = block-at g.W.Watch.may c.site-2.result c.block-3.result _ x part.Post (at.depth + 1) _ place _ at.first.now.post last end _ c.site-2.ensures c.block-3.ensures expects around c.as_slice-2.ensures c.block-4.ensures.ran in
-          turn-ran-behind g.W.Watch.may x x (at.depth + 1) at.first.now inner place place at.first.now.post start here last here end _ refl refl refl (ap (outside g.P.Port.memory) w.run-is) before
-          (ran-no_loops g.W.Watch.may x k (at.depth + 1 + 1) at.rest.now place here none) behind
+          turn-ran-behind g.W.Watch.may _ x (at.depth + 1) at.first.now inner _ place c.as_slice-2.result.now start here last here end _ expects around c.as_slice-2.ensures (ap (outside g.P.Port.memory) w.run-is) before
+          (ran-no_loops g.W.Watch.may x k (at.depth + 1 + 1) at.rest.now place here none) c.run_part-2.ensures.ran
     ]
 
 pub run_turn-returns-clause-stepped : goal.run_turn-returns-clause-stepped
@@ -175,13 +170,13 @@ run_turn-returns-clause-stepped g t c = λ ok.
       | run_turn-in-Some+in_ok-run_loop w ↦
           let same = ap (λ r. r.steps.left) w.run-is in
           let stepped = w.in_ok-run_loop.ensures.stepped refl in
-          omega (arith, same, stepped, c.in_ok-block.ensures.kept.fewer, c.block-4.ensures.kept.fewer)
+          omega (arith, same, stepped, c.in_ok-run_part.ensures.kept.fewer, c.run_part-2.ensures.kept.fewer)
       | run_turn-in_default w ↦
           let same = ap (λ r. r.steps.left) w.run-is in
           let none : length at.rest.now ≡ 0 = search rules in
           let body : 0 < length c.as_slice.result.now = subst (λ (n : ℕ). 0 < n) (sym (ap length c.as_slice.ensures)) (loop_keeps-body at.first.now at.rest.now none c.requires.level.keeps) in
-          let stepped = instance-steps g.W.Watch.may _ c.as_slice.result.now (outside g.P.Port.memory c.args.run.now) (outside g.P.Port.memory c.block-2.new.self) Done c.in_ok-block.ensures.ran body refl in
-          omega (arith, same, stepped, c.block-4.ensures.kept.fewer)
+          let stepped = instance-steps g.W.Watch.may _ c.as_slice.result.now (outside g.P.Port.memory c.args.run.now) (outside g.P.Port.memory c.run_part.new.run) Done c.in_ok-run_part.ensures.ran body refl in
+          omega (arith, same, stepped, c.run_part-2.ensures.kept.fewer)
     ]
 
 pub run_while-returns-in_err-condition-clause-ran : goal.run_while-returns-in_err-condition-clause-ran
