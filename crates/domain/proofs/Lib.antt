@@ -1,3 +1,4 @@
+pub mod CheckLaws
 pub mod GapLaws
 pub mod LeadLaws
 pub mod OriginalLaws

@@ -1,7 +1,9 @@
 //! What a prediction expects of a nest's instances.
 #![tactic(auto)]
 
+mod checks;
 mod chunk;
+mod held;
 mod instance;
 mod order;
 mod padding;
@@ -11,6 +13,7 @@ mod table;
 mod walk;
 
 pub use chunk::Chunk;
+pub use held::{Held, HeldWhy, Launched};
 pub use instance::Instance;
 pub use order::successor;
 pub use padding::padded;
