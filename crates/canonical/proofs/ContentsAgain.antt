@@ -16,10 +16,11 @@ use Rattle.nest_grammar.specs.declared.version.Version.TheVariants.{One, Two as 
 use Rattle.nest_grammar.specs.declared.file.Scalar.{Scalar}
 use Rattle.nest_grammar.specs.declared.file.Item.{Item}
 use Rattle.nest_grammar.specs.declared.file.LoopNames.{LoopNames}
-use Rattle.nest_grammar.specs.declared.file.Unit.{Unit as NestUnit}
+use Rattle.nest_grammar.specs.declared.file.NestUnit.{NestUnit}
 use Rattle.nest_grammar.specs.declared.file.File.{File}
 use Rattle.nest_grammar.specs.Limits.{most_bytes}
-use Rattle.nest_grammar.specs.Sights.{Sight, first, rest, here, skip, of_version, start}
+use Rattle.nest_tokens.specs.Ahead.{first, rest}
+use Rattle.nest_grammar.specs.Sights.{Sight, here, skip, of_version, start}
 use Rattle.nest_grammar.specs.Names.{Names, place_of, scalars_from, names_of}
 use Rattle.nest_grammar.specs.Grammar.{IsUnit, unit, IsUnits, one as units_one, more as units_more, IsScalars, none as scalars_none, more as scalars_more, IsValues, one as values_one, more as values_more, IsItem, data_, ramp, IsItems, none as items_none, more as items_more, IsVersion, one as version_one, two as version_two, Reads, file}
 use Rattle.canonical.specs.Pieces.{Piece, Newline, signed, line}

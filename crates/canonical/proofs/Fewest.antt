@@ -8,10 +8,11 @@ use Rattle.nest_tokens.specs.declared.token.Mark.TheVariants as mark
 use Rattle.nest_tokens.specs.declared.token.Token.{Token}
 use Rattle.nest_tokens.specs.declared.token.Token.TheVariants as token
 use Rattle.nest_tokens.specs.declared.token.Spot.{Spot}
-use Rattle.nest_grammar.specs.Sights.{Sight, first, rest, here, stands, skip}
+use Rattle.nest_tokens.specs.Ahead.{first, rest}
+use Rattle.nest_grammar.specs.Sights.{Sight, here, stands, skip}
 use Rattle.nest_grammar.specs.Names.{Names}
 use Rattle.nest_grammar.specs.Expressions.{product_of, addition_of, comparison_of}
-use Rattle.nest_grammar.specs.Grammar.{Part, Is, number, variable, minus, parens, load, factor, product, summand, addition, side, comparison, IsExpression}
+use Rattle.nest_grammar.specs.Grammar.{Precedence, Is, number, variable, minus, parens, load, factor, product, summand, addition, side, comparison, IsExpression}
 use Rattle.canonical.specs.declared.group.Group.{Group}
 use Rattle.canonical.specs.declared.group.Group.TheVariants.{Unary, Term, Sum, Whole}
 use Rattle.canonical.specs.Groups.{fits, made_by, left_of, right_of, mark_of}
@@ -109,7 +110,7 @@ used-operator : (s : Sight) (o : Op) (operator : Token → Option Op) → operat
 unfolding here
 used-operator s o operator h k = used s.size s.left (stands s) refl (not-end (stands s) o operator h k)
 
-fewest : (l : Labels) (names : Names) {p : Part} {d : ℕ} {s : Sight} {e : Expr} {t : Sight} → Is names p d s e t → cost l (group_of p) e + length t.left ≤ length s.left
+fewest : (l : Labels) (names : Names) {p : Precedence} {d : ℕ} {s : Sight} {e : Expr} {t : Sight} → Is names p d s e t → cost l (group_of p) e + length t.left ≤ length s.left
 unfolding skip fits product_of addition_of comparison_of
 fewest l names (number {d} {n} {s} h r) = let c = cost-of l Unary (Number n) (record { group = Unary; pieces = Word (token.Number n) ∷ [] }) (printed-number l n) refl in let u = used-number s n h in omega (arith, c, u)
 fewest l names (variable {d} {n} {p} {s} h f r) = let c = cost-of l Unary (Var p) _ (printed-var l p) refl in let u = used-name s h in omega (arith, c, u)

@@ -21,9 +21,10 @@ use Rattle.nest_grammar.specs.declared.version.Version.TheVariants.{Two as Sever
 use Rattle.nest_grammar.specs.declared.file.Scalar.{Scalar}
 use Rattle.nest_grammar.specs.declared.file.Item.{Item}
 use Rattle.nest_grammar.specs.declared.file.Item.TheVariants.{Data, Ramp}
-use Rattle.nest_grammar.specs.declared.file.Unit.{Unit as NestUnit}
+use Rattle.nest_grammar.specs.declared.file.NestUnit.{NestUnit}
 use Rattle.nest_grammar.specs.declared.file.File.{File}
-use Rattle.nest_grammar.specs.Sights.{Sight, rest, here, stands, skip, opens, in_block}
+use Rattle.nest_tokens.specs.Ahead.{rest}
+use Rattle.nest_grammar.specs.Sights.{Sight, here, stands, skip, opens, in_block}
 use Rattle.nest_grammar.specs.Readings.{with_sign}
 use Rattle.nest_grammar.specs.Names.{Names, names_of}
 use Rattle.nest_grammar.specs.Loops.{inside}

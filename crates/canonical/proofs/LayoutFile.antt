@@ -22,7 +22,7 @@ use Rattle.nest_grammar.specs.declared.version.Version.{Version}
 use Rattle.nest_grammar.specs.declared.file.Scalar.{Scalar}
 use Rattle.nest_grammar.specs.declared.file.Item.{Item}
 use Rattle.nest_grammar.specs.declared.file.Item.TheVariants.{Data, Ramp}
-use Rattle.nest_grammar.specs.declared.file.Unit.{Unit as NestUnit}
+use Rattle.nest_grammar.specs.declared.file.NestUnit.{NestUnit}
 use Rattle.nest_grammar.specs.declared.file.File.{File}
 use Rattle.nest_grammar.specs.declared.script.CommandWord.{CommandWord}
 use Rattle.nest_grammar.specs.Scripts.{Script}

@@ -5,10 +5,10 @@ use Rattle.nest_tokens.specs.declared.token.Mark.{Mark}
 use Rattle.nest_tokens.specs.declared.token.Mark.TheVariants as mark
 use Rattle.nest_tokens.specs.declared.token.Token.{Token}
 use Rattle.nest_tokens.specs.declared.token.Token.TheVariants as token
-use Rattle.nest_tokens.specs.Tokens.{spelling, word_of, sign_at}
+use Rattle.nest_tokens.specs.Tokens.{spelling, keyword_of, sign_at}
 use Rattle.nest_tokens.specs.Lexing.{is_letter, is_digit, is_name_byte, named, sign_or_byte, lexed}
 use Rattle.nest_tokens.specs.Division.{Begins, Stops, AllPass}
-use Rattle.canonical.proofs.LayoutTokens.{lexed-run}
+use Rattle.nest_tokens.proofs.Spelled.{lexed-other, lexed-run}
 
 -- a reserved word, and no sign
 unfoldable pub is_word : Mark → Bool
@@ -48,7 +48,7 @@ is_word mark.Less = false
 is_word mark.Greater = false
 
 word-named : (m : Mark) → is_word m ≡ true → named (spelling m) ≡ token.Plain m
-unfolding is_word named spelling word_of
+unfolding is_word named spelling keyword_of
 word-named mark.Nest h = refl
 word-named mark.Scalar h = refl
 word-named mark.Memory h = refl
@@ -161,10 +161,6 @@ sign-begins mark.Assign h = (_, _, refl, refl, refl, refl)
 sign-begins mark.Less h = (_, _, refl, refl, refl, refl)
 sign-begins mark.Greater h = (_, _, refl, refl, refl, refl)
 sign-begins _ h = absurd (cc)
-
-lexed-other : (c : ℕ) (l : List ℕ) → is_letter c ≡ false → is_digit c ≡ false → lexed (c ∷ l) ≡ sign_or_byte (sign_at (c ∷ l))
-unfolding lexed
-lexed-other c l h k = rw (h, k) refl
 
 pub lexed-sign : (m : Mark) (bs : List ℕ) → is_word m ≡ false → Stops is_equals bs → lexed (spelling m ++ bs) ≡ record { token = token.Plain m; len = length (spelling m) }
 lexed-sign m bs h k =

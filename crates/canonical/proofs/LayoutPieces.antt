@@ -14,7 +14,8 @@ use Rattle.canonical.specs.Pieces.{Piece, Word, Space, Indent, Newline, token_te
 use Rattle.canonical.specs.Layout.{words, IsWritten, AllWritten}
 use Rattle.canonical.proofs.Walking.{Walks}
 use Rattle.nest_tokens.proofs.Spelled.{name_text-name_of}
-use Rattle.canonical.proofs.LayoutTokens.{drop-front, lexed-name, lexed-number, number-begins}
+use Rattle.nest_tokens.proofs.Spelled.{drop-front}
+use Rattle.canonical.proofs.LayoutTokens.{lexed-name, lexed-number, number-begins}
 use Rattle.canonical.proofs.LayoutMarks.{is_word, lexed-word, is_equals, sign-begins, word-begins, lexed-sign}
 
 -- behind a space or a line's end, behind a name, a number or a reserved word, behind a sign

@@ -7,41 +7,21 @@ use Rattle.std.proofs.lemmas.Fmt.{decimal_by_steps}
 use Rattle.std.proofs.lemmas.Bool.{lt-ltb, le-leb}
 use Rattle.nest_tokens.specs.declared.token.Token.{Token}
 use Rattle.nest_tokens.specs.declared.token.Token.TheVariants as token
-use Rattle.nest_tokens.specs.Tokens.{word_of}
+use Rattle.nest_tokens.specs.Tokens.{keyword_of}
 use Rattle.nest_tokens.specs.Lexing.{is_letter, is_digit, is_name_byte, decimal_from, decimal, numbered, name_of, named, spelled_by, lexed}
 use Rattle.nest_tokens.specs.Division.{Begins, Stops, AllPass}
-use Rattle.nest_tokens.proofs.Spelled.{run-len, take-front}
-
--- Runs
-
-pub drop-front : (s bs : List ℕ) → drop (length s) (s ++ bs) ≡ bs
-drop-front [] bs = refl
-drop-front (c ∷ cs) bs = drop-front cs bs
+use Rattle.nest_tokens.proofs.Spelled.{lexed-run, lexed-digits}
 
 -- Names and reserved words
 
-lexed-letter : (c : ℕ) (l : List ℕ) → is_letter c ≡ true → lexed (c ∷ l) ≡ spelled_by (c ∷ l) (prefix_len is_name_byte (c ∷ l)) named
-unfolding lexed
-lexed-letter c l h = rw h refl
-
-lexed-digit : (c : ℕ) (l : List ℕ) → is_letter c ≡ false → is_digit c ≡ true → lexed (c ∷ l) ≡ spelled_by (c ∷ l) (prefix_len is_digit (c ∷ l)) numbered
-unfolding lexed
-lexed-digit c l h k = rw (h, k) refl
-
-pub lexed-run : (s bs : List ℕ) → Begins is_letter s → AllPass is_name_byte s → Stops is_name_byte bs → lexed (s ++ bs) ≡ record { token = named s; len = length s }
-lexed-run [] bs b a h = absurd b
-lexed-run (c ∷ cs) bs b a h =
-    let n : prefix_len is_name_byte ((c ∷ cs) ++ bs) ≡ length (c ∷ cs) = run-len is_name_byte (c ∷ cs) bs a h in
-    lexed-letter c (cs ++ bs) b ∙ (ap (λ (k : ℕ). spelled_by ((c ∷ cs) ++ bs) k named) n ∙ ap (λ (l : List ℕ). record { token = named l; len = length (c ∷ cs) }) (take-front (c ∷ cs) bs))
-
-named-name : (s : List ℕ) → length s ≤ 32 → word_of s ≡ None → named s ≡ token.Name (name_of s)
+named-name : (s : List ℕ) → length s ≤ 32 → keyword_of s ≡ None → named s ≡ token.Name (name_of s)
 unfolding named
 named-name s h w = let t : nat_lt 32 (length s) ≡ false = not-less 32 (length s) h in rw (t, w) refl
   where
     not-less : (a b : ℕ) → b ≤ a → nat_lt a b ≡ false
     not-less a b h = grind arith
 
-pub lexed-name : (s bs : List ℕ) → length s ≤ 32 → Begins is_letter s → AllPass is_name_byte s → word_of s ≡ None → Stops is_name_byte bs → lexed (s ++ bs) ≡ record { token = token.Name (name_of s); len = length s }
+pub lexed-name : (s bs : List ℕ) → length s ≤ 32 → Begins is_letter s → AllPass is_name_byte s → keyword_of s ≡ None → Stops is_name_byte bs → lexed (s ++ bs) ≡ record { token = token.Name (name_of s); len = length s }
 lexed-name s bs h b a w k = lexed-run s bs b a k ∙ ap (λ (t : Token). record { token = t; len = length s }) (named-name s h w)
 
 -- Numbers
@@ -71,16 +51,6 @@ digits = decimal_by_steps Digits
     (λ n ds h d. (
     let l : n % 10 < 10 = omega arith in
     (begins-append is_digit ds ((48 + n % 10) ∷ []) d.0, all-append is_digit ds ((48 + n % 10) ∷ []) d.1 (digit-glyph (n % 10) l, tt), decimal_from-append 0 ds ((48 + n % 10) ∷ []) ∙ ap (λ (m : ℕ). m * 10 + ((48 + n % 10) - 48)) d.2 ∙ omega arith)))
-
-digit-no-letter : (b : ℕ) → is_digit b ≡ true → is_letter b ≡ false
-digit-no-letter b h = grind arith
-
-lexed-digits : (s bs : List ℕ) → Begins is_digit s → AllPass is_digit s → Stops is_digit bs → lexed (s ++ bs) ≡ record { token = numbered s; len = length s }
-lexed-digits [] bs b a h = absurd b
-lexed-digits (c ∷ cs) bs b a h =
-    let n : prefix_len is_digit ((c ∷ cs) ++ bs) ≡ length (c ∷ cs) = run-len is_digit (c ∷ cs) bs a h in
-    let l : is_letter c ≡ false = digit-no-letter c b in
-    lexed-digit c (cs ++ bs) l b ∙ (ap (λ (k : ℕ). spelled_by ((c ∷ cs) ++ bs) k numbered) n ∙ ap (λ (l : List ℕ). record { token = numbered l; len = length (c ∷ cs) }) (take-front (c ∷ cs) bs))
 
 no-name-no-digit : (bs : List ℕ) → Stops is_name_byte bs → Stops is_digit bs
 no-name-no-digit [] h = tt

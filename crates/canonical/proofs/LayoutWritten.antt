@@ -6,8 +6,8 @@ use Rattle.nest_tokens.specs.declared.token.Token.{Token}
 use Rattle.nest_tokens.specs.declared.token.Token.TheVariants as token
 use Rattle.nest_tokens.specs.declared.token.BadToken.TheVariants as bad
 use Rattle.nest_tokens.specs.declared.token.Spot.{Spot}
-use Rattle.nest_tokens.specs.Tokens.{word_of}
-use Rattle.nest_tokens.specs.Lexing.{is_letter, is_name_byte, decimal, numbered, word_or_name, named, tokens}
+use Rattle.nest_tokens.specs.Tokens.{keyword_of}
+use Rattle.nest_tokens.specs.Lexing.{is_letter, is_name_byte, decimal, numbered, keyword_or_name, named, tokens}
 use Rattle.nest_tokens.specs.Division.{Begins, AllPass, Spells, name, number, sign, bad_byte, Divides, ends, goes_on}
 use Rattle.nest_tokens.proofs.Dividing.{tokens-divide}
 use Rattle.canonical.specs.Layout.{IsWritten}
@@ -24,15 +24,15 @@ abbrev pub AllWritable : List Spot → Type 0
 AllWritable [] = Unit {0}
 AllWritable (x ∷ xs) = Writable x.token × AllWritable xs
 
-word-writable : (s : List ℕ) → length s ≤ 32 → Begins is_letter s → AllPass is_name_byte s → (o : Option Mark) → word_of s ≡ o → Writable (word_or_name o s)
+word-writable : (s : List ℕ) → length s ≤ 32 → Begins is_letter s → AllPass is_name_byte s → (o : Option Mark) → keyword_of s ≡ o → Writable (keyword_or_name o s)
 word-writable s h b a (Some m) e = tt
 word-writable s h b a None e = (s, refl, h, b, a, e)
 
 named-writable : (s : List ℕ) → Begins is_letter s → AllPass is_name_byte s → Writable (named s)
 unfolding named
-named-writable s b a = elim (nat_lt 32 (length s)) as (λ t. nat_lt 32 (length s) ≡ t → Writable (cond t (token.Bad bad.Name) (word_or_name (word_of s) s))) [
+named-writable s b a = elim (nat_lt 32 (length s)) as (λ t. nat_lt 32 (length s) ≡ t → Writable (cond t (token.Bad bad.Name) (keyword_or_name (keyword_of s) s))) [
   | true ↦ λ e. tt
-  | false ↦ λ e. word-writable s (not-more 32 (length s) e) b a (word_of s) refl
+  | false ↦ λ e. word-writable s (not-more 32 (length s) e) b a (keyword_of s) refl
 ] refl
   where
     not-more : (a b : ℕ) → nat_lt a b ≡ false → b ≤ a
@@ -48,7 +48,7 @@ numbered-writable s = elim (nat_lt (decimal s) (2 ^ 63)) as (λ t. nat_lt (decim
 spelled-writable : {s rest : List ℕ} {t : Token} → Spells s rest t → Writable t
 spelled-writable (name {s} b a k) = named-writable s b a
 spelled-writable (number {s} b a k) = numbered-writable s
-spelled-writable (sign e k) = tt
+spelled-writable (sign e i l) = tt
 spelled-writable (bad_byte a b c d e) = tt
 
 divided-writable : {size : ℕ} {bs : List ℕ} {spots : List Spot} → Divides size bs spots → AllWritable spots

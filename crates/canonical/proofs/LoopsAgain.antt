@@ -14,7 +14,8 @@ use Rattle.nest_tokens.specs.declared.token.Token.TheVariants as token
 use Rattle.nest_tokens.specs.declared.token.Spot.{Spot}
 use Rattle.nest_grammar.specs.declared.version.Version.{Version}
 use Rattle.nest_grammar.specs.declared.file.LoopNames.{LoopNames}
-use Rattle.nest_grammar.specs.Sights.{Sight, first, rest, here, skip, in_block, Sees}
+use Rattle.nest_tokens.specs.Ahead.{first, rest}
+use Rattle.nest_grammar.specs.Sights.{Sight, here, skip, in_block, Sees}
 use Rattle.nest_grammar.specs.Readings.{with_sign}
 use Rattle.nest_grammar.specs.Names.{Names, declared, place_of}
 use Rattle.nest_grammar.specs.Loops.{inside}

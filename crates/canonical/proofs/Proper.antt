@@ -12,9 +12,10 @@ use Rattle.nest_tokens.specs.declared.token.Mark.TheVariants as mark
 use Rattle.nest_tokens.specs.declared.token.Token.{Token}
 use Rattle.nest_tokens.specs.declared.token.Token.TheVariants as token
 use Rattle.nest_tokens.specs.declared.token.Spot.{Spot}
-use Rattle.nest_grammar.specs.Sights.{Sight, first, rest, here, stands, skip, spend, opens, numbered, afresh, bound, in_block}
+use Rattle.nest_tokens.specs.Ahead.{first, rest}
+use Rattle.nest_grammar.specs.Sights.{Sight, here, stands, skip, spend, opens, numbered, afresh, bound, in_block}
 use Rattle.nest_grammar.specs.Names.{Names}
-use Rattle.nest_grammar.specs.Grammar.{Part, Is, number as is_number, variable, minus, parens, load, factor, product, summand, addition, side, comparison, IsExpression, IsStmt, let_, set, store, when, either, IsBraced, braced, IsList, none as list_none, more, IsBlock, block}
+use Rattle.nest_grammar.specs.Grammar.{Precedence, Is, number as is_number, variable, minus, parens, load, factor, product, summand, addition, side, comparison, IsExpression, IsStmt, let_, set, store, when, either, IsBraced, braced, IsList, none as list_none, more, IsBlock, block}
 use Rattle.canonical.specs.declared.group.Group.{Group}
 use Rattle.canonical.specs.declared.group.Group.TheVariants.{Unary, Whole}
 use Rattle.canonical.specs.Groups.{fits, left_of, right_of, mark_of}
@@ -127,7 +128,7 @@ grouped wanted x h = elim (fits x.group wanted) as (λ b. Proper (cond b x.piece
 joined : (l : Labels) (o : Op) (a b : Expr) → Proper (printed l a).pieces → Proper (printed l b).pieces → Proper (printed l (Two o a b)).pieces
 joined l o a b h k = subst (λ (x : Printed). Proper x.pieces) (sym (printed-two l o a b)) ((grouped (left_of o) (printed l a) h then apart (mark_of o)) then grouped (right_of o) (printed l b) k)
 
-pub printed-proper : (l : Labels) (names : Names) → Agrees names l → {p : Part} {d : ℕ} {s : Sight} {e : Expr} {t : Sight} → Is names p d s e t → Good s → Proper (printed l e).pieces × Good t
+pub printed-proper : (l : Labels) (names : Names) → Agrees names l → {p : Precedence} {d : ℕ} {s : Sight} {e : Expr} {t : Sight} → Is names p d s e t → Good s → Proper (printed l e).pieces × Good t
 printed-proper l names agree (is_number {d} {n} {s} h r) g = (subst (λ (x : Printed). Proper x.pieces) (sym (printed-number l n)) (worded (token.Number n) (number-written s n g h)), good-spend s g)
 printed-proper l names agree (variable {d} {n} {p} {s} h f r) g = (subst (λ (x : Printed). Proper x.pieces) (sym (printed-var l p)) (worded (token.Name (label l p)) (subst (λ (m : Name). IsWritten (token.Name m)) (sym (agree n p f)) (name-written s n g h))), good-spend s g)
 printed-proper l names agree (minus {d} {e} {s} {t} h r i) g = let w = printed-proper l names agree i (good-spend s g) in (subst (λ (x : Printed). Proper x.pieces) (sym (printed-neg l e)) (marked mark.Minus cons grouped Unary (printed l e) w.0), w.1)

@@ -11,14 +11,14 @@ use Rattle.nest_lang.specs.Values.{same}
 use Rattle.nest_tokens.specs.declared.token.Name.{Name}
 use Rattle.nest_tokens.specs.declared.token.Mark.TheVariants as mark
 use Rattle.nest_tokens.specs.declared.token.Token.TheVariants as token
-use Rattle.nest_tokens.specs.Tokens.{spelling, word_of}
+use Rattle.nest_tokens.specs.Tokens.{spelling, keyword_of}
 use Rattle.nest_tokens.specs.Lexing.{name_of, tokens}
 use Rattle.nest_grammar.specs.declared.version.Version.{Version}
 use Rattle.nest_grammar.specs.declared.version.Version.TheVariants.{One, Two as Several}
 use Rattle.nest_grammar.specs.declared.file.Scalar.{Scalar}
 use Rattle.nest_grammar.specs.declared.file.Item.{Item}
 use Rattle.nest_grammar.specs.declared.file.LoopNames.{LoopNames}
-use Rattle.nest_grammar.specs.declared.file.Unit.{Unit as NestUnit}
+use Rattle.nest_grammar.specs.declared.file.NestUnit.{NestUnit}
 use Rattle.nest_grammar.specs.declared.file.File.{File}
 use Rattle.nest_grammar.specs.declared.script.CommandWord.{CommandWord}
 use Rattle.nest_grammar.specs.declared.script.CommandWord.TheVariants as word
@@ -130,7 +130,7 @@ loops-proper l (outer {d} {level} {names} {h} {n} {pre} {post} {lets} {post_lets
 -- Scripts
 
 verb-written : (w : CommandWord) → IsWritten (token.Name (name_of (word_spelling w)))
-unfolding word_spelling word_of spelling
+unfolding word_spelling keyword_of spelling
 verb-written word.Seq = (codes "seq", refl, omega arith, refl, (refl, (refl, (refl, tt))), refl)
 verb-written word.Swap = (codes "swap", refl, omega arith, refl, (refl, (refl, (refl, (refl, tt)))), refl)
 verb-written word.Skew = (codes "skew", refl, omega arith, refl, (refl, (refl, (refl, (refl, tt)))), refl)

@@ -11,10 +11,11 @@ use Rattle.nest_tokens.specs.declared.token.Token.{Token}
 use Rattle.nest_tokens.specs.declared.token.Token.TheVariants as token
 use Rattle.nest_tokens.specs.declared.token.Spot.{Spot}
 use Rattle.nest_grammar.specs.Limits.{most_tokens, most_accesses, most_open}
-use Rattle.nest_grammar.specs.Sights.{Sight, first, rest, here, stands, skip, spend, opens, numbered, afresh, Sees}
+use Rattle.nest_tokens.specs.Ahead.{first, rest}
+use Rattle.nest_grammar.specs.Sights.{Sight, here, stands, skip, spend, opens, numbered, afresh, Sees}
 use Rattle.nest_grammar.specs.Names.{Names, place_of}
 use Rattle.nest_grammar.specs.Expressions.{product_of, addition_of, comparison_of}
-use Rattle.nest_grammar.specs.Grammar.{Part, Unary as AsUnary, Term as AsTerm, Sum as AsSum, Whole as AsWhole, Is, number, variable, minus, parens, load, factor, product, summand, addition, side, comparison, Room, AccessRoom, IsExpression}
+use Rattle.nest_grammar.specs.Grammar.{Precedence, Unary as AsUnary, Term as AsTerm, Sum as AsSum, Whole as AsWhole, Is, number, variable, minus, parens, load, factor, product, summand, addition, side, comparison, Room, AccessRoom, IsExpression}
 use Rattle.canonical.specs.declared.group.Group.{Group}
 use Rattle.canonical.specs.declared.group.Group.TheVariants.{Unary, Term, Sum, Whole}
 use Rattle.canonical.specs.Groups.{fits, made_by, left_of, right_of, mark_of}
@@ -25,7 +26,7 @@ use Rattle.canonical.proofs.Printing.{printed-number, printed-var, printed-load,
 use Rattle.canonical.proofs.Walking.{Walks, walks-append, Counts, counts}
 
 -- the part of the grammar that a group is
-abbrev pub part_of : Group → Part
+abbrev pub part_of : Group → Precedence
 part_of Unary = AsUnary
 part_of Term = AsTerm
 part_of Sum = AsSum
@@ -36,7 +37,7 @@ abbrev pub Agrees : Names → Labels → Type 0
 Agrees names l = (n : Name) (p : Place) → place_of names n ≡ Some p → label l p ≡ n
 
 -- from s on an expression is read up to these spots, with these counters then and at most so many tokens
-abbrev pub Arrives : Names → Part → ℕ → Sight → Expr → List Spot → Counts → ℕ → Type 0
+abbrev pub Arrives : Names → Precedence → ℕ → Sight → Expr → List Spot → Counts → ℕ → Type 0
 Arrives names p d s e m b v = (t : Sight) × Is names p d s e t × (t.size ≡ s.size) × (t.left ≡ m) × (counts t ≡ b) × (t.spent ≤ v)
 
 -- The pieces without parentheses round them are read, where d more may be open, the counters from a to b.
@@ -49,7 +50,7 @@ pub data Again (l : Labels) (names : Names) (g : Group) (e : Expr) (a b : Counts
   held : {d n : ℕ} → fits (printed l e).group g ≡ false → u < most_tokens → Bare l names d e a b (u + 1) n → n < most_tokens → n + 1 ≤ v → Again l names g e a b u v (suc d)
 
 -- one more may be open
-pub deeper : (names : Names) {p : Part} {d : ℕ} {s : Sight} {e : Expr} {t : Sight} → Is names p d s e t → Is names p (suc d) s e t
+pub deeper : (names : Names) {p : Precedence} {d : ℕ} {s : Sight} {e : Expr} {t : Sight} → Is names p d s e t → Is names p (suc d) s e t
 deeper names (number h r) = number h r
 deeper names (variable h k r) = variable h k r
 deeper names (minus h r i) = minus h r (deeper names i)
@@ -219,7 +220,7 @@ tabled l names o made lft rgt operator x y a b c u v z d h r join f g =
     (subst (λ (k : Group). Again l names k x a b u v d) (sym h.1) f)
     (subst (λ (k : Group). Again l names k y b c (v + 1) z d) (sym h.2) g))
 
-abbrev pub group_of : Part → Group
+abbrev pub group_of : Precedence → Group
 group_of AsUnary = Unary
 group_of AsTerm = Term
 group_of AsSum = Sum
@@ -242,7 +243,7 @@ load-again l names d e s t room r o x s2 m c k w =
     let n : t2.accesses ≡ t.accesses = ap (λ (n : Counts). n.accesses) y.4 in
     (numbered (spend t2), subst (λ (n : ℕ). Is names AsUnary (suc d) s2 (Load (n + 1) e) (numbered (spend t2))) n i, y.2, ap rest y.3 ∙ sym q.2.1, ap one_access y.4, omega (arith, y.5))
 
-pub again : (l : Labels) (names : Names) → Agrees names l → {p : Part} {d : ℕ} {s : Sight} {e : Expr} {t : Sight} → Is names p d s e t → Again l names (group_of p) e (counts s) (counts t) s.spent t.spent d
+pub again : (l : Labels) (names : Names) → Agrees names l → {p : Precedence} {d : ℕ} {s : Sight} {e : Expr} {t : Sight} → Is names p d s e t → Again l names (group_of p) e (counts s) (counts t) s.spent t.spent d
 unfolding skip here fits
 again l names agree (number {d} {n} {s} h r) = again-of l names Unary (Number n) (counts s) (counts (spend s)) s.spent (s.spent + 1) d (record { group = Unary; pieces = Word (token.Number n) ∷ [] }) (printed-number l n) refl (λ s2 m c k w. (spend s2, number w.0 (omega arith), refl, sym w.1, c, omega arith))
 again l names agree (variable {d} {n} {p} {s} h f r) = again-of l names Unary (Var p) (counts s) (counts (spend s)) s.spent (s.spent + 1) d (record { group = Unary; pieces = name (label l p) ∷ [] }) (printed-var l p) refl (λ s2 m c k w.

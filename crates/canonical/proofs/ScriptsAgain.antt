@@ -9,7 +9,8 @@ use Rattle.nest_tokens.specs.declared.token.Spot.{Spot}
 use Rattle.nest_tokens.specs.Lexing.{name_of}
 use Rattle.nest_grammar.specs.declared.script.CommandWord.{CommandWord}
 use Rattle.nest_grammar.specs.declared.script.CommandWord.TheVariants as word
-use Rattle.nest_grammar.specs.Sights.{Sight, first, rest, here, skip}
+use Rattle.nest_tokens.specs.Ahead.{first, rest}
+use Rattle.nest_grammar.specs.Sights.{Sight, here, skip}
 use Rattle.nest_grammar.specs.Scripts.{Script, command_word, word_of_name, word_spelling}
 use Rattle.nest_grammar.specs.Grammar.{IsRows, one as row_one, more as row_more, IsCommand, seq, swap, skew, tile, par, wave, IsCommands, one as command_one, more as command_more, IsScript, empty, script, IsCandidates, none, more}
 use Rattle.canonical.specs.Pieces.{Piece, Space, Newline, plain, signed, line}

@@ -14,9 +14,10 @@ use Rattle.nest_tokens.specs.declared.token.Token.TheVariants as token
 use Rattle.nest_tokens.specs.declared.token.Spot.{Spot}
 use Rattle.nest_grammar.specs.declared.file.Declared.{Declared}
 use Rattle.nest_grammar.specs.Limits.{most_lets, most_accesses}
-use Rattle.nest_grammar.specs.Sights.{Sight, first, rest, here, skip, opens, numbered, bound, Sees}
+use Rattle.nest_tokens.specs.Ahead.{first, rest}
+use Rattle.nest_grammar.specs.Sights.{Sight, here, skip, opens, numbered, bound, Sees}
 use Rattle.nest_grammar.specs.Names.{Names, declared, place_of}
-use Rattle.nest_grammar.specs.Grammar.{Part, Is, number, variable, minus, parens, load, factor, product, summand, addition, side, comparison, AccessRoom, IsExpression, IsStmt, let_, set, store, when, either, IsBraced, braced, IsList, none, more}
+use Rattle.nest_grammar.specs.Grammar.{Precedence, Is, number, variable, minus, parens, load, factor, product, summand, addition, side, comparison, AccessRoom, IsExpression, IsStmt, let_, set, store, when, either, IsBraced, braced, IsList, none, more}
 use Rattle.canonical.specs.Pieces.{Piece, Space, Newline, plain, spaced, line}
 use Rattle.canonical.specs.Labels.{Labels, label, name_or_none}
 use Rattle.canonical.specs.Expressions.{expression_of}
@@ -36,7 +37,7 @@ pub extends-through : (xs ys zs : List Name) → Extends xs ys → Extends ys zs
 extends-through xs ys zs h k = (h.0 ++ k.0, k.1 ∙ ap (λ (l : List Name). l ++ k.0) h.1 ∙ append_assoc xs h.0 k.0)
 
 -- an expression declares nothing
-pub lets-kept : (names : Names) {p : Part} {d : ℕ} {s : Sight} {e : Expr} {t : Sight} → Is names p d s e t → t.lets ≡ s.lets
+pub lets-kept : (names : Names) {p : Precedence} {d : ℕ} {s : Sight} {e : Expr} {t : Sight} → Is names p d s e t → t.lets ≡ s.lets
 unfolding skip
 lets-kept names (number h r) = refl
 lets-kept names (variable h k r) = refl

@@ -3,7 +3,8 @@ use Rattle.std.proofs.Common.{◌≡◌, ℕ, List, [], ◌∷◌, ◌++◌, ref
 use Rattle.nest_tokens.specs.declared.token.Name.{Name}
 use Rattle.nest_tokens.specs.declared.token.Spot.{Spot}
 use Rattle.nest_grammar.specs.declared.version.Version.{Version}
-use Rattle.nest_grammar.specs.Sights.{Sight, first, rest, skip, stands, here}
+use Rattle.nest_tokens.specs.Ahead.{first, rest}
+use Rattle.nest_grammar.specs.Sights.{Sight, skip, stands, here}
 use Rattle.canonical.specs.Pieces.{Piece, Word, Space, Indent, Newline}
 
 -- the words of these pieces stand in front, and then these spots are left

@@ -8,7 +8,7 @@ use Rattle.nest_grammar.specs.declared.file.Scalar.{Scalar}
 use Rattle.nest_grammar.specs.declared.file.Item.{Item}
 use Rattle.nest_grammar.specs.declared.file.Item.TheVariants.{Data, Ramp}
 use Rattle.nest_grammar.specs.declared.file.LoopNames.{LoopNames}
-use Rattle.nest_grammar.specs.declared.file.Unit.{Unit as NestUnit}
+use Rattle.nest_grammar.specs.declared.file.NestUnit.{NestUnit}
 use Rattle.nest_grammar.specs.declared.file.File.{File}
 use Rattle.canonical.specs.Pieces.{Piece, Space, plain, name, signed, spaced, line, text_of}
 use Rattle.canonical.specs.Labels.{Labels}

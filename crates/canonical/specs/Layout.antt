@@ -2,7 +2,7 @@
 use Rattle.std.specs.Prelude.{◌≡◌, ℕ, ◌^◌, ◌<◌, ◌≤◌, pos, List, [], ◌∷◌, length, None}
 use Rattle.nest_tokens.specs.declared.token.Token.{Token}
 use Rattle.nest_tokens.specs.declared.token.Token.TheVariants as token
-use Rattle.nest_tokens.specs.Tokens.{word_of}
+use Rattle.nest_tokens.specs.Tokens.{keyword_of}
 use Rattle.nest_tokens.specs.Lexing.{is_letter, is_name_byte, name_of}
 use Rattle.nest_tokens.specs.Division.{Begins, AllPass}
 use Rattle.canonical.specs.Pieces.{Piece, Word, Space, Indent, Newline}
@@ -18,7 +18,7 @@ words (Newline ∷ ps) = words ps
 -- A token that a text can have: a name has the spelling of one and is no reserved word, a number is at most
 -- 2^63 - 1.
 abbrev pub IsWritten : Token → Type 0
-IsWritten (token.Name n) = (s : List ℕ) × (n ≡ name_of s) × (length s ≤ 32) × Begins is_letter s × AllPass is_name_byte s × (word_of s ≡ None)
+IsWritten (token.Name n) = (s : List ℕ) × (n ≡ name_of s) × (length s ≤ 32) × Begins is_letter s × AllPass is_name_byte s × (keyword_of s ≡ None)
 IsWritten (token.Number z) = (n : ℕ) × (z ≡ pos n) × (n < 2 ^ 63)
 IsWritten (token.Plain m) = Unit {0}
 IsWritten (token.Bad b) = ⊥

@@ -1,27 +1,37 @@
 //! The writer of files.
 
-ghost use Rattle.std.specs.Prelude.{◌≡◌, ◌++◌, OnOk, IfOk};
+ghost use Rattle.std.specs.Prelude.{◌≡◌, ◌≤◌, ◌++◌, length, Ok, OnOk, IfOk};
+ghost use Rattle.nest_grammar.specs.Contents.{reading};
+ghost use Rattle.nest_grammar.specs.Limits.{most_bytes};
 ghost use Rattle.std.specs.List.{flat_map};
 ghost use Rattle.canonical.specs.Pieces.{text_of};
 ghost use Rattle.canonical.specs.Scripts.{candidate_line};
 ghost use Rattle.canonical.specs.Contents.{version_number, version_line, scalar_line, memory_line, next_value, value_list, item_line, unit_lines, pieces, canonical};
 
-use crate::NoMemory;
 use crate::labels::Labels;
 use crate::loops::write_loops;
 use crate::page::Page;
 use crate::script::{write_candidate, write_operand, write_signed};
-use nest_grammar::{File, Item, Scalar, Unit, Version};
+use nest_grammar::{File, Item, Scalar, NestUnit, Version};
 use nest_lang::Command;
+use nest_text::NestFile;
 use nest_tokens::Mark;
 use sqlite_items::Items;
 use std::alloc::{AllocError, Global};
 
-/// The canonical text of a file (docs/DEFINITIONS.md, Canonical text): one line each for the version,
-/// each scalar, the memory, each item, and for each nest its loops and then its candidates. It is
-/// refused only where there is no memory for it.
+/// The canonical text of a file that was read (docs/DEFINITIONS.md, Canonical text): one line each for the
+/// version, each scalar, the memory, each item, and for each nest its loops and then its candidates. Where it
+/// has at most 1,048,576 bytes it reads as the same file. It is refused only where there is no memory for it.
+pub fn write_nest(alloc: Global, file: &NestFile) -> Result<Vec<u8>, AllocError>
+    ensures canonical { IfOk result (λ bytes. bytes.items ≡ canonical file.now) }
+    ensures read { IfOk result (λ bytes. length bytes.items ≤ most_bytes → reading bytes.items ≡ Ok file.now) }
+{
+    write_file(alloc, file.file())
+}
+
+/// The canonical text of a file.
 #[tactic(auto, unfolding(crate::specs::Contents::canonical))]
-pub fn write_file(alloc: Global, file: &File) -> Result<Vec<u8>, NoMemory>
+pub(crate) fn write_file(alloc: Global, file: &File) -> Result<Vec<u8>, AllocError>
     ensures { IfOk result (λ bytes. bytes.items ≡ canonical file.now) }
 {
     let mut page = Page::new(alloc);
@@ -181,7 +191,7 @@ fn write_candidates(scripts: &[Items<Command>], page: &mut Page) -> Result<(), A
 
 /// Writes a nest's loops, then its candidates.
 #[tactic(auto, unfolding(crate::specs::Contents::unit_lines), using(crate::proofs::Texts::texts))]
-fn write_unit(scalars: &[Scalar], unit: &Unit, page: &mut Page) -> Result<(), AllocError>
+fn write_unit(scalars: &[Scalar], unit: &NestUnit, page: &mut Page) -> Result<(), AllocError>
     ensures { OnOk result (page.new ≡ page.old ++ text_of (unit_lines scalars.now unit.now)) }
 {
     let labels = Labels {
@@ -195,7 +205,7 @@ fn write_unit(scalars: &[Scalar], unit: &Unit, page: &mut Page) -> Result<(), Al
 
 /// Writes the nests.
 #[tactic(auto, using(crate::proofs::Texts::lists))]
-fn write_units(scalars: &[Scalar], units: &[Unit], page: &mut Page) -> Result<(), AllocError>
+fn write_units(scalars: &[Scalar], units: &[NestUnit], page: &mut Page) -> Result<(), AllocError>
     ensures { OnOk result (page.new ≡ page.old ++ text_of (flat_map (unit_lines scalars.now) units.now)) }
 {
     for unit in units {

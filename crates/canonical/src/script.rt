@@ -13,18 +13,10 @@ use nest_tokens::Mark;
 use std::alloc::AllocError;
 
 /// Writes a command's word.
-#[tactic(auto, unfolding(nest_grammar::specs::Scripts::word_spelling))]
 fn write_word(word: CommandWord, page: &mut Page) -> Result<(), AllocError>
     ensures { OnOk result (page.new ≡ page.old ++ word_spelling word) }
 {
-    match word {
-        CommandWord::Seq => page.text(b"seq"),
-        CommandWord::Swap => page.text(b"swap"),
-        CommandWord::Skew => page.text(b"skew"),
-        CommandWord::Tile => page.text(b"tile"),
-        CommandWord::Par => page.text(b"par"),
-        CommandWord::Wave => page.text(b"wave"),
-    }
+    page.text(word.spelling())
 }
 
 /// Writes a number behind a space.

@@ -9,12 +9,12 @@ use Rattle.clap.proofs.WalkLemmas.{first_value-rows}
 use Rattle.command_line.specs.Numbers.{IsNumberIn}
 use Rattle.std.specs.Str.Parse.{digits_value}
 use Rattle.clap.specs.Words.{matches_of}
-use Rattle.command_line.specs.Commands.{Finds, HasNumber, IsCommand}
+use Rattle.command_line.specs.Invocations.{Finds, HasNumber, IsInvocation}
 use Rattle.command_line.specs.Modes.{word_of}
 use Rattle.command_line.specs.Syntax.{syntax}
-use Rattle.command_line.specs.declared.command.Command.{Command}
-use Rattle.command_line.specs.declared.command.Mode.{Mode}
-use Rattle.command_line.specs.declared.command.Mode.TheVariants.{Plain, Check}
+use Rattle.command_line.specs.declared.invocation.Invocation.{Invocation}
+use Rattle.command_line.specs.declared.invocation.Mode.{Mode}
+use Rattle.command_line.specs.declared.invocation.Mode.TheVariants.{Plain, Check}
 
 pub nothing : {T : Type 0} (found : Option T) (P : T → Type 0) → found ≡ None → ((x : T) → P x → ⊥) → Finds found P
 nothing found P none h = subst (λ o. Finds o P) (sym none) h
@@ -87,8 +87,8 @@ one_number rows option least most one other h k =
 one_natural : (m n : ℕ) → pos m ≡ pos n → m ≡ n
 one_natural m n e = cc
 
-pub one_command : (words : List Text) (one other : Command) → IsCommand words one → IsCommand words other → one ≡ other
-one_command words one other h k =
+pub one_invocation : (words : List Text) (one other : Invocation) → IsInvocation words one → IsInvocation words other → one ≡ other
+one_invocation words one other h k =
     let rows = matches_of syntax words in
     let options = h.found.options in
     let others = k.found.options in

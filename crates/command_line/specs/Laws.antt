@@ -1,9 +1,13 @@
--- What holds of commands.
-use Rattle.std.specs.Prelude.{◌≡◌, List}
+-- What holds of invocations.
+use Rattle.std.specs.Prelude.{◌≡◌, ◌⊎◌, List}
 use Rattle.clap.specs.Words.{Text}
-use Rattle.command_line.specs.declared.command.Command.{Command}
-use Rattle.command_line.specs.Commands.{IsCommand}
+use Rattle.command_line.specs.declared.invocation.Invocation.{Invocation}
+use Rattle.command_line.specs.Invocations.{IsInvocation, IsNoInvocation}
 
--- words are at most one command
-abbrev pub OneCommand : Type 0
-OneCommand = (words : List Text) (one other : Command) → IsCommand words one → IsCommand words other → one ≡ other
+-- words are at most one invocation
+abbrev pub OneInvocation : Type 0
+OneInvocation = (words : List Text) (one other : Invocation) → IsInvocation words one → IsInvocation words other → one ≡ other
+
+-- words are an invocation, or they are none
+abbrev pub InvocationOrNone : Type 0
+InvocationOrNone = (words : List Text) → ((invocation : Invocation) × IsInvocation words invocation) ⊎ IsNoInvocation words

@@ -1,6 +1,6 @@
 pub mod Modes
 pub mod Numbers
 pub mod Syntax
-pub mod Commands
+pub mod Invocations
 pub mod Laws
 pub mod Examples

@@ -1,8 +1,8 @@
 -- Modes: the word of each mode that is built.
 use Rattle.std.specs.Prelude.{codes}
 use Rattle.clap.specs.Words.{Text}
-use Rattle.command_line.specs.declared.command.Mode.{Mode}
-use Rattle.command_line.specs.declared.command.Mode.TheVariants.{Plain, Check}
+use Rattle.command_line.specs.declared.invocation.Mode.{Mode}
+use Rattle.command_line.specs.declared.invocation.Mode.TheVariants.{Plain, Check}
 
 abbrev pub word_of : Mode → Text
 word_of Plain = codes "plain"

@@ -1,21 +1,19 @@
-//! The program's words: which lists of words are a command, and which command.
+//! The arguments of the program: which lists of words are an invocation, and which.
 //!
-//! `command_of` reads the words after the program's name. It has them parsed by the kit's `clap`, with
+//! `invocation_of` reads the words after the program's name. It has them parsed by the kit's `clap`, with
 //! the one simple command that `specs/Syntax.antt` writes out, and judges what was found: the mode, and
-//! the numbers of the four options in their ranges (`specs/Commands.antt`). It stands on no crate of
-//! this repository. The layer above takes the `Command`, or `usage_text` where the words are none.
+//! the numbers of the four options in their ranges (`specs/Invocations.antt`). It stands on no crate of
+//! this repository. The layer above takes the `Invocation`, or `usage_text` where the words are no invocation.
 #![tactic(auto)]
 
-mod command;
+mod invocation;
 pub mod laws;
 mod number;
 mod reading;
-mod refusals;
 mod syntax;
 
-pub use command::{Command, Mode, Options};
-pub use reading::{command_of, usage_text};
-pub use refusals::NoMemory;
+pub use invocation::{Invocation, Mode, Options};
+pub use reading::{invocation_of, usage_text};
 
 #[cfg(test)]
 mod tests;

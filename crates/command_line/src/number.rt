@@ -2,7 +2,7 @@
 
 ghost use Rattle.std.specs.Prelude.{◌↔◌, IsTrue, pos};
 ghost use Rattle.std.specs.Str.Parse.{AllDigits};
-ghost use Rattle.command_line.specs.Commands.{Finds};
+ghost use Rattle.command_line.specs.Invocations.{Finds};
 ghost use Rattle.command_line.specs.Numbers.{IsNumberIn};
 
 /// The most digits of a number, leading zeros among them.

@@ -2,50 +2,49 @@
 
 ghost use Rattle.std.specs.Prelude.{◌≡◌, IfOk, map, pos, string_bytes};
 ghost use Rattle.clap.specs.Words.{found_of, rows_of, kind_of};
-ghost use Rattle.command_line.specs.Commands.{Finds, IsCommand, IsFoundCommand, HasOptions, HasNumber, usage_line};
+ghost use Rattle.command_line.specs.Invocations.{Finds, IsInvocation, IsFoundInvocation, HasOptions, HasNumber, usage_line};
 
-use crate::command::{Command, Mode, Options};
+use crate::invocation::{Invocation, Mode, Options};
 use crate::number::number_in;
-use crate::refusals::NoMemory;
 use crate::syntax::syntax;
 use clap::ArgMatches;
 use clap::error::ErrorKind;
-use std::alloc::Global;
+use std::alloc::{AllocError, Global};
 
 const USAGE: &str =
     "usage: nestrun plain|run|check|deps|gen [SEED KIND SIZE] [--workers N] [--chunk N] [--sample N] [--steps N]\n";
 
-/// The command that the words after the program's name are, or None exactly where they are none
+/// The invocation that the words after the program's name are, or None exactly where they are none
 /// (docs/DEFINITIONS.md, Commands).
 ///
-/// `NoMemory` comes only for want of memory, and never in place of None.
-pub fn command_of(alloc: Global, words: &[String]) -> Result<Option<Command>, NoMemory>
-    ensures { IfOk result (λ found. Finds found (IsCommand (map string_bytes words.now))) }
+/// `AllocError` comes only for want of memory, and never in place of None.
+pub fn invocation_of(alloc: Global, words: &[String]) -> Result<Option<Invocation>, AllocError>
+    ensures { IfOk result (λ found. Finds found (IsInvocation (map string_bytes words.now))) }
 {
     match syntax(alloc)?.try_get_matches_from(words) {
-        Ok(matches) => Ok(command_in(&matches)),
-        Err(error) if error.kind() == ErrorKind::OutOfMemory => Err(NoMemory),
+        Ok(matches) => Ok(invocation_in(&matches)),
+        Err(error) if error.kind() == ErrorKind::OutOfMemory => Err(AllocError),
         Err(_) => Ok(None),
     }
 }
 
-/// What is written where the words are no command: one line, with its newline.
+/// What is written where the words are no invocation: one line, with its newline.
 pub fn usage_text() -> &'static str
     ensures { result.now ≡ usage_line }
 {
     USAGE
 }
 
-/// The command that was found in the words.
-fn command_in(matches: &ArgMatches<'_>) -> Option<Command>
-    ensures { Finds result (IsFoundCommand (rows_of (found_of matches.now))) }
+/// The invocation that was found in the words.
+fn invocation_in(matches: &ArgMatches<'_>) -> Option<Invocation>
+    ensures { Finds result (IsFoundInvocation (rows_of (found_of matches.now))) }
 {
     let mode = Mode::of_word(matches.get_str("MODE")?)?;
     if matches.get_raw("ARGS").is_some() {
         return None;
     }
     let options = options_in(matches)?;
-    Some(Command { mode, options })
+    Some(Invocation { mode, options })
 }
 
 /// The options, each with its number in its range.

@@ -16,17 +16,18 @@ use Rattle.nest_tokens.proofs.Marks.{is_mark-true}
 use Rattle.nest_grammar.specs.declared.fault.TextKind.TheVariants as kind
 use Rattle.nest_grammar.specs.declared.opening.Opening.{Opening}
 use Rattle.nest_grammar.specs.declared.opening.Opening.TheVariants as opening
-use Rattle.nest_grammar.specs.declared.opening.LoopWord.{LoopWord}
-use Rattle.nest_grammar.specs.declared.opening.LoopWord.TheVariants as loop
+use Rattle.nest_grammar.specs.declared.opening.LoopKeyword.{LoopKeyword}
+use Rattle.nest_grammar.specs.declared.opening.LoopKeyword.TheVariants as loop
 use Rattle.nest_grammar.specs.Limits.{most_lets, most_ifs}
 use Rattle.nest_grammar.specs.Sights.{Sight, stands, Sees, here, numbered, bound, in_block}
 use Rattle.nest_grammar.specs.Readings.{Reading, after, ◌>>=◌, gives, refused, wrong, skipped, need, obeys}
 use Rattle.nest_grammar.specs.Names.{Names, declared, fresh}
 use Rattle.nest_grammar.specs.Expressions.{access_number, expression}
 use Rattle.nest_grammar.specs.Statements.{opening_of, local_number, braced, else_at, else_of, branches, statement, another, listed, statements, with_lets, block_begins, block}
-use Rattle.nest_grammar.specs.Loops.{loop_word, Loops, not_zero, stride_at, stride, heading, inside, rest_at, rest_of, has_any, body_end, around, loop_of, loop_at, loops}
+use Rattle.nest_grammar.specs.Loops.{loop_keyword, Loops, not_zero, stride_at, stride, heading, inside, rest_at, rest_of, has_any, body_end, around, loop_of, loop_at, loops}
 use Rattle.grammar_laws.specs.Phrases.{Loop, Body, Stmt, Expr as AnExpr, Signed, Form, Nothing, Sign, Name, Many, The, ◌·◌, maybe, Allows, sign, both, one, other, the}
 use Rattle.grammar_laws.proofs.Sentences.{Word, Starts, word-then, starts-then, starts-as, word-many, word-maybe, word-sign, starts-sign, regroup, At, Of, at-as, of-then, at-nothing, of-gives, at-last, Real, at-skipped, at-refused, of-wrong, by-token, by-test, at-obeys, at-access, of-need, of-many}
+use Rattle.grammar_laws.specs.Kinds.{is_counted, is_solid}
 use Rattle.grammar_laws.proofs.Viable.{word-expr, word-body, word-loop, word-name, word-signed, of-signed_where, of-fresh, at-target, of-expression}
 
 -- Forms
@@ -98,10 +99,10 @@ at-statement branch hb names s (token.Name n) h (opening.Name m) k =
     let q : n ≡ m = cc in
     at-as (λ ts v. the (other (one v))) (of-then (at-target names m s (subst (λ (x : TokenName). stands s ≡ token.Name x) q h)) word-assigned (λ p t. of-then (of-need mark.Assign t) word-expr (λ _ u. at-last (of-expression names u) (λ e. of-gives (Set p e, names)))))
 at-statement branch hb names s (token.Plain mark.Let) h opening.Let k = at-as (λ ts v. the (one v)) (record {
-  is = (at-obeys {e = Sign mark.Let · Name · Assigned} (λ _. skipped >>= λ _. fresh names >>= λ n. local_number n >>= λ p. need mark.Assign >>= λ _. expression names >>= λ e. gives (Let p e, names ++ declared n (place.Local p) ∷ [])) (nat_lt (length s.lets) most_lets) kind.Many (token.Plain mark.Let) h (λ q. cc) (starts-then starts-sign (word-then word-name word-assigned))
+  is = (at-obeys {e = Sign mark.Let · Name · Assigned} (λ _. skipped >>= λ _. fresh names >>= λ n. local_number n >>= λ p. need mark.Assign >>= λ _. expression names >>= λ e. gives (Let p e, names ++ declared n (place.Local p) ∷ [])) (nat_lt (length s.lets) most_lets) kind.Many (token.Plain mark.Let) h (λ q. cc) (starts-then starts-sign (word-then word-name word-assigned)) refl
       (of-then (at-skipped (token.Plain mark.Let) h (λ q. cc) sign) (word-then word-name word-assigned) (λ _ t. of-then (of-fresh names t) word-assigned (λ n u. record { is = (of-then {g = The AnExpr} {f = λ _. expression names >>= λ e. gives (Let (length u.lets) e, names ++ declared n (place.Local (length u.lets)) ∷ [])} (of-need mark.Assign (bound n u)) word-expr (λ _ v. at-last (of-expression names v) (λ e. of-gives (Let (length u.lets) e, names ++ declared n (place.Local (length u.lets)) ∷ [])))).is })))).is;
 })
-at-statement branch hb names s (token.Plain mark.OpenBracket) h opening.Store k = at-as (λ ts v. the (other (other (one v)))) (at-access _ (token.Plain mark.OpenBracket) h (λ q. cc) (starts-then starts-sign (word-then word-expr (word-then word-sign word-assigned)))
+at-statement branch hb names s (token.Plain mark.OpenBracket) h opening.Store k = at-as (λ ts v. the (other (other (one v)))) (at-access _ (token.Plain mark.OpenBracket) h (λ q. cc) (starts-then starts-sign (word-then word-expr (word-then word-sign word-assigned))) refl
     (of-then (at-skipped (token.Plain mark.OpenBracket) h (λ q. cc) sign) (word-then word-expr (word-then word-sign word-assigned)) (λ _ t. of-then (of-expression names t) (word-then word-sign word-assigned) (λ a u. of-then (of-need mark.CloseBracket u) word-assigned (λ _ v. of-then (of-need mark.Assign v) word-expr (λ _ w. at-last (of-expression names w) (λ e. of-numbered names a e)))))))
 at-statement branch hb names s (token.Plain mark.If) h opening.If k = at-as (λ ts v. the (other (other (other v)))) (at-last (hb s h) (λ st. of-gives (st, names)))
 at-statement branch hb names s _ h o k = absurd (cc)
@@ -111,7 +112,7 @@ of-listed branch hb names s = at-last (of-many opening_of (another branch) (λ o
 
 of-statements : (d : ℕ) (names : Names) → Of Statements (statements d names)
 unfolding statements
-of-statements zero names s = of-listed (λ ns. refused kind.Deep) (λ ns s h. at-refused kind.Deep (token.Plain mark.If) h (λ q. cc) (starts-then starts-sign word-branches)) names s
+of-statements zero names s = of-listed (λ ns. refused kind.Deep) (λ ns s h. at-refused kind.Deep (token.Plain mark.If) h (λ q. cc) (starts-then starts-sign word-branches) refl) names s
 of-statements (suc d) names s = of-listed (λ ns. skipped >>= λ _. branches ns (statements d ns)) (λ ns s h. of-then (at-skipped (token.Plain mark.If) h (λ q. cc) sign) word-branches (λ _. of-branches ns (statements d ns) (of-statements d ns))) names s
 
 pub of-block : (names : Names) → Of Statements (block names)
@@ -136,7 +137,7 @@ word-named : Word (Name · Sign mark.Assign · Bounds)
 word-named = word-then word-name (word-then word-sign word-bounds)
 
 at-stride_at : (s : Sight) (b : Bool) → (b ≡ true → Sees mark.Step s) → At (maybe (Sign mark.Step · The Signed)) (stride_at b) s
-at-stride_at s true k = at-as (λ ts v. one v) (of-then (at-skipped (token.Plain mark.Step) (k refl) (λ q. cc) sign) word-signed (λ _. of-signed_where not_zero kind.Range))
+at-stride_at s true k = at-as (λ ts v. one v) (of-then (at-skipped (token.Plain mark.Step) (k refl) (λ q. cc) sign) word-signed (λ _. of-signed_where not_zero kind.Range (λ n. refl)))
 at-stride_at s false k = at-as (λ ts v. other v) (of-gives (pos 1) s)
 
 of-stride : Of (maybe (Sign mark.Step · The Signed)) stride
@@ -151,41 +152,52 @@ at-for names s h = of-then (at-skipped (token.Plain mark.For) h (λ q. cc) sign)
 at-while : (names : Names) (s : Sight) → Sees mark.While s → At Asked (heading names loop.While) s
 at-while names s h = of-then (at-skipped (token.Plain mark.While) h (λ q. cc) sign) word-expr (λ _ t. record { is = (at-last {B = Head × Option TokenName} {f = λ e. gives (head.While e, None)} (of-expression names (in_block t)) (λ e. of-gives (head.While e, None))).is })
 
-at-rest : (go : Reading Loops) → Of (The Loop) go → (names : Names) (s : Sight) (o : Option LoopWord) → At (maybe (The Loop · Statements)) (rest_at go names o) s
+at-rest : (go : Reading Loops) → Of (The Loop) go → (names : Names) (s : Sight) (o : Option LoopKeyword) → At (maybe (The Loop · Statements)) (rest_at go names o) s
 at-rest go h names s (Some w) = at-as (λ ts v. one v) (of-then (h s) word-many (λ ls t. at-last (of-block names t) (λ post. of-gives (ls, post))))
 at-rest go h names s None = at-as (λ ts v. other v) (of-gives (([], []), ([], [])) s)
 
 of-rest_of : (go : Reading Loops) → Of (The Loop) go → (names : Names) → Of (maybe (The Loop · Statements)) (rest_of go names)
-of-rest_of go h names s = by-token (λ t. rest_at go names (loop_word t)) (λ t k. at-rest go h names s (loop_word t))
+of-rest_of go h names s = by-token (λ t. rest_at go names (loop_keyword t)) (λ t k. at-rest go h names s (loop_keyword t))
 
 of-body_end : (pre : List Statement) (ls : List NestLoop) → Of (Sign mark.CloseBrace) (body_end pre ls)
 unfolding body_end
 of-body_end pre ls s = by-token (λ t s. if is_mark mark.CloseBrace t then (obeys (has_any pre ls) kind.Empty >>= λ _. skipped) s else wrong s) (λ t k. by-test (is_mark mark.CloseBrace t) (obeys (has_any pre ls) kind.Empty >>= λ _. skipped) wrong
-    (λ q. (let e : stands s ≡ token.Plain mark.CloseBrace = k ∙ is_mark-true mark.CloseBrace t q in at-obeys (λ _. skipped) (has_any pre ls) kind.Empty (token.Plain mark.CloseBrace) e (λ j. cc) starts-sign (at-skipped (token.Plain mark.CloseBrace) e (λ j. cc) sign)))
+    (λ q. (let e : stands s ≡ token.Plain mark.CloseBrace = k ∙ is_mark-true mark.CloseBrace t q in at-obeys (λ _. skipped) (has_any pre ls) kind.Empty (token.Plain mark.CloseBrace) e (λ j. cc) starts-sign refl (at-skipped (token.Plain mark.CloseBrace) e (λ j. cc) sign)))
     (λ q. of-wrong word-sign s))
 
 of-body : (inner : Names → Reading Loops) → ((ns : Names) → Of (The Loop) (inner ns)) → (level : ℕ) (names : Names) (h : Head × Option TokenName) → Of (The Body) (need mark.OpenBrace >>= λ _. block (inside names level h.1) >>= λ pre. rest_of (inner (inside names level h.1)) (inside names level h.1) >>= λ x. body_end pre.0 x.0.0 >>= λ _. gives (around h pre x))
 of-body inner hi level names h s = at-as (λ ts v. the v) (of-then (of-need mark.OpenBrace s) (word-then word-many (word-then word-maybe word-sign)) (λ _ t. of-then (of-block (inside names level h.1) t) (word-then word-maybe word-sign) (λ pre u. of-then (of-rest_of (inner (inside names level h.1)) (hi (inside names level h.1)) (inside names level h.1) u) word-sign (λ x v. at-last (of-body_end pre.0 x.0.0 v) (λ _. of-gives (around h pre x))))))
 
-at-loop_of : (inner : Names → Reading Loops) → ((ns : Names) → Of (The Loop) (inner ns)) → (level : ℕ) (names : Names) (s : Sight) (t : Token) → stands s ≡ t → (w : LoopWord) → loop_word t ≡ Some w → At (The Loop) (loop_of inner level names w) s
-unfolding loop_word
+at-loop_of : (inner : Names → Reading Loops) → ((ns : Names) → Of (The Loop) (inner ns)) → (level : ℕ) (names : Names) (s : Sight) (t : Token) → stands s ≡ t → (w : LoopKeyword) → loop_keyword t ≡ Some w → At (The Loop) (loop_of inner level names w) s
+unfolding loop_keyword
 at-loop_of inner hi level names s (token.Plain mark.For) h loop.For k = at-as (λ ts v. the (one (regroup7 ts v))) (of-then (at-for names s h) word-body (of-body inner hi level names))
 at-loop_of inner hi level names s (token.Plain mark.While) h loop.While k = at-as (λ ts v. the (other (regroup ts v))) (of-then (at-while names s h) word-body (of-body inner hi level names))
 at-loop_of inner hi level names s _ h w k = absurd (cc)
 
-pub starts-loop : (t : Token) (w : LoopWord) → loop_word t ≡ Some w → Real t × Starts (The Loop) t
-unfolding loop_word
+pub starts-loop : (t : Token) (w : LoopKeyword) → loop_keyword t ≡ Some w → Real t × Starts (The Loop) t
+unfolding loop_keyword
 starts-loop (token.Plain mark.For) w k = (λ q. cc, starts-as (λ ts v. the (one (regroup7 ts v))) (starts-then (starts-then starts-sign word-named) word-body))
 starts-loop (token.Plain mark.While) w k = (λ q. cc, starts-as (λ ts v. the (other (regroup ts v))) (starts-then (starts-then starts-sign word-expr) word-body))
 starts-loop _ w k = absurd (cc)
 
-at-loop_at : (go : LoopWord → Reading Loops) (s : Sight) (t : Token) → stands s ≡ t → ((w : LoopWord) → loop_word t ≡ Some w → At (The Loop) (go w) s) → (o : Option LoopWord) → loop_word t ≡ o → At (The Loop) (loop_at go o) s
+loop-solid : (t : Token) (w : LoopKeyword) → loop_keyword t ≡ Some w → is_solid t ≡ true
+unfolding loop_keyword
+loop-solid (token.Plain m) w k = refl
+loop-solid _ w k = absurd (cc)
+
+pub loop-counted : (t : Token) (w : LoopKeyword) → loop_keyword t ≡ Some w → is_counted t ≡ true
+unfolding loop_keyword
+loop-counted (token.Plain mark.For) w k = refl
+loop-counted (token.Plain mark.While) w k = refl
+loop-counted _ w k = absurd (cc)
+
+at-loop_at : (go : LoopKeyword → Reading Loops) (s : Sight) (t : Token) → stands s ≡ t → ((w : LoopKeyword) → loop_keyword t ≡ Some w → At (The Loop) (go w) s) → (o : Option LoopKeyword) → loop_keyword t ≡ o → At (The Loop) (loop_at go o) s
 at-loop_at go s t h hg (Some w) k = hg w k
 at-loop_at go s t h hg None k = of-wrong word-loop s
 
 pub of-loops : (d level : ℕ) (names : Names) → Of (The Loop) (loops d level names)
 unfolding loops
-of-loops zero level names s = by-token (λ t. loop_at (λ w. refused kind.Deep) (loop_word t)) (λ t h. at-loop_at (λ w. refused kind.Deep) s t h (λ w k. (let v = starts-loop t w k in at-refused kind.Deep t h v.0 v.1)) (loop_word t) refl)
+of-loops zero level names s = by-token (λ t. loop_at (λ w. refused kind.Deep) (loop_keyword t)) (λ t h. at-loop_at (λ w. refused kind.Deep) s t h (λ w k. (let v = starts-loop t w k in at-refused kind.Deep t h v.0 v.1 (loop-solid t w k))) (loop_keyword t) refl)
 of-loops (suc d) level names s =
     let hi : (ns : Names) → Of (The Loop) (loops d (suc level) ns) = of-loops d (suc level) in
-    by-token (λ t. loop_at (loop_of (loops d (suc level)) level names) (loop_word t)) (λ t h. at-loop_at (loop_of (loops d (suc level)) level names) s t h (λ w k. at-loop_of (loops d (suc level)) hi level names s t h w k) (loop_word t) refl)
+    by-token (λ t. loop_at (loop_of (loops d (suc level)) level names) (loop_keyword t)) (λ t h. at-loop_at (loop_of (loops d (suc level)) level names) s t h (λ w k. at-loop_of (loops d (suc level)) hi level names s t h w k) (loop_keyword t) refl)

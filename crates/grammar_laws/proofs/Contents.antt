@@ -12,20 +12,20 @@ use Rattle.nest_grammar.specs.declared.version.Version.TheVariants.{One, Two as 
 use Rattle.nest_grammar.specs.declared.file.Scalar.{Scalar}
 use Rattle.nest_grammar.specs.declared.file.Item.{Item}
 use Rattle.nest_grammar.specs.declared.file.Item.TheVariants.{Data, Ramp}
-use Rattle.nest_grammar.specs.declared.file.Unit.{Unit as NestUnit}
+use Rattle.nest_grammar.specs.declared.file.NestUnit.{NestUnit}
 use Rattle.nest_grammar.specs.declared.file.File.{File}
-use Rattle.nest_grammar.specs.declared.opening.ItemWord.{ItemWord}
-use Rattle.nest_grammar.specs.declared.opening.ItemWord.TheVariants as word
-use Rattle.nest_grammar.specs.declared.opening.LoopWord.{LoopWord}
+use Rattle.nest_grammar.specs.declared.opening.ItemKeyword.{ItemKeyword}
+use Rattle.nest_grammar.specs.declared.opening.ItemKeyword.TheVariants as word
+use Rattle.nest_grammar.specs.declared.opening.LoopKeyword.{LoopKeyword}
 use Rattle.nest_grammar.specs.declared.fault.TextFault.{TextFault}
 use Rattle.nest_grammar.specs.declared.fault.TextKind.TheVariants as kind
 use Rattle.nest_grammar.specs.Limits.{most_bytes, most_words, most_scalars, most_nests, most_depth}
 use Rattle.nest_grammar.specs.Sights.{Sight, stands, Sees, skip, of_version, start}
-use Rattle.nest_grammar.specs.Readings.{Reading, after, ◌>>=◌, refused, wrong, need, obeys, number, number_where, signed, at_mark, many}
+use Rattle.nest_grammar.specs.Readings.{Reading, after, ◌>>=◌, refused, wrong, need, obeys, number, number_where, signed, at_mark, many, always}
 use Rattle.nest_grammar.specs.Names.{Names, place_of, names_of}
-use Rattle.nest_grammar.specs.Loops.{loop_word, loops}
+use Rattle.nest_grammar.specs.Loops.{loop_keyword, loops}
 use Rattle.nest_grammar.specs.Scripts.{candidate, candidates}
-use Rattle.nest_grammar.specs.Contents.{set_version, version_at, version, scalar, scalars, memory, item_word, value_begins, data_value, next_value, data_values, ramp_fits, item_of, item, items, unit, next_unit, other_units, units, contents, file_of, too_long, reading}
+use Rattle.nest_grammar.specs.Contents.{set_version, version_at, version, scalar, scalars, memory, item_keyword, value_begins, data_value, next_value, data_values, ramp_fits, item_of, item, items, unit, next_unit, other_units, units, contents, file_of, too_long, reading}
 use Rattle.nest_grammar.specs.Grammar.{SeesNumber, SeesName, IsSigned, unsigned, negative, IsLoops, IsCandidates, IsUnit, IsUnits, IsScalars, IsValues, IsItem, data_, ramp, IsItems, IsVersion, Reads}
 use Rattle.nest_grammar.specs.Grammar as grammar
 use Rattle.nest_grammar.proofs.Many.{many-stop}
@@ -43,7 +43,7 @@ use Rattle.grammar_laws.proofs.Versions.{kept-unit, kept-scalars, kept-items}
 signed-read : (s : Sight) (v : ℤ) (t : Sight) → IsSigned s v t → signed s ≡ Ok (v, t)
 signed-read s v t i = signed-is (λ v. true) kind.Range s v t i refl
 
-scalar-read : (cs : List Scalar) (n : Name) (v : ℤ) (s t : Sight) → length cs < most_scalars → SeesName n (skip s) → place_of (names_of cs) n ≡ None → Sees mark.Assign (skip (skip s)) → IsSigned (skip (skip (skip s))) v t → scalar tt cs s ≡ Ok (cs ++ record { name = n; value = v } ∷ [], t)
+scalar-read : (cs : List Scalar) (n : Name) (v : ℤ) (s t : Sight) → length cs < most_scalars → SeesName n (skip s) → place_of (names_of cs) n ≡ None → Sees mark.Assign (skip (skip s)) → IsSigned (skip (skip (skip s))) v t → scalar cs s ≡ Ok (cs ++ record { name = n; value = v } ∷ [], t)
 scalar-read cs n v s t l h k a i =
     let x1 = fewer-room (length cs) most_scalars s l in
     let x2 = fresh-sees (names_of cs) n (skip s) h k in
@@ -51,11 +51,11 @@ scalar-read cs n v s t l h k a i =
     let x4 = signed-read (skip (skip (skip s))) v t i in
     rw (x1, x2, x3, x4)
 
-scalars-complete : {s : Sight} {cs : List Scalar} {t : Sight} → IsScalars s cs t → scalars s ≡ many (at_mark mark.Scalar) scalar cs t
+scalars-complete : {s : Sight} {cs : List Scalar} {t : Sight} → IsScalars s cs t → scalars s ≡ many (at_mark mark.Scalar) (always scalar) cs t
 unfolding scalars
 scalars-complete grammar.none = refl
 scalars-complete (grammar.more {cs} {n} {v} {s} {t} {u} i h l k f a j) =
-    scalars-complete i ∙ many-reads (at_mark mark.Scalar) scalar cs (cs ++ record { name = n; value = v } ∷ []) t u tt parts-scalar (mark-begins mark.Scalar t h) (scalar-read cs n v t u l k f a j)
+    scalars-complete i ∙ many-reads (at_mark mark.Scalar) (always scalar) cs (cs ++ record { name = n; value = v } ∷ []) t u tt parts-scalar (mark-begins mark.Scalar t h) (scalar-read cs n v t u l k f a j)
 
 memory-no-scalar : (s : Sight) → Sees mark.Memory s → at_mark mark.Scalar (stands s) ≡ None
 unfolding is_mark spelling
@@ -80,64 +80,64 @@ data_value-read words address v s t l i =
     let x3 = signed-read s v t i in
     rw (x1, x2, x3)
 
-next_value-read : (words first : ℕ) (vs : List ℤ) (v : ℤ) (s t : Sight) → first + length vs < words → IsSigned (skip s) v t → next_value words first tt vs s ≡ Ok (vs ++ v ∷ [], t)
+next_value-read : (words first : ℕ) (vs : List ℤ) (v : ℤ) (s t : Sight) → first + length vs < words → IsSigned (skip s) v t → next_value words first vs s ≡ Ok (vs ++ v ∷ [], t)
 next_value-read words first vs v s t l i = let x = data_value-read words (first + length vs) v (skip s) t l i in rw x
 
-values-complete : {words first : ℕ} {s : Sight} {vs : List ℤ} {t : Sight} → IsValues words first s vs t → data_values words first s ≡ many (at_mark mark.Comma) (next_value words first) vs t
+values-complete : {words first : ℕ} {s : Sight} {vs : List ℤ} {t : Sight} → IsValues words first s vs t → data_values words first s ≡ many (at_mark mark.Comma) (always (next_value words first)) vs t
 unfolding data_values
 values-complete {words} {first} (grammar.one {v} {s} {t} l i) = let x = data_value-read words first v s t l i in rw x
 values-complete {words} {first} (grammar.more {vs} {v} {s} {t} {u} i h l j) =
-    values-complete i ∙ many-reads (at_mark mark.Comma) (next_value words first) vs (vs ++ v ∷ []) t u tt (parts-value words first) (mark-begins mark.Comma t h) (next_value-read words first vs v t u l j)
+    values-complete i ∙ many-reads (at_mark mark.Comma) (always (next_value words first)) vs (vs ++ v ∷ []) t u tt (parts-value words first) (mark-begins mark.Comma t h) (next_value-read words first vs v t u l j)
 
-item-read : (words : ℕ) (w : ItemWord) (is : List Item) (i : Item) (s t : Sight) → item_of words w (skip s) ≡ Ok (i, t) → item words w is s ≡ Ok (is ++ i ∷ [], t)
+item-read : (words : ℕ) (w : ItemKeyword) (is : List Item) (i : Item) (s t : Sight) → item_of words w (skip s) ≡ Ok (i, t) → item words w is s ≡ Ok (is ++ i ∷ [], t)
 item-read words w is i s t h = rw h
 
 -- the item that begins with this word
 abbrev Begun : ℕ → Sight → Item → Sight → Type 0
-Begun words s i t = (w : ItemWord) × (item_word (stands s) ≡ Some w) × (item_of words w (skip s) ≡ Ok (i, t))
+Begun words s i t = (w : ItemKeyword) × (item_keyword (stands s) ≡ Some w) × (item_of words w (skip s) ≡ Ok (i, t))
 
 item-complete : (words : ℕ) (s : Sight) (i : Item) (t : Sight) → IsItem words s i t → at_mark mark.Comma (stands t) ≡ None → Begun words s i t
-unfolding item_word item_of
+unfolding item_keyword item_of
 item-complete words s _ u (data_ {first} {vs} {t = t} h n q c v) e =
     let x1 = number-sees (λ n. true) kind.Range first (skip s) n refl in
     let x2 : need mark.Colon (skip (skip s)) ≡ Ok (tt, skip t) = ap (need mark.Colon) (sym q) ∙ need-sees mark.Colon t c in
-    let x3 : data_values words first (skip t) ≡ Ok (vs, u) = values-complete v ∙ many-stop (at_mark mark.Comma) (next_value words first) vs u e in
-    (word.Data, ap item_word h, (rw (x1, x2, x3) refl))
+    let x3 : data_values words first (skip t) ≡ Ok (vs, u) = values-complete v ∙ many-stop (at_mark mark.Comma) (always (next_value words first)) vs u e in
+    (word.Data, ap item_keyword h, (rw (x1, x2, x3) refl))
 item-complete words s _ w (ramp {first} {count} {stride} {start} {growth} {t = t} {u} {v} h f q c r k n i j m) e =
     let x1 = number-sees (λ n. true) kind.Range first (skip s) f refl in
     let x2 : number (skip (skip s)) ≡ Ok (count, u) = ap number (sym q) ∙ number-sees (λ n. true) kind.Range count t c refl ∙ ap (λ (z : Sight). Ok (count, z)) (sym r) in
     let x3 = number-sees (λ n. not (n == 0)) kind.Range stride u k (not-equal stride 0 n) in
     let x4 = signed-read (skip u) start v i in
     let x5 = signed-is (ramp_fits words first count stride start) kind.Range v growth w j m in
-    (word.Ramp, ap item_word h, (rw (x1, x2, x3, x4, x5) refl))
+    (word.Ramp, ap item_keyword h, (rw (x1, x2, x3, x4, x5) refl))
 
-item-no-comma : (t : Token) (w : ItemWord) → item_word t ≡ Some w → at_mark mark.Comma t ≡ None
-unfolding item_word is_mark spelling
+item-no-comma : (t : Token) (w : ItemKeyword) → item_keyword t ≡ Some w → at_mark mark.Comma t ≡ None
+unfolding item_keyword is_mark spelling
 item-no-comma (token.Plain mark.Data) w h = refl
 item-no-comma (token.Plain mark.Ramp) w h = refl
 item-no-comma _ w h = absurd (cc)
 
-items-complete : {words : ℕ} {s : Sight} {is : List Item} {t : Sight} → IsItems words s is t → at_mark mark.Comma (stands t) ≡ None → items words s ≡ many item_word (item words) is t
+items-complete : {words : ℕ} {s : Sight} {is : List Item} {t : Sight} → IsItems words s is t → at_mark mark.Comma (stands t) ≡ None → items words s ≡ many item_keyword (item words) is t
 unfolding items
 items-complete grammar.none e = refl
 items-complete {words} (grammar.more {is} {i} {s} {t} {u} j k) e =
     let f = item-complete words t i u k e in
-    items-complete j (item-no-comma (stands t) f.0 f.1) ∙ many-reads item_word (item words) is (is ++ i ∷ []) t u f.0 (parts-item words) f.1 (item-read words f.0 is i t u f.2)
+    items-complete j (item-no-comma (stands t) f.0 f.1) ∙ many-reads item_keyword (item words) is (is ++ i ∷ []) t u f.0 (parts-item words) f.1 (item-read words f.0 is i t u f.2)
 
-word-no-item : (t : Token) (w : LoopWord) → loop_word t ≡ Some w → (item_word t ≡ None) × (at_mark mark.Comma t ≡ None) × (at_mark mark.Candidate t ≡ None)
-unfolding loop_word item_word is_mark spelling
+word-no-item : (t : Token) (w : LoopKeyword) → loop_keyword t ≡ Some w → (item_keyword t ≡ None) × (at_mark mark.Comma t ≡ None) × (at_mark mark.Candidate t ≡ None)
+unfolding loop_keyword item_keyword is_mark spelling
 word-no-item (token.Plain mark.For) w h = (refl, refl, refl)
 word-no-item (token.Plain mark.While) w h = (refl, refl, refl)
 word-no-item _ w h = absurd (cc)
 
-end-stops : (s : Sight) → stands s ≡ token.End → (loop_word (stands s) ≡ None) × (at_mark mark.Candidate (stands s) ≡ None)
-unfolding loop_word is_mark
+end-stops : (s : Sight) → stands s ≡ token.End → (loop_keyword (stands s) ≡ None) × (at_mark mark.Candidate (stands s) ≡ None)
+unfolding loop_keyword is_mark
 end-stops s h = rw h (refl, refl)
 
-unit-front : {v : Version} {names : Names} {s : Sight} {u : NestUnit} {t : Sight} → IsUnit v names s u t → (w : LoopWord) × (loop_word (stands s) ≡ Some w)
+unit-front : {v : Version} {names : Names} {s : Sight} {u : NestUnit} {t : Sight} → IsUnit v names s u t → (w : LoopKeyword) × (loop_keyword (stands s) ≡ Some w)
 unit-front (grammar.unit i j) = loops-front i
 
-units-front : {names : Names} {v : Version} {s : Sight} {us : List NestUnit} {t : Sight} → IsUnits names v s us t → (w : LoopWord) × (loop_word (stands s) ≡ Some w)
+units-front : {names : Names} {v : Version} {s : Sight} {us : List NestUnit} {t : Sight} → IsUnits names v s us t → (w : LoopKeyword) × (loop_keyword (stands s) ≡ Some w)
 units-front (grammar.one i) = unit-front i
 units-front (grammar.more i l j) = units-front i
 
@@ -145,10 +145,10 @@ unit-complete : (v : Version) (names : Names) (s : Sight) (u : NestUnit) (t : Si
 unfolding unit
 unit-complete v names s _ u (grammar.unit {ls} {ns} {scripts} {t = t} i j) q e =
     let x1 : loops (most_depth s.version) 0 names s ≡ Ok ((ls, ns), t) = ap (λ (v : Version). loops (most_depth v) 0 names s) q ∙ loops-complete i in
-    let x2 : candidates (length ls) t ≡ Ok (scripts, u) = candidates-complete j ∙ many-stop (at_mark mark.Candidate) (candidate (length ls)) scripts u e in
+    let x2 : candidates (length ls) t ≡ Ok (scripts, u) = candidates-complete j ∙ many-stop (at_mark mark.Candidate) (always (candidate (length ls))) scripts u e in
     rw (x1, x2)
 
-next_unit-read : (names : Names) (w : LoopWord) (us : List NestUnit) (u : NestUnit) (s t : Sight) → length us < most_nests → unit names s ≡ Ok (u, t) → next_unit names w us s ≡ Ok (us ++ u ∷ [], t)
+next_unit-read : (names : Names) (w : LoopKeyword) (us : List NestUnit) (u : NestUnit) (s t : Sight) → length us < most_nests → unit names s ≡ Ok (u, t) → next_unit names w us s ≡ Ok (us ++ u ∷ [], t)
 next_unit-read names w us u s t l h = let x = fewer-room (length us) most_nests s l in rw (x, h)
 
 kept-units : {names : Names} {v : Version} {s : Sight} {us : List NestUnit} {t : Sight} → IsUnits names v s us t → t.version ≡ s.version
@@ -161,11 +161,11 @@ units-complete {names} (grammar.one {version = v} {n} {s} {t} i) q e = let x = u
 units-complete {names} (grammar.more {ns} {n} {s} {t} {u} i l j) q e =
     let f = unit-front j in
     let g = word-no-item (stands t) f.0 f.1 in
-    units-complete i q g.2 ∙ many-reads loop_word (next_unit names) ns (ns ++ n ∷ []) t u f.0 (parts-next_unit names) f.1 (next_unit-read names f.0 ns n t u l (unit-complete Several names t n u j (kept-units i ∙ q) e))
+    units-complete i q g.2 ∙ many-reads loop_keyword (next_unit names) ns (ns ++ n ∷ []) t u f.0 (parts-next_unit names) f.1 (next_unit-read names f.0 ns n t u l (unit-complete Several names t n u j (kept-units i ∙ q) e))
 
-other_units-end : (v : Version) (names : Names) (us : List NestUnit) (s : Sight) → loop_word (stands s) ≡ None → other_units v names us s ≡ Ok (us, s)
+other_units-end : (v : Version) (names : Names) (us : List NestUnit) (s : Sight) → loop_keyword (stands s) ≡ None → other_units v names us s ≡ Ok (us, s)
 other_units-end One names us s h = refl
-other_units-end Several names us s h = many-stop loop_word (next_unit names) us s h
+other_units-end Several names us s h = many-stop loop_keyword (next_unit names) us s h
 
 version-complete : (s : Sight) (v : Version) (t : Sight) → IsVersion s v t → (version s ≡ Ok (v, t)) × (t.version ≡ v)
 unfolding version
@@ -178,11 +178,11 @@ reads-reading text _ (grammar.file {version = ver} {scalars = cs} {words} {items
     let x0 = le-leb (length text) most_bytes l in
     let xv = version-complete (start text) ver s iv in
     let x1 = xv.0 in
-    let x2 : scalars s ≡ Ok (cs, t) = scalars-complete ic ∙ many-stop (at_mark mark.Scalar) scalar cs t (memory-no-scalar t m) in
+    let x2 : scalars s ≡ Ok (cs, t) = scalars-complete ic ∙ many-stop (at_mark mark.Scalar) (always scalar) cs t (memory-no-scalar t m) in
     let x3 = memory-complete t words m n b in
     let f = units-front iu in
     let g = word-no-item (stands u) f.0 f.1 in
-    let x4 : items words (skip (skip t)) ≡ Ok (is, u) = items-complete ii g.1 ∙ many-stop item_word (item words) is u g.0 in
+    let x4 : items words (skip (skip t)) ≡ Ok (is, u) = items-complete ii g.1 ∙ many-stop item_keyword (item words) is u g.0 in
     let w : u.version ≡ ver = kept-items ii ∙ kept-scalars ic ∙ xv.1 in
     let z = end-stops v e in
     let x5 : units ver (names_of cs) u ≡ Ok (us, v) = units-complete iu w z.1 ∙ other_units-end ver (names_of cs) us v z.0 in
@@ -193,9 +193,9 @@ reads-reading text _ (grammar.file {version = ver} {scalars = cs} {words} {items
 
 scalars-sound : (s : Sight) (x : List Scalar × Sight) → scalars s ≡ Ok x → IsScalars s x.0 x.1
 unfolding scalars
-scalars-sound s x h = many-sound (IsScalars s) (at_mark mark.Scalar) scalar next [] s x grammar.none h
+scalars-sound s x h = many-sound (IsScalars s) (at_mark mark.Scalar) (always scalar) next [] s x grammar.none h
   where
-    next : (cs : List Scalar) (t : Sight) (u : Unit {0}) (y : List Scalar × Sight) → IsScalars s cs t → at_mark mark.Scalar (stands t) ≡ Some u → scalar u cs t ≡ Ok y → IsScalars s y.0 y.1
+    next : (cs : List Scalar) (t : Sight) (u : Unit {0}) (y : List Scalar × Sight) → IsScalars s cs t → at_mark mark.Scalar (stands t) ≡ Some u → scalar cs t ≡ Ok y → IsScalars s y.0 y.1
     next cs t u y i e k =
         let f1 = fewer-then (length cs) most_scalars _ t y k in
         let f2 = fresh-then (names_of cs) _ (skip t) y f1.1 in
@@ -228,26 +228,26 @@ unfolding data_values
 values-sound words first s x h =
     let f = read-then (data_value words first s) _ x h in
     let g = data_value-sound words first s f.0 f.1 in
-    many-sound (IsValues words first s) (at_mark mark.Comma) (next_value words first) next (f.0.0 ∷ []) f.0.1 x (grammar.one g.0 g.1) f.2
+    many-sound (IsValues words first s) (at_mark mark.Comma) (always (next_value words first)) next (f.0.0 ∷ []) f.0.1 x (grammar.one g.0 g.1) f.2
   where
-    next : (vs : List ℤ) (t : Sight) (u : Unit {0}) (y : List ℤ × Sight) → IsValues words first s vs t → at_mark mark.Comma (stands t) ≡ Some u → next_value words first u vs t ≡ Ok y → IsValues words first s y.0 y.1
+    next : (vs : List ℤ) (t : Sight) (u : Unit {0}) (y : List ℤ × Sight) → IsValues words first s vs t → at_mark mark.Comma (stands t) ≡ Some u → next_value words first vs t ≡ Ok y → IsValues words first s y.0 y.1
     next vs t u y i e k =
         let f = read-then (data_value words (first + length vs) (skip t)) _ y k in
         let g = data_value-sound words (first + length vs) (skip t) f.0 f.1 in
         let q = given (vs ++ f.0.0 ∷ []) f.0.1 y f.2 in
         rw q (grammar.more i (mark-sees mark.Comma t u e) g.0 g.1)
 
-data-token : (t : Token) → item_word t ≡ Some word.Data → t ≡ token.Plain mark.Data
-unfolding item_word
+data-token : (t : Token) → item_keyword t ≡ Some word.Data → t ≡ token.Plain mark.Data
+unfolding item_keyword
 data-token (token.Plain mark.Data) h = refl
 data-token _ h = absurd (cc)
 
-ramp-token : (t : Token) → item_word t ≡ Some word.Ramp → t ≡ token.Plain mark.Ramp
-unfolding item_word
+ramp-token : (t : Token) → item_keyword t ≡ Some word.Ramp → t ≡ token.Plain mark.Ramp
+unfolding item_keyword
 ramp-token (token.Plain mark.Ramp) h = refl
 ramp-token _ h = absurd (cc)
 
-item-sound : (words : ℕ) (w : ItemWord) (s : Sight) (x : Item × Sight) → item_word (stands s) ≡ Some w → item_of words w (skip s) ≡ Ok x → IsItem words s x.0 x.1
+item-sound : (words : ℕ) (w : ItemKeyword) (s : Sight) (x : Item × Sight) → item_keyword (stands s) ≡ Some w → item_of words w (skip s) ≡ Ok x → IsItem words s x.0 x.1
 unfolding item_of
 item-sound words word.Data s x k h =
     let f1 = number-then (λ n. true) kind.Range _ (skip s) x h in
@@ -266,9 +266,9 @@ item-sound words word.Ramp s x k h =
 
 items-sound : (words : ℕ) (s : Sight) (x : List Item × Sight) → items words s ≡ Ok x → IsItems words s x.0 x.1
 unfolding items
-items-sound words s x h = many-sound (IsItems words s) item_word (item words) next [] s x grammar.none h
+items-sound words s x h = many-sound (IsItems words s) item_keyword (item words) next [] s x grammar.none h
   where
-    next : (is : List Item) (t : Sight) (w : ItemWord) (y : List Item × Sight) → IsItems words s is t → item_word (stands t) ≡ Some w → item words w is t ≡ Ok y → IsItems words s y.0 y.1
+    next : (is : List Item) (t : Sight) (w : ItemKeyword) (y : List Item × Sight) → IsItems words s is t → item_keyword (stands t) ≡ Some w → item words w is t ≡ Ok y → IsItems words s y.0 y.1
     next is t w y i e k =
         let f = read-then (item_of words w (skip t)) _ y k in
         let q = given (is ++ f.0.0 ∷ []) f.0.1 y f.2 in
@@ -285,9 +285,9 @@ unit-sound v names s x q h =
 
 other_units-sound : (v : Version) (names : Names) (s : Sight) (us : List NestUnit) (t : Sight) (x : List NestUnit × Sight) → s.version ≡ v → IsUnits names v s us t → other_units v names us t ≡ Ok x → IsUnits names v s x.0 x.1
 other_units-sound One names s us t x q i h = let e = given us t x h in rw e i
-other_units-sound Several names s us t x q i h = many-sound (IsUnits names Several s) loop_word (next_unit names) next us t x i h
+other_units-sound Several names s us t x q i h = many-sound (IsUnits names Several s) loop_keyword (next_unit names) next us t x i h
   where
-    next : (us : List NestUnit) (t : Sight) (w : LoopWord) (y : List NestUnit × Sight) → IsUnits names Several s us t → loop_word (stands t) ≡ Some w → next_unit names w us t ≡ Ok y → IsUnits names Several s y.0 y.1
+    next : (us : List NestUnit) (t : Sight) (w : LoopKeyword) (y : List NestUnit × Sight) → IsUnits names Several s us t → loop_keyword (stands t) ≡ Some w → next_unit names w us t ≡ Ok y → IsUnits names Several s y.0 y.1
     next us t w y i e k =
         let f = fewer-then (length us) most_nests _ t y k in
         let g = read-then (unit names t) _ y f.1 in

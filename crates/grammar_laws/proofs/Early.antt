@@ -8,12 +8,13 @@ use Rattle.nest_tokens.specs.declared.token.Token.{Token}
 use Rattle.nest_tokens.specs.declared.token.Token.TheVariants as token
 use Rattle.nest_tokens.specs.declared.token.BadToken.TheVariants as bad
 use Rattle.nest_tokens.specs.declared.token.Spot.{Spot}
-use Rattle.nest_tokens.specs.Tokens.{word_of, sign_at}
-use Rattle.nest_tokens.specs.Lexing.{is_letter, is_digit, is_name_byte, gap, decimal, numbered, named, word_or_name, spelled_by, sign_or_byte, lexed, spots_at, spots, tokens_from, tokens}
+use Rattle.nest_tokens.specs.Tokens.{keyword_of, sign_at}
+use Rattle.nest_tokens.specs.Lexing.{is_letter, is_digit, is_name_byte, gap, decimal, numbered, named, keyword_or_name, spelled_by, sign_or_byte, lexed, spots_at, spots, tokens_from, tokens}
 use Rattle.nest_grammar.specs.declared.fault.TextFault.{TextFault}
 use Rattle.nest_grammar.specs.declared.file.File.{File}
 use Rattle.nest_grammar.specs.Limits.{most_bytes}
-use Rattle.nest_grammar.specs.Sights.{Sight, first, start}
+use Rattle.nest_tokens.specs.Ahead.{first}
+use Rattle.nest_grammar.specs.Sights.{Sight, start}
 use Rattle.nest_grammar.specs.Contents.{contents, file_of, reading}
 use Rattle.nest_grammar.proofs.Local.{Same, Here, relocated}
 use Rattle.nest_grammar.proofs.Productions.{local-contents}
@@ -43,13 +44,13 @@ real-numbered : (ds : List ℕ) → Real (numbered ds)
 unfolding numbered
 real-numbered ds h = elim (nat_lt (decimal ds) (2 ^ 63)) as (λ b. cond b (token.Number (pos (decimal ds))) (token.Bad bad.Number) ≡ token.End → ⊥) [ true ↦ λ k. cc | false ↦ λ k. cc ] h
 
-real-word : (o : Option Mark) (s : List ℕ) → Real (word_or_name o s)
+real-word : (o : Option Mark) (s : List ℕ) → Real (keyword_or_name o s)
 real-word (Some w) s h = cc
 real-word None s h = cc
 
 real-named : (s : List ℕ) → Real (named s)
 unfolding named
-real-named s h = elim (nat_lt 32 (length s)) as (λ b. cond b (token.Bad bad.Name) (word_or_name (word_of s) s) ≡ token.End → ⊥) [ true ↦ λ k. cc | false ↦ λ k. real-word (word_of s) s k ] h
+real-named s h = elim (nat_lt 32 (length s)) as (λ b. cond b (token.Bad bad.Name) (keyword_or_name (keyword_of s) s) ≡ token.End → ⊥) [ true ↦ λ k. cc | false ↦ λ k. real-word (keyword_of s) s k ] h
 
 real-sign : (o : Option Mark) → Real (sign_or_byte o).token
 real-sign (Some m) h = cc

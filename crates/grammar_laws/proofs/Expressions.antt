@@ -15,7 +15,7 @@ use Rattle.nest_grammar.specs.Sights.{Sight, stands, Sees, skip, spend, afresh, 
 use Rattle.nest_grammar.specs.Readings.{Reading, after, ◌>>=◌, gives, refused, many}
 use Rattle.nest_grammar.specs.Names.{Names, place_of}
 use Rattle.nest_grammar.specs.Expressions.{start_of, product_of, addition_of, comparison_of, taken, closed, access_number, if_visible, operand, operated, parts, compared, compared_at, unary, term, sum, expr, expression}
-use Rattle.nest_grammar.specs.Grammar.{Room, SeesName, Part, Unary, Term, Sum, Whole, Is, number, variable, minus, parens, load, factor, product, summand, addition, side, comparison, IsExpression}
+use Rattle.nest_grammar.specs.Grammar.{Room, SeesName, Precedence, Unary, Term, Sum, Whole, Is, number, variable, minus, parens, load, factor, product, summand, addition, side, comparison, IsExpression}
 use Rattle.nest_grammar.proofs.Many.{many-stop}
 use Rattle.nest_grammar.proofs.Chains.{parts-term, parts-sum}
 use Rattle.grammar_laws.proofs.Steps.{taken-room, closed-sees, access-room, given, read-then, taken-then, closed-then, access-then}
@@ -23,7 +23,7 @@ use Rattle.grammar_laws.proofs.Parts.{many-sound, many-reads}
 
 -- Completeness: what the grammar says is read. The parts of a term or a sum may go on behind it.
 
-abbrev pub Claim : Names → Part → ℕ → Sight → Expr → Sight → Type 0
+abbrev pub Claim : Names → Precedence → ℕ → Sight → Expr → Sight → Type 0
 Claim names Unary d s e t = unary names d s ≡ Ok (e, t)
 Claim names Term d s e t = term names d s ≡ many product_of (operated (unary names d)) e t
 Claim names Sum d s e t = product_of (stands t) ≡ None → sum names d s ≡ many addition_of (operated (term names d)) e t
@@ -98,7 +98,7 @@ comparison-no-addition (token.Plain mark.Greater) o h = refl
 comparison-no-addition (token.Plain mark.AtLeast) o h = refl
 comparison-no-addition _ o h = absurd (cc)
 
-complete : (names : Names) → {p : Part} {d : ℕ} {s : Sight} {e : Expr} {t : Sight} → Is names p d s e t → Claim names p d s e t
+complete : (names : Names) → {p : Precedence} {d : ℕ} {s : Sight} {e : Expr} {t : Sight} → Is names p d s e t → Claim names p d s e t
 unfolding start_of product_of addition_of comparison_of skip
 complete names (number {d} {n} {s} h r) = let f = unary-by names d s in let q = taken-room s r in f.2 ∙ (rw (h, q) refl)
 complete names (variable {d} {n} {p} {s} h k r) = let f = unary-by names d s in let q = taken-room s r in f.2 ∙ (rw (h, k, q) refl)
@@ -141,16 +141,16 @@ expression-complete names s e t i h = complete names i h.0 h.1 h.2
 -- Soundness: what is read the grammar says.
 
 -- the readings of what stands one deeper
-abbrev Deeper : Names → Part → ℕ → Reading Expr → Type 0
+abbrev Deeper : Names → Precedence → ℕ → Reading Expr → Type 0
 Deeper names p d r = (s : Sight) (x : Expr × Sight) → r s ≡ Ok x → (k : ℕ) × (d ≡ suc k) × Room s × Is names p k (spend s) x.0 x.1
 
-abbrev Sound : Names → Part → ℕ → Reading Expr → Type 0
+abbrev Sound : Names → Precedence → ℕ → Reading Expr → Type 0
 Sound names p d r = (s : Sight) (x : Expr × Sight) → r s ≡ Ok x → Is names p d s x.0 x.1
 
-done : {names : Names} {p : Part} {d : ℕ} {s t : Sight} {a : Expr} (x : Expr × Sight) → gives a t ≡ Ok x → Is names p d s a t → Is names p d s x.0 x.1
+done : {names : Names} {p : Precedence} {d : ℕ} {s t : Sight} {a : Expr} (x : Expr × Sight) → gives a t ≡ Ok x → Is names p d s a t → Is names p d s x.0 x.1
 done {names} {p} {d} {s} {t} {a} x h i = let e = given a t x h in rw e i
 
-one-up : {names : Names} {p : Part} {d k : ℕ} {s t : Sight} {a : Expr} → d ≡ suc k → Is names p (suc k) s a t → Is names p d s a t
+one-up : {names : Names} {p : Precedence} {d k : ℕ} {s t : Sight} {a : Expr} → d ≡ suc k → Is names p (suc k) s a t → Is names p d s a t
 one-up e i = rw e i
 
 visible-sound : (names : Names) (d : ℕ) (s : Sight) (n : Name) (x : Expr × Sight) → SeesName n s → (o : Option Place) → place_of names n ≡ o → if_visible o s ≡ Ok x → Is names Unary d s x.0 x.1
@@ -186,7 +186,7 @@ operated-sound part o a t x h =
     let g = read-then (part (spend t)) (λ b. gives (Two o a b)) x f.1 in
     (f.0, (g.0, g.1, given (Two o a g.0.0) g.0.1 x g.2))
 
-two : {names : Names} {p : Part} {d : ℕ} {s t : Sight} {a : Expr} (x : Expr × Sight) → x ≡ (a, t) → Is names p d s a t → Is names p d s x.0 x.1
+two : {names : Names} {p : Precedence} {d : ℕ} {s t : Sight} {a : Expr} (x : Expr × Sight) → x ≡ (a, t) → Is names p d s a t → Is names p d s x.0 x.1
 two x e i = rw e i
 
 term-sound : (names : Names) (d : ℕ) (unary : Reading Expr) → Sound names Unary d unary → Sound names Term d (parts product_of unary)
@@ -208,11 +208,11 @@ whole-sound names d sum hu s x h =
       | Some o ↦ λ e k. (let g = operated-sound sum o f.0.0 f.0.1 x k in two x g.1.2 (comparison i e g.0 (hu (spend f.0.1) g.1.0 g.1.1)))
     ] refl f.2
 
-none-deeper : (names : Names) (p : Part) → Deeper names p 0 (refused kind.Deep)
+none-deeper : (names : Names) (p : Precedence) → Deeper names p 0 (refused kind.Deep)
 unfolding refused
 none-deeper names p s x h = absurd (cc)
 
-deeper : (names : Names) (p : Part) (d : ℕ) (r : Reading Expr) → Sound names p d r → Deeper names p (suc d) (taken >>= λ _. r)
+deeper : (names : Names) (p : Precedence) (d : ℕ) (r : Reading Expr) → Sound names p d r → Deeper names p (suc d) (taken >>= λ _. r)
 deeper names p d r h s x e = let f = taken-then (λ _. r) s x e in (d, refl, f.0, h (spend s) x f.1)
 
 unary-sound : (names : Names) (d : ℕ) → Sound names Unary d (unary names d)

@@ -9,11 +9,13 @@ use Rattle.nest_grammar.specs.declared.fault.TextFault.{TextFault}
 use Rattle.nest_grammar.specs.declared.fault.TextKind.TheVariants as kind
 use Rattle.nest_grammar.specs.declared.file.File.{File as NestFile}
 use Rattle.nest_grammar.specs.Limits.{most_bytes}
-use Rattle.nest_grammar.specs.Sights.{Sight, stands, here, first, start}
+use Rattle.nest_tokens.specs.Ahead.{first}
+use Rattle.nest_grammar.specs.Sights.{Sight, stands, here, start}
 use Rattle.nest_grammar.specs.Names.{names_of}
 use Rattle.nest_grammar.specs.Readings.{after, gives, refused, end_at, end}
 use Rattle.nest_grammar.specs.Contents.{version, scalars, memory, items, units, contents, file_of, too_long, reading}
 use Rattle.nest_grammar.proofs.Many.{bind_ok}
+use Rattle.grammar_laws.specs.Kinds.{comes_at, FaultAtItsToken}
 use Rattle.grammar_laws.specs.Phrases.{File, The, Allows, shown, Begins, FaultInSentence, FaultNotTooLate, ReadTextIsSentence}
 use Rattle.grammar_laws.proofs.Early.{AllReal, real-tokens, real-at, end_of}
 use Rattle.grammar_laws.proofs.Sentences.{AllowedAt, Passed, Stopped, Judged}
@@ -33,6 +35,7 @@ in-sentence text f h [] e =
       at = h.at ∙ ap (λ (z : List Spot). (first (length text) z).at) e;
       begins = (h.fill, h.begins);
       allowed = λ q. absurd (let a = h.allowed q in let k : [] ≡ a.spot ∷ a.rest = sym e ∙ a.is in cc);
+      comes = subst (λ (z : List Spot). comes_at f.what (first (length text) z).token ≡ true) e h.comes;
     }
 in-sentence text f h (x ∷ xs) e =
     let l : tokens text ≡ h.before ++ x ∷ xs = h.left ∙ ap (λ (z : List Spot). h.before ++ z) e in
@@ -48,6 +51,7 @@ in-sentence text f h (x ∷ xs) e =
           let k : x ∷ xs ≡ a.spot ∷ a.rest = sym e ∙ a.is in
           let j : a.spot ≡ x = cc in
           begins-with (shown h.before) x.token a.fill (subst (λ (y : Spot). Allows (The File) (shown h.before ++ y.token ∷ a.fill)) j a.allows));
+      comes = subst (λ (z : List Spot). comes_at f.what (first (length text) z).token ≡ true) e h.comes;
     }
 
 judged : (text : List ℕ) (y : Result (NestFile × Sight) TextFault) → contents (start text) ≡ y → Judged (The File) y (length text) (tokens text)
@@ -69,6 +73,11 @@ pub fault_late : FaultNotTooLate
 fault_late text f h long =
     let s : Stopped (The File) f (length text) (tokens text) = judged text (Err f) (read-or-fault text f h long) in
     in-sentence text f s s.behind refl
+
+pub fault_at_its_token : FaultAtItsToken
+fault_at_its_token text f h long =
+    let s : FaultInSentence text f = fault_late text f h long in
+    record { before = s.before; spot = s.spot; behind = s.behind; tokens = s.tokens; at = s.at; comes = s.comes }
 
 -- a file that was read is read to the end
 
@@ -110,4 +119,4 @@ read_sentence text file h = elim (nat_le (length text) most_bytes) as (λ b. con
   | false ↦ λ k. absurd (cc)
 ] h
 
-pub ruleset late = (fault_late, read_sentence)
+pub ruleset late = (fault_late, fault_at_its_token, read_sentence)

@@ -18,3 +18,7 @@ pub mod Computed
 pub mod Spelled
 pub mod Rules
 pub mod Refusals
+pub mod RuleAccesses
+pub mod RulePlaces
+pub mod RuleSizes
+pub mod RuleNests

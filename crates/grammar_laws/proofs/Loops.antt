@@ -13,15 +13,15 @@ use Rattle.nest_tokens.specs.declared.token.Mark.TheVariants as mark
 use Rattle.nest_tokens.specs.Tokens.{is_mark, spelling}
 use Rattle.nest_tokens.proofs.Marks.{is_mark-true}
 use Rattle.nest_grammar.specs.declared.file.LoopNames.{LoopNames}
-use Rattle.nest_grammar.specs.declared.opening.LoopWord.{LoopWord}
-use Rattle.nest_grammar.specs.declared.opening.LoopWord.TheVariants as word
+use Rattle.nest_grammar.specs.declared.opening.LoopKeyword.{LoopKeyword}
+use Rattle.nest_grammar.specs.declared.opening.LoopKeyword.TheVariants as word
 use Rattle.nest_grammar.specs.declared.fault.TextKind.TheVariants as kind
 use Rattle.nest_grammar.specs.Sights.{Sight, stands, Sees, skip, in_block}
 use Rattle.nest_grammar.specs.Readings.{Reading, after, ◌>>=◌, gives, refused, wrong, skipped, obeys}
 use Rattle.nest_grammar.specs.Names.{Names}
 use Rattle.nest_grammar.specs.Expressions.{product_of, addition_of, comparison_of, expression}
 use Rattle.nest_grammar.specs.Statements.{opening_of, block}
-use Rattle.nest_grammar.specs.Loops.{loop_word, Loops, not_zero, stride_at, stride, heading, inside, Rest, rest_at, rest_of, has_any, body_end, around, loop_of, loop_at, loops}
+use Rattle.nest_grammar.specs.Loops.{loop_keyword, Loops, not_zero, stride_at, stride, heading, inside, Rest, rest_at, rest_of, has_any, body_end, around, loop_of, loop_at, loops}
 use Rattle.nest_grammar.specs.Grammar.{IsStride, unwritten, written, IsHeading, counting, asking, IsLoops, innermost, outer}
 use Rattle.grammar_laws.proofs.Steps.{sees-is, need-sees, obeys-true, fresh-sees, signed-is, given, read-then, need-then, fresh-then, signed-ok}
 use Rattle.grammar_laws.proofs.Expressions.{Ends, expression-complete, expression-sound}
@@ -53,10 +53,10 @@ stride-front (written {k} {s} {t} h i n) o = step-ends s h
 
 -- a head that begins with this word
 abbrev Headed : Names → Sight → Head → Option Name → Sight → Type 0
-Headed names s h n t = (w : LoopWord) × (loop_word (stands s) ≡ Some w) × (heading names w s ≡ Ok ((h, n), t))
+Headed names s h n t = (w : LoopKeyword) × (loop_keyword (stands s) ≡ Some w) × (heading names w s ≡ Ok ((h, n), t))
 
 heading-complete : (names : Names) (s : Sight) (h : Head) (n : Option Name) (t : Sight) → IsHeading names s h n t → Sees mark.OpenBrace t → Headed names s h n t
-unfolding loop_word
+unfolding loop_keyword
 heading-complete names s _ _ v (counting {n} {lower} {upper} {k} {t = t} {u} a b f c i d j e) o =
     let x1 = fresh-sees names n (skip s) b f in
     let x2 = need-sees mark.Assign (skip (skip s)) c in
@@ -64,17 +64,17 @@ heading-complete names s _ _ v (counting {n} {lower} {upper} {k} {t = t} {u} a b
     let x4 = need-sees mark.Below t d in
     let x5 = expression-complete names (skip t) upper u j (stride-front e o) in
     let x6 = stride-complete u k v e o in
-    (word.For, ap loop_word a, (rw (x1, x2, x3, x4, x5, x6) refl))
+    (word.For, ap loop_keyword a, (rw (x1, x2, x3, x4, x5, x6) refl))
 heading-complete names s _ _ t (asking {e} a i) o =
     let x = expression-complete names (in_block (skip s)) e t i (opens-follow t o) in
-    (word.While, ap loop_word a, (rw x refl))
+    (word.While, ap loop_keyword a, (rw x refl))
 
-heading-front : {names : Names} {s : Sight} {h : Head} {n : Option Name} {t : Sight} → IsHeading names s h n t → (w : LoopWord) × (loop_word (stands s) ≡ Some w)
-unfolding loop_word
-heading-front (counting a b f c i d j e) = (word.For, ap loop_word a)
-heading-front (asking a i) = (word.While, ap loop_word a)
+heading-front : {names : Names} {s : Sight} {h : Head} {n : Option Name} {t : Sight} → IsHeading names s h n t → (w : LoopKeyword) × (loop_keyword (stands s) ≡ Some w)
+unfolding loop_keyword
+heading-front (counting a b f c i d j e) = (word.For, ap loop_keyword a)
+heading-front (asking a i) = (word.While, ap loop_keyword a)
 
-pub loops-front : {d level : ℕ} {names : Names} {s t : Sight} {ls : List Loop} {ns : List LoopNames} → IsLoops d level names s ls ns t → (w : LoopWord) × (loop_word (stands s) ≡ Some w)
+pub loops-front : {d level : ℕ} {names : Names} {s t : Sight} {ls : List Loop} {ns : List LoopNames} → IsLoops d level names s ls ns t → (w : LoopKeyword) × (loop_keyword (stands s) ≡ Some w)
 loops-front (innermost h o b p c) = heading-front h
 loops-front (outer h o b l p c) = heading-front h
 
@@ -85,17 +85,17 @@ loops-some (outer h o b l p c) [] = refl
 loops-some (outer h o b l p c) (x ∷ xs) = refl
 
 -- behind a loop's word nothing before it goes on
-word-follows : (t : Token) (w : LoopWord) → loop_word t ≡ Some w → Follows t × (opening_of t ≡ None)
-unfolding loop_word product_of addition_of comparison_of is_mark spelling opening_of
+word-follows : (t : Token) (w : LoopKeyword) → loop_keyword t ≡ Some w → Follows t × (opening_of t ≡ None)
+unfolding loop_keyword product_of addition_of comparison_of is_mark spelling opening_of
 word-follows (token.Plain mark.For) w h = (((refl, refl, refl), refl), refl)
 word-follows (token.Plain mark.While) w h = (((refl, refl, refl), refl), refl)
 word-follows _ w h = absurd (cc)
 
 rest-none : (inner : Reading Loops) (names : Names) (s : Sight) → Sees mark.CloseBrace s → rest_of inner names s ≡ Ok ((([], []), ([], [])), s)
-unfolding loop_word
+unfolding loop_keyword
 rest-none inner names s h = rw h
 
-rest-some : (inner : Reading Loops) (names : Names) (s t u : Sight) (w : LoopWord) (ls : Loops) (post : List Stmt × List Name) → loop_word (stands s) ≡ Some w → inner s ≡ Ok (ls, t) → block names t ≡ Ok (post, u) → rest_of inner names s ≡ Ok ((ls, post), u)
+rest-some : (inner : Reading Loops) (names : Names) (s t u : Sight) (w : LoopKeyword) (ls : Loops) (post : List Stmt × List Name) → loop_keyword (stands s) ≡ Some w → inner s ≡ Ok (ls, t) → block names t ≡ Ok (post, u) → rest_of inner names s ≡ Ok ((ls, post), u)
 rest-some inner names s t u w ls post h k l = rw (h, k, l)
 
 body_end-is : (pre : List Stmt) (ls : List Loop) (s : Sight) → Sees mark.CloseBrace s → has_any pre ls ≡ true → body_end pre ls s ≡ Ok (tt, skip s)
@@ -106,7 +106,7 @@ any-some : (pre : List Stmt) → pre ≢ [] → has_any pre [] ≡ true
 any-some [] h = absurd (h refl)
 any-some (x ∷ xs) h = refl
 
-loops-is : (d level : ℕ) (names : Names) (s : Sight) → loops (suc d) level names s ≡ loop_at (loop_of (loops d (suc level)) level names) (loop_word (stands s)) s
+loops-is : (d level : ℕ) (names : Names) (s : Sight) → loops (suc d) level names s ≡ loop_at (loop_of (loops d (suc level)) level names) (loop_keyword (stands s)) s
 unfolding loops
 loops-is d level names s = refl
 
@@ -142,17 +142,17 @@ stride-sound s x h = elim (is_mark mark.Step (stands s)) as (λ b. is_mark mark.
   | true ↦ λ e k. (let f = signed-ok not_zero kind.Range (skip s) x k in written (is_mark-true mark.Step (stands s) e) f.0 (not_zero-then x.0 f.1))
 ] refl h
 
-for-token : (t : Token) → loop_word t ≡ Some word.For → t ≡ token.Plain mark.For
-unfolding loop_word
+for-token : (t : Token) → loop_keyword t ≡ Some word.For → t ≡ token.Plain mark.For
+unfolding loop_keyword
 for-token (token.Plain mark.For) h = refl
 for-token _ h = absurd (cc)
 
-while-token : (t : Token) → loop_word t ≡ Some word.While → t ≡ token.Plain mark.While
-unfolding loop_word
+while-token : (t : Token) → loop_keyword t ≡ Some word.While → t ≡ token.Plain mark.While
+unfolding loop_keyword
 while-token (token.Plain mark.While) h = refl
 while-token _ h = absurd (cc)
 
-heading-sound : (names : Names) (w : LoopWord) (s : Sight) (x : (Head × Option Name) × Sight) → loop_word (stands s) ≡ Some w → heading names w s ≡ Ok x → IsHeading names s x.0.0 x.0.1 x.1
+heading-sound : (names : Names) (w : LoopKeyword) (s : Sight) (x : (Head × Option Name) × Sight) → loop_keyword (stands s) ≡ Some w → heading names w s ≡ Ok x → IsHeading names s x.0.0 x.0.1 x.1
 heading-sound names word.For s x k h =
     let f1 = fresh-then names _ (skip s) x h in
     let f2 = need-then mark.Assign _ (skip (skip s)) x f1.3 in
@@ -183,7 +183,7 @@ some-any (x ∷ xs) h = λ e. cc
 abbrev LoopsSound : ℕ → ℕ → (Names → Reading Loops) → Type 0
 LoopsSound d level r = (names : Names) (s : Sight) (x : Loops × Sight) → r names s ≡ Ok x → IsLoops d level names s x.0.0 x.0.1 x.1
 
-loop-sound : (d level : ℕ) (inner : Names → Reading Loops) → LoopsSound d (suc level) inner → (names : Names) (w : LoopWord) (s : Sight) (x : Loops × Sight) → loop_word (stands s) ≡ Some w → loop_of inner level names w s ≡ Ok x → IsLoops (suc d) level names s x.0.0 x.0.1 x.1
+loop-sound : (d level : ℕ) (inner : Names → Reading Loops) → LoopsSound d (suc level) inner → (names : Names) (w : LoopKeyword) (s : Sight) (x : Loops × Sight) → loop_keyword (stands s) ≡ Some w → loop_of inner level names w s ≡ Ok x → IsLoops (suc d) level names s x.0.0 x.0.1 x.1
 loop-sound d level inner hi names w s x k h =
     let f1 = read-then (heading names w s) _ x h in
     let ns : Names = inside names level f1.0.0.1 in
@@ -191,7 +191,7 @@ loop-sound d level inner hi names w s x k h =
     let f3 = read-then (block ns (skip f1.0.1)) _ x f2.1 in
     let i = heading-sound names w s f1.0 k f1.1 in
     let b = block-sound ns (skip f1.0.1) f3.0 f3.1 in
-    elim (loop_word (stands f3.0.1)) as (λ o. after (rest_at (inner ns) ns o f3.0.1) (λ r. body_end f3.0.0.0 r.0.0 >>= λ _. gives (around f1.0.0 f3.0.0 r)) ≡ Ok x → IsLoops (suc d) level names s x.0.0 x.0.1 x.1) [
+    elim (loop_keyword (stands f3.0.1)) as (λ o. after (rest_at (inner ns) ns o f3.0.1) (λ r. body_end f3.0.0.0 r.0.0 >>= λ _. gives (around f1.0.0 f3.0.0 r)) ≡ Ok x → IsLoops (suc d) level names s x.0.0 x.0.1 x.1) [
       | None ↦ λ q. (
           let g = body_end-then f3.0.0.0 [] _ f3.0.1 x q in
           let e = given {A = Loops} (around f1.0.0 f3.0.0 (([], []), ([], []))) (skip f3.0.1) x g.2 in
@@ -208,14 +208,14 @@ loop-sound d level inner hi names w s x k h =
           rw z (outer i f2.0 b (hi ns f3.0.1 g1.0 g1.1) (block-sound ns g1.0.1 g2.0 g2.1) g3.0))
     ] f3.2
 
-at-sound : (d level : ℕ) (names : Names) (go : LoopWord → Reading Loops) (s : Sight) (x : Loops × Sight) → ((w : LoopWord) → loop_word (stands s) ≡ Some w → go w s ≡ Ok x → IsLoops d level names s x.0.0 x.0.1 x.1) → (o : Option LoopWord) → loop_word (stands s) ≡ o → loop_at go o s ≡ Ok x → IsLoops d level names s x.0.0 x.0.1 x.1
+at-sound : (d level : ℕ) (names : Names) (go : LoopKeyword → Reading Loops) (s : Sight) (x : Loops × Sight) → ((w : LoopKeyword) → loop_keyword (stands s) ≡ Some w → go w s ≡ Ok x → IsLoops d level names s x.0.0 x.0.1 x.1) → (o : Option LoopKeyword) → loop_keyword (stands s) ≡ o → loop_at go o s ≡ Ok x → IsLoops d level names s x.0.0 x.0.1 x.1
 unfolding refused
 at-sound d level names go s x hg (Some w) e h = hg w e h
 at-sound d level names go s x hg None e h = absurd (cc)
 
 pub loops-sound : (d level : ℕ) → LoopsSound d level (loops d level)
 unfolding loops refused
-loops-sound zero level names s x h = at-sound zero level names (λ w. refused kind.Deep) s x (λ w e k. absurd (cc)) (loop_word (stands s)) refl h
+loops-sound zero level names s x h = at-sound zero level names (λ w. refused kind.Deep) s x (λ w e k. absurd (cc)) (loop_keyword (stands s)) refl h
 loops-sound (suc d) level names s x h =
     let hi : LoopsSound d (suc level) (loops d (suc level)) = loops-sound d (suc level) in
-    at-sound (suc d) level names (loop_of (loops d (suc level)) level names) s x (λ w e k. loop-sound d level (loops d (suc level)) hi names w s x e k) (loop_word (stands s)) refl h
+    at-sound (suc d) level names (loop_of (loops d (suc level)) level names) s x (λ w e k. loop-sound d level (loops d (suc level)) hi names w s x e k) (loop_keyword (stands s)) refl h

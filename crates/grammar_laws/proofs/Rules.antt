@@ -7,14 +7,14 @@ use Rattle.std.proofs.lemmas.List.Elements.{All-nil, All-push}
 use Rattle.nest_lang.specs.declared.tree.Stmt.{Stmt}
 use Rattle.nest_lang.specs.declared.tree.Head.{Head}
 use Rattle.nest_lang.specs.declared.tree.Loop.{Loop}
-use Rattle.nest_lang.specs.Rules.{strides, has_statements, loop_keeps, keeps_rules}
+use Rattle.nest_lang.specs.Rules.{strides, has_statements, loop_keeps, loops_keep}
 use Rattle.nest_tokens.specs.declared.token.Name.{Name}
 use Rattle.nest_grammar.specs.declared.version.Version.{Version}
 use Rattle.nest_grammar.specs.declared.version.Version.TheVariants.{One, Two as Several}
 use Rattle.nest_grammar.specs.declared.file.Scalar.{Scalar}
 use Rattle.nest_grammar.specs.declared.file.Item.{Item}
 use Rattle.nest_grammar.specs.declared.file.LoopNames.{LoopNames}
-use Rattle.nest_grammar.specs.declared.file.Unit.{Unit as NestUnit}
+use Rattle.nest_grammar.specs.declared.file.NestUnit.{NestUnit}
 use Rattle.nest_grammar.specs.declared.file.File.{File}
 use Rattle.nest_grammar.specs.Limits.{most_scalars, most_nests, most_depth}
 use Rattle.nest_grammar.specs.Sights.{Sight, skip}
@@ -25,6 +25,9 @@ use Rattle.nest_grammar.specs.Grammar as grammar
 use Rattle.grammar_laws.specs.Rules.{IsSpelled, item_fits, KeepsRules, FilesKeepRules}
 use Rattle.grammar_laws.proofs.Loops.{not_zero-is}
 use Rattle.grammar_laws.proofs.Contents.{reading-reads}
+use Rattle.grammar_laws.proofs.RulePlaces.{within-scalars}
+use Rattle.grammar_laws.proofs.RuleSizes.{beyond-left, scalars-left, items-left, version-left, tokens-few}
+use Rattle.grammar_laws.proofs.RuleNests.{Short, units-keep_blocks}
 use Rattle.grammar_laws.proofs.Spelled.{ProperSight, proper-start, proper-skip, proper-name}
 
 length-push : {A : Type 0} (xs : List A) (x : A) → length (xs ++ x ∷ []) ≡ suc (length xs)
@@ -64,23 +67,17 @@ depth-least : (v : Version) → most_depth v ≤ 6
 depth-least One = omega arith
 depth-least Several = omega arith
 
-nest-keeps : (ls : List Loop) → Keep ls → length ls ≤ 6 → keeps_rules ls ≡ true
-unfolding keeps_rules
+nest-keeps : (ls : List Loop) → Keep ls → length ls ≤ 6 → loops_keep ls ≡ true
+unfolding loops_keep
 nest-keeps [] k l = absurd k
 nest-keeps (m ∷ ls) k l = let e : nat_le (length ls) 5 ≡ true = le-leb (length ls) 5 (omega arith) in rw (e, k)
 
-abbrev NestKeeps : NestUnit → Type 0
-NestKeeps u = keeps_rules u.nest.loops ≡ true
-
-unit-keeps : {v : Version} {names : Names} {s : Sight} {u : NestUnit} {t : Sight} → IsUnit v names s u t → NestKeeps u
+unit-keeps : {v : Version} {names : Names} {s : Sight} {u : NestUnit} {t : Sight} → IsUnit v names s u t → loops_keep u.nest.loops ≡ true
 unit-keeps {v} (grammar.unit {ls} i j) = let f = loops-keep i in let w = depth-least v in nest-keeps ls f.0 (omega (arith, f.1, w))
 
-units-keep : {names : Names} {v : Version} {s : Sight} {us : List NestUnit} {t : Sight} → IsUnits names v s us t → (0 < length us) × (length us ≤ most_nests) × All NestKeeps us
-units-keep (grammar.one {n = n} i) = (omega arith, omega arith, All-push NestKeeps [] n (All-nil NestKeeps) (unit-keeps i))
-units-keep (grammar.more {ns} {n} i l j) =
-    let f = units-keep i in
-    let e = length-push ns n in
-    (omega (arith, e), omega (arith, e), All-push NestKeeps ns n f.2 (unit-keeps j))
+units-few : {names : Names} {v : Version} {s : Sight} {us : List NestUnit} {t : Sight} → IsUnits names v s us t → (0 < length us) × (length us ≤ most_nests)
+units-few (grammar.one i) = (omega arith, omega arith)
+units-few (grammar.more {ns} {n} i l j) = let e = length-push ns n in (omega (arith, e), omega (arith, e))
 
 -- Scalars
 
@@ -122,10 +119,24 @@ proper-version (grammar.two {s} h k) p = proper-skip (skip s) (proper-skip s p)
 
 -- a file that the grammar says a text is keeps the rules
 pub reads-keeps : FilesKeepRules
-reads-keeps text _ (grammar.file l iv ic m n b ii iu e) =
+reads-keeps text _ (grammar.file {scalars = cs} {s = s} {t = t} {u = u} l iv ic m n b ii iu e) =
     let f = scalars-keep ic (proper-version iv (proper-start text)) in
-    let g = units-keep iu in
-    record { few_scalars = f.0; spelled = f.1; few_words = b; items_fit = items-fit ii; some_nest = g.0; few_nests = g.1; nests_keep = g.2 }
+    let g = units-few iu in
+    let tokens = tokens-few text in
+    let version = version-left iv in
+    let scalars = scalars-left ic in
+    let words = beyond-left 2 t in
+    let items = items-left ii in
+    let short : Short u = omega (arith, l, tokens, version, scalars, words, items) in
+    record {
+      few_scalars = f.0;
+      spelled = f.1;
+      few_words = b;
+      items_fit = items-fit ii;
+      some_nest = g.0;
+      few_nests = g.1;
+      nests_keep = units-keep_blocks (within-scalars cs) short (λ w p q n i. unit-keeps i) iu;
+    }
 
 -- and so does a file that is read
 pub reading-keeps : (text : List ℕ) (file : File) → reading text ≡ Ok file → KeepsRules file

@@ -15,7 +15,7 @@ use Rattle.nest_grammar.specs.declared.script.CommandWord.TheVariants as word
 use Rattle.nest_grammar.specs.declared.fault.TextKind.TheVariants as kind
 use Rattle.nest_grammar.specs.Limits.{most_candidates, most_commands, most_rows}
 use Rattle.nest_grammar.specs.Sights.{Sight, stands, Sees, skip}
-use Rattle.nest_grammar.specs.Readings.{Reading, ◌>>=◌, gives, refused, at_mark, many}
+use Rattle.nest_grammar.specs.Readings.{Reading, ◌>>=◌, gives, refused, at_mark, many, always}
 use Rattle.nest_grammar.specs.Scripts.{Script, command_word, may_follow, is_row, is_factor, is_size, row_but, ruled, row_begins, next_row, rows, marked, operands, command_at, command, next_command, script_at, script, candidate, candidates}
 use Rattle.nest_grammar.specs.Grammar.{SeesNumber, IsSigned, IsRows, IsCommand, seq, swap, skew, tile, par, wave, IsCommands, IsScript, IsCandidates}
 use Rattle.nest_grammar.specs.Grammar as grammar
@@ -32,19 +32,19 @@ number-begins : (n : ℕ) (s : Sight) → SeesNumber n s → row_begins (stands 
 unfolding row_begins
 number-begins n s h = rw h
 
-next_row-read : (depth n : ℕ) (ns : List ℕ) (s : Sight) → length ns < most_rows → SeesNumber n s → is_row depth n ≡ true → next_row depth tt ns s ≡ Ok (ns ++ n ∷ [], skip s)
+next_row-read : (depth n : ℕ) (ns : List ℕ) (s : Sight) → length ns < most_rows → SeesNumber n s → is_row depth n ≡ true → next_row depth ns s ≡ Ok (ns ++ n ∷ [], skip s)
 next_row-read depth n ns s l h r =
     let x1 = obeys-true (nat_lt (length ns) most_rows) kind.Script s (lt-ltb (length ns) most_rows l) in
     let x2 = number-sees (is_row depth) kind.Script n s h r in
     rw (x1, x2)
 
-rows-complete : {depth : ℕ} {s : Sight} {ns : List ℕ} {t : Sight} → IsRows depth s ns t → rows depth s ≡ many row_begins (next_row depth) ns t
+rows-complete : {depth : ℕ} {s : Sight} {ns : List ℕ} {t : Sight} → IsRows depth s ns t → rows depth s ≡ many row_begins (always (next_row depth)) ns t
 unfolding rows
 rows-complete {depth} (grammar.one {n} {s} h r) = let x = number-sees (is_row depth) kind.Script n s h r in rw x
-rows-complete {depth} (grammar.more {n} {ns} {s} {t} i l h r) = rows-complete i ∙ many-reads row_begins (next_row depth) ns (ns ++ n ∷ []) t (skip t) tt (parts-next_row depth) (number-begins n t h) (next_row-read depth n ns t l h r)
+rows-complete {depth} (grammar.more {n} {ns} {s} {t} i l h r) = rows-complete i ∙ many-reads row_begins (always (next_row depth)) ns (ns ++ n ∷ []) t (skip t) tt (parts-next_row depth) (number-begins n t h) (next_row-read depth n ns t l h r)
 
 rows-end : {depth : ℕ} {s : Sight} {ns : List ℕ} {t : Sight} → IsRows depth s ns t → row_begins (stands t) ≡ None → rows depth s ≡ Ok (ns, t)
-rows-end {depth} {s} {ns} {t} i h = rows-complete i ∙ many-stop row_begins (next_row depth) ns t h
+rows-end {depth} {s} {ns} {t} i h = rows-complete i ∙ many-stop row_begins (always (next_row depth)) ns t h
 
 row_but-read : (depth a b : ℕ) (s : Sight) → SeesNumber b s → is_row depth b ≡ true → b ≢ a → row_but depth a s ≡ Ok (b, skip s)
 row_but-read depth a b s h r n = number-sees (λ n. is_row depth n && not (n == a)) kind.Script b s h (rw (r, not-equal b a n) refl)
@@ -99,12 +99,12 @@ close-no-row s h = rw h
 
 -- the commands up to here, and those that may go on behind them
 abbrev commands : ℕ → Reading Script
-commands depth = command depth [] >>= many (at_mark mark.Semicolon) (next_command depth)
+commands depth = command depth [] >>= many (at_mark mark.Semicolon) (always (next_command depth))
 
-commands-complete : {depth : ℕ} {s : Sight} {cs : Script} {t : Sight} → IsCommands depth s cs t → row_begins (stands t) ≡ None → commands depth s ≡ many (at_mark mark.Semicolon) (next_command depth) cs t
+commands-complete : {depth : ℕ} {s : Sight} {cs : Script} {t : Sight} → IsCommands depth s cs t → row_begins (stands t) ≡ None → commands depth s ≡ many (at_mark mark.Semicolon) (always (next_command depth)) cs t
 commands-complete {depth} (grammar.one {c} {s} {t} i) e = let x = command-complete depth [] s c t i (omega arith) e in rw x
 commands-complete {depth} (grammar.more {cs} {c} {s} {t} {u} i h l j) e =
-    commands-complete i (semicolon-no-row t h) ∙ many-reads (at_mark mark.Semicolon) (next_command depth) cs (cs ++ c ∷ []) t u tt (parts-command depth) (mark-begins mark.Semicolon t h) (command-complete depth cs (skip t) c u j l e)
+    commands-complete i (semicolon-no-row t h) ∙ many-reads (at_mark mark.Semicolon) (always (next_command depth)) cs (cs ++ c ∷ []) t u tt (parts-command depth) (mark-begins mark.Semicolon t h) (command-complete depth cs (skip t) c u j l e)
 
 semicolon-stops : (s : Sight) → Sees mark.CloseBrace s → at_mark mark.Semicolon (stands s) ≡ None
 unfolding is_mark spelling
@@ -125,18 +125,18 @@ script-complete {depth} (grammar.script {cs} {s} {t} h i k) =
     let f = commands-front i in
     let x1 = need-sees mark.OpenBrace s h in
     let x2 = word-no-mark mark.CloseBrace (stands (skip s)) f.0 f.1 in
-    let x3 : commands depth (skip s) ≡ Ok (cs, t) = commands-complete i (close-no-row t k) ∙ many-stop (at_mark mark.Semicolon) (next_command depth) cs t (semicolon-stops t k) in
+    let x3 : commands depth (skip s) ≡ Ok (cs, t) = commands-complete i (close-no-row t k) ∙ many-stop (at_mark mark.Semicolon) (always (next_command depth)) cs t (semicolon-stops t k) in
     let x4 = need-sees mark.CloseBrace t k in
     rw (x1, x2, x3, x4)
 
-candidate-read : (depth : ℕ) (scripts : List Script) (cs : Script) (s t : Sight) → length scripts < most_candidates → script depth (skip s) ≡ Ok (cs, t) → candidate depth tt scripts s ≡ Ok (scripts ++ cs ∷ [], t)
+candidate-read : (depth : ℕ) (scripts : List Script) (cs : Script) (s t : Sight) → length scripts < most_candidates → script depth (skip s) ≡ Ok (cs, t) → candidate depth scripts s ≡ Ok (scripts ++ cs ∷ [], t)
 candidate-read depth scripts cs s t l h = let x = fewer-room (length scripts) most_candidates s l in rw (x, h)
 
-pub candidates-complete : {depth : ℕ} {s : Sight} {scripts : List Script} {t : Sight} → IsCandidates depth s scripts t → candidates depth s ≡ many (at_mark mark.Candidate) (candidate depth) scripts t
+pub candidates-complete : {depth : ℕ} {s : Sight} {scripts : List Script} {t : Sight} → IsCandidates depth s scripts t → candidates depth s ≡ many (at_mark mark.Candidate) (always (candidate depth)) scripts t
 unfolding candidates
 candidates-complete grammar.none = refl
 candidates-complete {depth} (grammar.more {scripts} {cs} {s} {t} {u} i h l j) =
-    candidates-complete i ∙ many-reads (at_mark mark.Candidate) (candidate depth) scripts (scripts ++ cs ∷ []) t u tt (parts-candidate depth) (mark-begins mark.Candidate t h) (candidate-read depth scripts cs t u l (script-complete j))
+    candidates-complete i ∙ many-reads (at_mark mark.Candidate) (always (candidate depth)) scripts (scripts ++ cs ∷ []) t u tt (parts-candidate depth) (mark-begins mark.Candidate t h) (candidate-read depth scripts cs t u l (script-complete j))
 
 -- Soundness.
 
@@ -144,9 +144,9 @@ rows-sound : (depth : ℕ) (s : Sight) (x : List ℕ × Sight) → rows depth s 
 unfolding rows
 rows-sound depth s x h =
     let f = number-then (is_row depth) kind.Script _ s x h in
-    many-sound (IsRows depth s) row_begins (next_row depth) next (f.0 ∷ []) (skip s) x (grammar.one f.1 f.2) f.3
+    many-sound (IsRows depth s) row_begins (always (next_row depth)) next (f.0 ∷ []) (skip s) x (grammar.one f.1 f.2) f.3
   where
-    next : (ns : List ℕ) (t : Sight) (u : Unit {0}) (y : List ℕ × Sight) → IsRows depth s ns t → row_begins (stands t) ≡ Some u → next_row depth u ns t ≡ Ok y → IsRows depth s y.0 y.1
+    next : (ns : List ℕ) (t : Sight) (u : Unit {0}) (y : List ℕ × Sight) → IsRows depth s ns t → row_begins (stands t) ≡ Some u → next_row depth ns t ≡ Ok y → IsRows depth s y.0 y.1
     next ns t u y i e k =
         let g1 = obeys-then (nat_lt (length ns) most_rows) kind.Script _ t y k in
         let g2 = number-then (is_row depth) kind.Script _ t y g1.1 in
@@ -206,9 +206,9 @@ commands-sound : (depth : ℕ) (s : Sight) (x : Script × Sight) → commands de
 commands-sound depth s x h =
     let f = read-then (command depth [] s) _ x h in
     let g = command-sound depth [] s f.0 f.1 in
-    many-sound (IsCommands depth s) (at_mark mark.Semicolon) (next_command depth) next f.0.0 f.0.1 x (subst (λ (cs : Script). IsCommands depth s cs f.0.1) (sym g.1.1) (grammar.one g.1.2)) f.2
+    many-sound (IsCommands depth s) (at_mark mark.Semicolon) (always (next_command depth)) next f.0.0 f.0.1 x (subst (λ (cs : Script). IsCommands depth s cs f.0.1) (sym g.1.1) (grammar.one g.1.2)) f.2
   where
-    next : (cs : Script) (t : Sight) (u : Unit {0}) (y : Script × Sight) → IsCommands depth s cs t → at_mark mark.Semicolon (stands t) ≡ Some u → next_command depth u cs t ≡ Ok y → IsCommands depth s y.0 y.1
+    next : (cs : Script) (t : Sight) (u : Unit {0}) (y : Script × Sight) → IsCommands depth s cs t → at_mark mark.Semicolon (stands t) ≡ Some u → next_command depth cs t ≡ Ok y → IsCommands depth s y.0 y.1
     next cs t u y i e k =
         let g = command-sound depth cs (skip t) y k in
         subst (λ (ds : Script). IsCommands depth s ds y.1) (sym g.1.1) (grammar.more i (mark-sees mark.Semicolon t u e) g.0 g.1.2)
@@ -228,9 +228,9 @@ script-sound depth s x h =
 
 pub candidates-sound : (depth : ℕ) (s : Sight) (x : List Script × Sight) → candidates depth s ≡ Ok x → IsCandidates depth s x.0 x.1
 unfolding candidates
-candidates-sound depth s x h = many-sound (IsCandidates depth s) (at_mark mark.Candidate) (candidate depth) next [] s x grammar.none h
+candidates-sound depth s x h = many-sound (IsCandidates depth s) (at_mark mark.Candidate) (always (candidate depth)) next [] s x grammar.none h
   where
-    next : (scripts : List Script) (t : Sight) (u : Unit {0}) (y : List Script × Sight) → IsCandidates depth s scripts t → at_mark mark.Candidate (stands t) ≡ Some u → candidate depth u scripts t ≡ Ok y → IsCandidates depth s y.0 y.1
+    next : (scripts : List Script) (t : Sight) (u : Unit {0}) (y : List Script × Sight) → IsCandidates depth s scripts t → at_mark mark.Candidate (stands t) ≡ Some u → candidate depth scripts t ≡ Ok y → IsCandidates depth s y.0 y.1
     next scripts t u y i e k =
         let f = fewer-then (length scripts) most_candidates _ t y k in
         let g = read-then (script depth (skip t)) _ y f.1 in

@@ -12,9 +12,11 @@ use Rattle.nest_grammar.specs.declared.fault.TextFault.{TextFault}
 use Rattle.nest_grammar.specs.declared.fault.TextKind.{TextKind}
 use Rattle.nest_grammar.specs.declared.fault.TextKind.TheVariants as kind
 use Rattle.nest_grammar.specs.Limits.{most_tokens, most_accesses}
-use Rattle.nest_grammar.specs.Sights.{Sight, stands, here, first, rest, skip, spend, opens}
+use Rattle.nest_tokens.specs.Ahead.{first, rest}
+use Rattle.nest_grammar.specs.Sights.{Sight, stands, here, skip, spend, opens}
 use Rattle.nest_grammar.specs.Readings.{Reading, after, ◌>>=◌, gives, refused, wrong, unexpected, skipped, need, obeys, more_at, more, many}
 use Rattle.nest_grammar.specs.Expressions.{taken, closed, access}
+use Rattle.grammar_laws.specs.Kinds.{comes_at, is_counted, is_solid}
 use Rattle.grammar_laws.specs.Phrases.{Form, Nothing, Sign, Number, Many, ◌·◌, ◌∣◌, maybe, Allows, nothing, sign, number, both, one, other, none, more as again, shown, at_allowed}
 
 -- Words
@@ -98,6 +100,7 @@ pub record Stopped (e : Form) (f : TextFault) (size : ℕ) (l : List Spot) : Typ
   pub fill : List Token
   pub begins : Allows e (shown before ++ fill)
   pub allowed : at_allowed f.what ≡ true → AllowedAt e before behind
+  pub comes : comes_at f.what (first size behind).token ≡ true
 
 abbrev pub Judged : {A : Type 0} → Form → Result (A × Sight) TextFault → ℕ → List Spot → Type 0
 Judged e (Ok x) size l = Passed e x size l
@@ -116,7 +119,7 @@ shown-append (x ∷ xs) ys = ap (λ (l : List Token). x.token ∷ l) (shown-appe
 
 judged-as : {A : Type 0} {e g : Form} → ((ts : List Token) → Allows e ts → Allows g ts) → (y : Result (A × Sight) TextFault) (size : ℕ) (l : List Spot) → Judged e y size l → Judged g y size l
 judged-as up (Ok x) size l h = record { before = h.before; left = h.left; ends = h.ends; allows = up (shown h.before) h.allows }
-judged-as up (Err f) size l h = record { before = h.before; behind = h.behind; left = h.left; at = h.at; fill = h.fill; begins = up (shown h.before ++ h.fill) h.begins; allowed = λ q. (let a = h.allowed q in record { spot = a.spot; rest = a.rest; fill = a.fill; is = a.is; allows = up (shown h.before ++ a.spot.token ∷ a.fill) a.allows }) }
+judged-as up (Err f) size l h = record { before = h.before; behind = h.behind; left = h.left; at = h.at; fill = h.fill; begins = up (shown h.before ++ h.fill) h.begins; allowed = λ q. (let a = h.allowed q in record { spot = a.spot; rest = a.rest; fill = a.fill; is = a.is; allows = up (shown h.before ++ a.spot.token ∷ a.fill) a.allows }); comes = h.comes }
 
 -- by another form that allows as much
 pub at-as : {A : Type 0} {e g : Form} {r : Reading A} {s : Sight} → ((ts : List Token) → Allows e ts → Allows g ts) → At e r s → At g r s
@@ -143,6 +146,7 @@ joined e g w l size t p z u (Err f) h = record {
     is = a.is;
     allows = subst (λ (k : List Token). Allows (e · g) (k ++ a.spot.token ∷ a.fill)) (sym (shown-append w h.before)) (subst (λ (k : List Token). Allows (e · g) k) (sym (append_assoc (shown w) (shown h.before) (a.spot.token ∷ a.fill))) (both u a.allows));
   });
+  comes = subst (λ (n : ℕ). comes_at f.what (first n h.behind).token ≡ true) z h.comes;
 }
 
 then-at : {A B : Type 0} (e g : Form) (r : Reading A) (f : A → Reading B) (s : Sight) → Word g → (y : Result (A × Sight) TextFault) → r s ≡ y → Judged e y s.size s.left → ((x : A × Sight) → r s ≡ Ok x → At g (f x.0) x.1) → Judged (e · g) (after y f) s.size s.left
@@ -161,6 +165,7 @@ then-at e g r f s v (Err k) q h hf = record {
     is = a.is;
     allows = subst (λ (l : List Token). Allows (e · g) l) (append_assoc (shown h.before) (a.spot.token ∷ a.fill) v.0) (both a.allows v.1);
   });
+  comes = h.comes;
 }
 
 -- one reading behind another
@@ -204,9 +209,9 @@ unfolding skip
 at-skipped {e} {s} t h real v = record { is = passed-one tt e s (skip s) t refl refl h real v }
 
 -- a token that the grammar allows, and that breaks a rule
-pub at-refused : {A : Type 0} {e : Form} {s : Sight} (what : TextKind) (t : Token) → stands s ≡ t → Real t → Starts e t → At e (refused {A = A} what) s
+pub at-refused : {A : Type 0} {e : Form} {s : Sight} (what : TextKind) (t : Token) → stands s ≡ t → Real t → Starts e t → comes_at what t ≡ true → At e (refused {A = A} what) s
 unfolding refused here
-at-refused {A} {e} {s} what t h real v = let y = spot-here s t h real in record {
+at-refused {A} {e} {s} what t h real v c = let y = spot-here s t h real in record {
   is = record {
     before = [];
     behind = s.left;
@@ -215,6 +220,7 @@ at-refused {A} {e} {s} what t h real v = let y = spot-here s t h real in record 
     fill = t ∷ v.0;
     begins = v.1;
     allowed = λ q. record { spot = y.0; rest = (skip s).left; fill = v.0; is = y.1; allows = subst (λ (k : Token). Allows e (k ∷ v.0)) (sym y.2) v.1 };
+    comes = subst (λ (k : Token). comes_at what k ≡ true) (sym h) c;
   };
 }
 
@@ -223,6 +229,15 @@ no-rule (token.Bad bad.Byte) h = cc
 no-rule (token.Bad bad.Number) h = cc
 no-rule (token.Bad bad.Name) h = cc
 no-rule _ h = cc
+
+wrong-comes : (t : Token) → comes_at (unexpected t) t ≡ true
+wrong-comes (token.Bad bad.Byte) = refl
+wrong-comes (token.Bad bad.Number) = refl
+wrong-comes (token.Bad bad.Name) = refl
+wrong-comes (token.Name n) = refl
+wrong-comes (token.Number n) = refl
+wrong-comes (token.Plain m) = refl
+wrong-comes token.End = refl
 
 -- a token that the grammar does not allow
 pub of-wrong : {A : Type 0} {e : Form} → Word e → Of e (wrong {A = A})
@@ -236,13 +251,14 @@ of-wrong {A} {e} v s = record {
     fill = v.0;
     begins = v.1;
     allowed = λ q. absurd (no-rule (stands s) q);
+    comes = wrong-comes (stands s);
   };
 }
 
 -- a token that is judged by a rule of its own
-pub of-judged : {A : Type 0} {e : Form} (what : TextKind) → at_allowed what ≡ false → Word e → Of e (refused {A = A} what)
+pub at-judged : {A : Type 0} {e : Form} {s : Sight} (what : TextKind) → at_allowed what ≡ false → Word e → comes_at what (stands s) ≡ true → At e (refused {A = A} what) s
 unfolding refused here
-of-judged {A} {e} what w v s = record {
+at-judged {A} {e} {s} what w v c = record {
   is = record {
     before = [];
     behind = s.left;
@@ -251,6 +267,7 @@ of-judged {A} {e} what w v s = record {
     fill = v.0;
     begins = v.1;
     allowed = λ q. absurd (let k : at_allowed what ≡ true = q in cc);
+    comes = c;
   };
 }
 
@@ -264,18 +281,18 @@ by-test true p q hp hq = record { is = (hp refl).is }
 by-test false p q hp hq = record { is = (hq refl).is }
 
 -- a rule of the token here
-pub at-obeys : {A : Type 0} {e : Form} (f : Unit {0} → Reading A) {s : Sight} (b : Bool) (what : TextKind) (t : Token) → stands s ≡ t → Real t → Starts e t → At e (f tt) s → At e (obeys b what >>= f) s
+pub at-obeys : {A : Type 0} {e : Form} (f : Unit {0} → Reading A) {s : Sight} (b : Bool) (what : TextKind) (t : Token) → stands s ≡ t → Real t → Starts e t → comes_at what t ≡ true → At e (f tt) s → At e (obeys b what >>= f) s
 unfolding obeys refused
-at-obeys f true what t h real v n = record { is = n.is }
-at-obeys {A} {e} f {s} false what t h real v n = record { is = (at-refused {A = A} what t h real v).is }
+at-obeys f true what t h real v c n = record { is = n.is }
+at-obeys {A} {e} f {s} false what t h real v c n = record { is = (at-refused {A = A} what t h real v c).is }
 
-pub at-access : {A : Type 0} {e : Form} (f : Unit {0} → Reading A) {s : Sight} (t : Token) → stands s ≡ t → Real t → Starts e t → At e (f tt) (opens s) → At e (access >>= f) s
+pub at-access : {A : Type 0} {e : Form} (f : Unit {0} → Reading A) {s : Sight} (t : Token) → stands s ≡ t → Real t → Starts e t → is_counted t ≡ true → At e (f tt) (opens s) → At e (access >>= f) s
 unfolding access refused
-at-access {A} {e} f {s} t h real v n = record { is = elim (nat_lt s.opened (most_accesses s.version)) as (λ b. Judged e (after (cond b (Ok (tt, opens s)) (refused kind.Many s)) f) s.size s.left) [ true ↦ n.is | false ↦ (at-refused {A = A} kind.Many t h real v).is ] }
+at-access {A} {e} f {s} t h real v c n = record { is = elim (nat_lt s.opened (most_accesses s.version)) as (λ b. Judged e (after (cond b (Ok (tt, opens s)) (refused kind.Many s)) f) s.size s.left) [ true ↦ n.is | false ↦ (at-refused {A = A} kind.Many t h real v c).is ] }
 
-pub at-taken : {e : Form} {s : Sight} (t : Token) → stands s ≡ t → Real t → Allows e (t ∷ []) → At e taken s
+pub at-taken : {e : Form} {s : Sight} (t : Token) → stands s ≡ t → Real t → Allows e (t ∷ []) → is_solid t ≡ true → At e taken s
 unfolding taken refused skip
-at-taken {e} {s} t h real v = record { is = elim (nat_lt s.spent most_tokens) as (λ b. Judged {A = Unit {0}} e (cond b (Ok (tt, spend s)) (refused kind.Deep s)) s.size s.left) [ true ↦ passed-one tt e s (spend s) t refl refl h real v | false ↦ (at-refused {A = Unit {0}} kind.Deep t h real ([], v)).is ] }
+at-taken {e} {s} t h real v c = record { is = elim (nat_lt s.spent most_tokens) as (λ b. Judged {A = Unit {0}} e (cond b (Ok (tt, spend s)) (refused kind.Deep s)) s.size s.left) [ true ↦ passed-one tt e s (spend s) t refl refl h real v | false ↦ (at-refused {A = Unit {0}} kind.Deep t h real ([], v) c).is ] }
 
 pub of-need : (m : Mark) → Of (Sign m) (need m)
 unfolding need
@@ -286,7 +303,7 @@ of-need m s = by-token (λ t s. if is_mark m t then Ok (tt, skip s) else wrong s
 pub of-closed : (m : Mark) → Of (Sign m) (closed m)
 unfolding closed
 of-closed m s = by-token (λ t s. if is_mark m t then taken s else wrong s) (λ t h. by-test (is_mark m t) taken wrong
-    (λ q. let e : t ≡ token.Plain m = is_mark-true m t q in at-taken (token.Plain m) (h ∙ e) (λ k. cc) sign)
+    (λ q. let e : t ≡ token.Plain m = is_mark-true m t q in at-taken (token.Plain m) (h ∙ e) (λ k. cc) sign refl)
     (λ q. of-wrong word-sign s))
 
 -- part after part

@@ -7,11 +7,12 @@ use Rattle.nest_tokens.specs.declared.token.Token.{Token}
 use Rattle.nest_tokens.specs.declared.token.Token.TheVariants as token
 use Rattle.nest_tokens.specs.declared.token.BadToken.TheVariants as bad
 use Rattle.nest_tokens.specs.declared.token.Spot.{Spot}
-use Rattle.nest_tokens.specs.Tokens.{word_of}
-use Rattle.nest_tokens.specs.Lexing.{is_letter, is_name_byte, decimal, named, numbered, word_or_name}
+use Rattle.nest_tokens.specs.Tokens.{keyword_of}
+use Rattle.nest_tokens.specs.Lexing.{is_letter, is_name_byte, decimal, named, numbered, keyword_or_name}
 use Rattle.nest_tokens.specs.Division.{Begins, AllPass, Spells, name, number, sign, bad_byte, Divides, ends, goes_on}
 use Rattle.nest_tokens.proofs.Dividing.{tokens-divide}
-use Rattle.nest_grammar.specs.Sights.{Sight, here, first, skip, rest, start}
+use Rattle.nest_tokens.specs.Ahead.{first, rest}
+use Rattle.nest_grammar.specs.Sights.{Sight, here, skip, start}
 use Rattle.nest_grammar.specs.Grammar.{SeesName}
 use Rattle.grammar_laws.specs.Rules.{IsSpelled}
 
@@ -28,13 +29,13 @@ proper-named : (s : List ℕ) → Begins is_letter s → AllPass is_name_byte s 
 unfolding named
 proper-named s b a = long (nat_lt 32 (length s)) refl
   where
-    word : length s ≤ 32 → (o : Option Mark) → Proper (word_or_name o s)
+    word : length s ≤ 32 → (o : Option Mark) → Proper (keyword_or_name o s)
     word l (Some m) = tt
     word l None = (s, refl, l, b, a)
 
-    long : (c : Bool) → nat_lt 32 (length s) ≡ c → Proper (cond c (token.Bad bad.Name) (word_or_name (word_of s) s))
+    long : (c : Bool) → nat_lt 32 (length s) ≡ c → Proper (cond c (token.Bad bad.Name) (keyword_or_name (keyword_of s) s))
     long true e = tt
-    long false e = word (ltb-false 32 (length s) e) (word_of s)
+    long false e = word (ltb-false 32 (length s) e) (keyword_of s)
 
 proper-numbered : (s : List ℕ) → Proper (numbered s)
 unfolding numbered
@@ -43,7 +44,7 @@ proper-numbered s = elim (nat_lt (decimal s) (2 ^ 63)) as (λ c. Proper (cond c 
 proper-spells : {s rest : List ℕ} {t : Token} → Spells s rest t → Proper t
 proper-spells (name {s} b a e) = proper-named s b a
 proper-spells (number {s} b a e) = proper-numbered s
-proper-spells (sign h k) = tt
+proper-spells (sign h i l) = tt
 proper-spells (bad_byte a b c d e) = tt
 
 proper-divides : {size : ℕ} {text : List ℕ} {xs : List Spot} → Divides size text xs → AllProper xs

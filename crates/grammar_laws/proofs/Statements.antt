@@ -23,7 +23,7 @@ use Rattle.nest_grammar.specs.Statements.{opening_of, braced, else_at, branches,
 use Rattle.nest_grammar.specs.Grammar.{AccessRoom, SeesName, IsExpression, IsStmt, IsBraced, IsList, IsBlock}
 use Rattle.nest_grammar.specs.Grammar as grammar
 use Rattle.nest_grammar.proofs.Many.{Parts, many-stop}
-use Rattle.nest_grammar.proofs.Productions.{Part, part-refused, part-skipped, starts, local-branches, local-statements, parts-another}
+use Rattle.nest_grammar.proofs.Productions.{IsPart, part-refused, part-skipped, starts, local-branches, local-statements, parts-another}
 use Rattle.grammar_laws.proofs.Steps.{sees-is, need-sees, fewer-room, access-room, fresh-sees, target-is, given, read-then, need-then, fewer-then, access-then, fresh-then, target-then}
 use Rattle.grammar_laws.proofs.Parts.{many-sound, many-reads}
 use Rattle.grammar_laws.proofs.Expressions.{Ends, expression-complete, expression-sound}
@@ -33,7 +33,7 @@ abbrev pub branch : ℕ → Names → Reading Stmt
 branch zero ns = refused kind.Deep
 branch (suc d) ns = skipped >>= λ _. branches ns (statements d ns)
 
-part-branch : (d : ℕ) (ns : Names) → Part (branch d ns)
+part-branch : (d : ℕ) (ns : Names) → IsPart (branch d ns)
 part-branch zero ns = part-refused kind.Deep
 part-branch (suc d) ns = starts part-skipped (λ _. local-branches ns (statements d ns) (local-statements d ns))
 

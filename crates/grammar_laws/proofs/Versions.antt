@@ -10,17 +10,17 @@ use Rattle.nest_grammar.specs.declared.version.Version.{Version}
 use Rattle.nest_grammar.specs.declared.file.Scalar.{Scalar}
 use Rattle.nest_grammar.specs.declared.file.Item.{Item}
 use Rattle.nest_grammar.specs.declared.file.LoopNames.{LoopNames}
-use Rattle.nest_grammar.specs.declared.file.Unit.{Unit as NestUnit}
+use Rattle.nest_grammar.specs.declared.file.NestUnit.{NestUnit}
 use Rattle.nest_grammar.specs.Sights.{Sight, skip}
 use Rattle.nest_grammar.specs.Names.{Names}
 use Rattle.nest_grammar.specs.Scripts.{Script}
-use Rattle.nest_grammar.specs.Grammar.{Part, Is, number, variable, minus, parens, load, factor, product, summand, addition, side, comparison, IsStmt, IsBraced, IsList, IsBlock, IsSigned, unsigned, negative, IsStride, unwritten, written, IsHeading, counting, asking, IsLoops, innermost, outer, IsRows, IsCommand, seq, swap, skew, tile, par, wave, IsCommands, IsScript, IsCandidates, IsUnit, IsScalars, IsValues, IsItem, data_, ramp, IsItems}
+use Rattle.nest_grammar.specs.Grammar.{Precedence, Is, number, variable, minus, parens, load, factor, product, summand, addition, side, comparison, IsStmt, IsBraced, IsList, IsBlock, IsSigned, unsigned, negative, IsStride, unwritten, written, IsHeading, counting, asking, IsLoops, innermost, outer, IsRows, IsCommand, seq, swap, skew, tile, par, wave, IsCommands, IsScript, IsCandidates, IsUnit, IsScalars, IsValues, IsItem, data_, ramp, IsItems}
 use Rattle.nest_grammar.specs.Grammar as grammar
 
 abbrev Kept : Sight → Sight → Type 0
 Kept s t = t.version ≡ s.version
 
-kept-expression : {names : Names} {p : Part} {d : ℕ} {s : Sight} {e : Expr} {t : Sight} → Is names p d s e t → Kept s t
+kept-expression : {names : Names} {p : Precedence} {d : ℕ} {s : Sight} {e : Expr} {t : Sight} → Is names p d s e t → Kept s t
 unfolding skip
 kept-expression (number h r) = refl
 kept-expression (variable h k r) = refl

@@ -6,7 +6,8 @@ use Rattle.nest_tokens.specs.declared.token.Spot.{Spot}
 use Rattle.nest_tokens.specs.Lexing.{tokens}
 use Rattle.nest_grammar.specs.declared.fault.TextFault.{TextFault}
 use Rattle.nest_grammar.specs.Limits.{most_bytes}
-use Rattle.nest_grammar.specs.Sights.{Sight, first}
+use Rattle.nest_tokens.specs.Ahead.{first}
+use Rattle.nest_grammar.specs.Sights.{Sight}
 use Rattle.nest_grammar.specs.Contents.{contents, reading}
 
 -- These begin with the same token, or neither has one and the texts end at the same place.

@@ -1,4 +1,5 @@
 pub mod Beginnings
+pub mod Kinds
 pub mod Phrases
 pub mod Laws
 pub mod Examples

@@ -17,6 +17,7 @@ use Rattle.nest_grammar.specs.declared.script.CommandWord.TheVariants as word
 use Rattle.nest_grammar.specs.Scripts.{command_word}
 use Rattle.nest_grammar.specs.Contents.{reading}
 use Rattle.grammar_laws.specs.Beginnings.{with_end}
+use Rattle.grammar_laws.specs.Kinds.{comes_at}
 
 -- the productions
 pub data Production : Type 0 where
@@ -122,7 +123,8 @@ at_allowed kind.Script = true
 at_allowed _ = false
 
 -- The tokens before the fault begin something that the grammar allows. Where a rule other than the
--- grammar's is broken, so do the tokens up to and with the one at fault.
+-- grammar's is broken, so do the tokens up to and with the one at fault. The kind is one that comes at that
+-- token.
 pub record FaultInSentence (text : List ℕ) (f : TextFault) : Type 0 where
   pub before : List Spot
   pub spot : Spot
@@ -131,6 +133,7 @@ pub record FaultInSentence (text : List ℕ) (f : TextFault) : Type 0 where
   pub at : f.at ≡ spot.at
   pub begins : Begins (The File) (shown before)
   pub allowed : at_allowed f.what ≡ true → Begins (The File) (shown before ++ spot.token ∷ [])
+  pub comes : comes_at f.what spot.token ≡ true
 
 -- No fault is too late, Expected among them; and only a token that the grammar allows is judged by a rule
 -- that comes behind Expected.

@@ -1,7 +1,7 @@
 -- Rules: what holds of every file that a text is.
 use Rattle.std.specs.Prelude.{◌≡◌, ℕ, ◌+◌, ◌<◌, ◌≤◌, List, length, Bool, true, nat_le}
 use Rattle.std.specs.List.{All}
-use Rattle.nest_lang.specs.Rules.{keeps_rules}
+use Rattle.nest_lang.specs.Rules.{NestKeeps}
 use Rattle.nest_tokens.specs.declared.token.Name.{Name}
 use Rattle.nest_tokens.specs.Lexing.{is_letter, is_name_byte, name_of}
 use Rattle.nest_tokens.specs.Division.{Begins, AllPass}
@@ -28,7 +28,7 @@ pub record KeepsRules (file : File) : Type 0 where
   pub items_fit : All (λ i. item_fits file.words i ≡ true) file.items
   pub some_nest : 0 < length file.units
   pub few_nests : length file.units ≤ most_nests
-  pub nests_keep : All (λ u. keeps_rules u.nest.loops ≡ true) file.units
+  pub nests_keep : All (λ u. NestKeeps (length file.scalars) u.nest.loops) file.units
 
 abbrev pub FilesKeepRules : Type 0
 FilesKeepRules = (text : List ℕ) (file : File) → Reads text file → KeepsRules file

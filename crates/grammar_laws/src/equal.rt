@@ -1,7 +1,7 @@
 //! The reading of a text and the grammar say the same; examples.
 
 ghost use Rattle.grammar_laws.specs.Examples.{FaultExamples, ReadingExamples};
-ghost use Rattle.grammar_laws.specs.Refusals.{LimitExamples, RuleExamples};
+ghost use Rattle.grammar_laws.specs.Refusals.{AcceptedExamples, LimitExamples, OperatorExamples, RefusedExamples, RuleExamples};
 ghost use Rattle.grammar_laws.specs.Rules.{FilesKeepRules};
 ghost use Rattle.grammar_laws.specs.Laws.{FaultOrFile, OneReading, ReadingIsTheGrammar};
 
@@ -23,20 +23,25 @@ pub fn fault_or_file()
     ensures { FaultOrFile }
 {}
 
-/// Texts with the files that they are, texts with a fault of each kind, and texts one step past each limit and
-/// each rule, each computed by hand.
+/// Texts with the files that they are, texts with a fault of each kind, and texts at each limit and each rule and
+/// one step past it, each computed by hand.
 #[tactic(auto, using(crate::proofs::Computed::examples, crate::proofs::Refusals::refusals))]
 pub fn examples()
     ensures readings { ReadingExamples }
     ensures faults { FaultExamples }
     ensures limits { LimitExamples }
     ensures rules { RuleExamples }
+    ensures beside { RefusedExamples }
+    ensures accepted { AcceptedExamples }
+    ensures operators { OperatorExamples }
 {}
 
 /// Every file that a text is keeps these rules: it has at most 16 scalars, whose names are a letter and then
 /// letters, digits and `_`, at most 32 bytes; at most 1,048,576 words; items that set words of the memory
 /// alone, to values of an i64; one to eight nests, each of one to six loops with no stride 0 and a statement
-/// in the innermost body.
+/// in the innermost body. In each block of a nest the accesses are numbered from 1 on in the order of
+/// evaluation, at most 64; the scalars are the file's, the names those of the loops around it, and the locals
+/// at most 16; and there are fewer than 2^20 statements, nested ones counted.
 #[tactic(auto, using(crate::proofs::Rules::rules_kept))]
 pub fn files_keep_rules()
     ensures { FilesKeepRules }

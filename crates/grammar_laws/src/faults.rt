@@ -1,6 +1,7 @@
 //! Where faults stand.
 
 ghost use Rattle.grammar_laws.specs.Beginnings.{ContentsFaultNotTooEarly, FaultNotTooEarly};
+ghost use Rattle.grammar_laws.specs.Kinds.{FaultAtItsToken};
 ghost use Rattle.grammar_laws.specs.Phrases.{FaultNotTooLate, ReadTextIsSentence};
 
 /// A fault is not too early: it stands at a token of the text, or at its end, and each text that has the
@@ -22,4 +23,12 @@ pub fn not_too_early()
 pub fn not_too_late()
     ensures fault { FaultNotTooLate }
     ensures read { ReadTextIsSentence }
+{}
+
+/// A fault stands at a token at which its kind may come: Known, Unknown and Fixed at a name, Version at a
+/// number, Empty at a `}`, Range at a number or a `-`, Script at a number or a command's word, Many at what
+/// begins something counted, and Byte, Number and Name exactly at what is no token.
+#[tactic(auto, using(crate::proofs::Late::late))]
+pub fn at_its_token()
+    ensures { FaultAtItsToken }
 {}

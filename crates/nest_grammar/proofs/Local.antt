@@ -4,7 +4,8 @@ use Rattle.nest_tokens.specs.declared.token.Token.{Token}
 use Rattle.nest_tokens.specs.declared.token.Spot.{Spot}
 use Rattle.nest_grammar.specs.declared.fault.TextFault.{TextFault}
 use Rattle.nest_grammar.specs.declared.fault.TextKind.{TextKind}
-use Rattle.nest_grammar.specs.Sights.{Sight, stands, here, first, rest, skip}
+use Rattle.nest_tokens.specs.Ahead.{first, rest}
+use Rattle.nest_grammar.specs.Sights.{Sight, stands, here, skip}
 use Rattle.nest_grammar.specs.Readings.{Reading, ◌>>=◌, gives, refused, skipped, wrong, unexpected, many}
 use Rattle.nest_grammar.proofs.Many.{NoLonger, Parts, end-here, many-stop, many-next, many-shorter}
 

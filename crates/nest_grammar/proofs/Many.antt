@@ -3,7 +3,8 @@ use Rattle.std.proofs.Common.{◌≡◌, ℕ, zero, suc, ◌<◌, ◌≤◌, [],
 use Rattle.nest_tokens.specs.declared.token.Token.{Token}
 use Rattle.nest_tokens.specs.declared.token.Token.TheVariants as token
 use Rattle.nest_grammar.specs.declared.fault.TextFault.{TextFault}
-use Rattle.nest_grammar.specs.Sights.{Sight, stands, here, first}
+use Rattle.nest_tokens.specs.Ahead.{first}
+use Rattle.nest_grammar.specs.Sights.{Sight, stands, here}
 use Rattle.nest_grammar.specs.Readings.{Reading, after, more, many}
 
 -- what is left is no longer than before

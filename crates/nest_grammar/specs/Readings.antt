@@ -103,6 +103,14 @@ more (suc n) begins part a s = more_at part (more n begins part) a (begins (stan
 unfoldable pub many : {A B : Type 0} → (Token → Option B) → (B → A → Reading A) → A → Reading A
 many begins part a s = more (length s.left) begins part a s
 
+-- the same part, whatever it begins with
+abbrev pub always : {A B : Type 0} → (A → Reading A) → B → A → Reading A
+always part b = part
+
+-- part after part, as long as this sign or word stands here
+abbrev pub many_at : {A : Type 0} → Mark → (A → Reading A) → A → Reading A
+many_at m part = many (at_mark m) (always part)
+
 -- The end of the text.
 abbrev pub end_at : Token → Reading (Unit {0})
 end_at token.End = gives tt

@@ -1,5 +1,5 @@
 -- Scripts: each production of candidates as a reading.
-use Rattle.std.specs.Prelude.{ℕ, ◌+◌, ℤ, pos, negsuc, List, [], ◌∷◌, ◌++◌, length, Option, Some, None, Bool, true, false, not, ◌&&◌, ◌==◌, nat_le, nat_lt, if◌then◌else◌, codes}
+use Rattle.std.specs.Prelude.{ℕ, ◌+◌, ℤ, pos, negsuc, List, [], ◌∷◌, ◌++◌, length, Option, Some, None, Bool, true, false, not, ◌&&◌, ◌==◌, nat_le, nat_lt, codes, count_by}
 use Rattle.std.specs.List.{find}
 use Rattle.std.specs.Str.{bytes_eq}
 use Rattle.arrayvec.specs.ArrayVec.{ArrayVec}
@@ -16,7 +16,7 @@ use Rattle.nest_grammar.specs.declared.script.CommandWord.TheVariants as word
 use Rattle.nest_grammar.specs.declared.fault.TextKind.TheVariants as kind
 use Rattle.nest_grammar.specs.Limits.{most_candidates, most_commands, most_skews, most_rows}
 use Rattle.nest_grammar.specs.Sights.{stands}
-use Rattle.nest_grammar.specs.Readings.{Reading, ◌>>=◌, gives, wrong, skipped, need, obeys, fewer, number_where, signed_where, at_mark, many}
+use Rattle.nest_grammar.specs.Readings.{Reading, ◌>>=◌, gives, wrong, skipped, need, obeys, fewer, number_where, signed_where, many, many_at, always}
 
 -- a script: the commands of a candidate
 abbrev pub Script : Type 0
@@ -51,16 +51,11 @@ abbrev pub is_skew : Command → Bool
 is_skew (Skew a b m) = true
 is_skew _ = false
 
--- how many commands are of a kind
-abbrev pub how_many : (Command → Bool) → Script → ℕ
-how_many p [] = 0
-how_many p (c ∷ cs) = (if p c then 1 else 0) + how_many p cs
-
 -- whether another command of this word may stand behind these: `seq` stands at most once, and `skew` at
 -- most six times
 abbrev pub may_follow : CommandWord → Script → Bool
-may_follow word.Seq cs = nat_lt (how_many is_seq cs) 1
-may_follow word.Skew cs = nat_lt (how_many is_skew cs) most_skews
+may_follow word.Seq cs = nat_lt (count_by is_seq cs) 1
+may_follow word.Skew cs = nat_lt (count_by is_skew cs) most_skews
 may_follow _ cs = true
 
 -- from 1 to the depth
@@ -93,12 +88,12 @@ row_begins (token.Number n) = Some tt
 row_begins _ = None
 
 -- a row behind others
-abbrev pub next_row : ℕ → Unit {0} → List ℕ → Reading (List ℕ)
-next_row depth u rows = obeys (nat_lt (length rows) most_rows) kind.Script >>= λ _. row depth >>= λ n. gives (rows ++ n ∷ [])
+abbrev pub next_row : ℕ → List ℕ → Reading (List ℕ)
+next_row depth rows = obeys (nat_lt (length rows) most_rows) kind.Script >>= λ _. row depth >>= λ n. gives (rows ++ n ∷ [])
 
 -- number { number }
 unfoldable pub rows : ℕ → Reading (List ℕ)
-rows depth = row depth >>= λ n. many row_begins (next_row depth) (n ∷ [])
+rows depth = row depth >>= λ n. many row_begins (always (next_row depth)) (n ∷ [])
 
 abbrev pub marked : List ℕ → ArrayVec ℕ
 marked ns = record { items = ns }
@@ -121,21 +116,21 @@ unfoldable pub command : ℕ → Script → Reading Script
 command depth cs = (λ s. command_at depth cs (command_word (stands s)) s) >>= λ c. gives (cs ++ c ∷ [])
 
 -- ";" command
-abbrev pub next_command : ℕ → Unit {0} → Script → Reading Script
-next_command depth u cs = skipped >>= λ _. command depth cs
+abbrev pub next_command : ℕ → Script → Reading Script
+next_command depth cs = skipped >>= λ _. command depth cs
 
 abbrev pub script_at : ℕ → Bool → Reading Script
 script_at depth true = skipped >>= λ _. gives []
-script_at depth false = command depth [] >>= many (at_mark mark.Semicolon) (next_command depth) >>= λ cs. need mark.CloseBrace >>= λ _. gives cs
+script_at depth false = command depth [] >>= many_at mark.Semicolon (next_command depth) >>= λ cs. need mark.CloseBrace >>= λ _. gives cs
 
 -- "{" [ command { ";" command } ] "}"
 unfoldable pub script : ℕ → Reading Script
 script depth = need mark.OpenBrace >>= λ _ s. script_at depth (is_mark mark.CloseBrace (stands s)) s
 
 -- "candidate" script
-abbrev pub candidate : ℕ → Unit {0} → List Script → Reading (List Script)
-candidate depth u scripts = fewer (length scripts) most_candidates >>= λ _. skipped >>= λ _. script depth >>= λ cs. gives (scripts ++ cs ∷ [])
+abbrev pub candidate : ℕ → List Script → Reading (List Script)
+candidate depth scripts = fewer (length scripts) most_candidates >>= λ _. skipped >>= λ _. script depth >>= λ cs. gives (scripts ++ cs ∷ [])
 
 -- the candidates of a nest of this depth
 unfoldable pub candidates : ℕ → Reading (List Script)
-candidates depth = many (at_mark mark.Candidate) (candidate depth) []
+candidates depth = many_at mark.Candidate (candidate depth) []

@@ -1,11 +1,12 @@
 -- Sights: what is still to be read of a text, and what was counted on the way.
-use Rattle.std.specs.Prelude.{◌≡◌, ℕ, ◌+◌, List, [], ◌∷◌, ◌++◌, length}
+use Rattle.std.specs.Prelude.{◌≡◌, ℕ, zero, suc, ◌+◌, List, [], ◌∷◌, ◌++◌, length}
 use Rattle.nest_tokens.specs.declared.token.Token.{Token}
 use Rattle.nest_tokens.specs.declared.token.Token.TheVariants as token
 use Rattle.nest_tokens.specs.declared.token.Mark.{Mark}
 use Rattle.nest_tokens.specs.declared.token.Name.{Name}
 use Rattle.nest_tokens.specs.declared.token.Spot.{Spot}
 use Rattle.nest_tokens.specs.Lexing.{tokens}
+use Rattle.nest_tokens.specs.Ahead.{first, rest}
 use Rattle.nest_grammar.specs.declared.version.Version.{Version}
 use Rattle.nest_grammar.specs.declared.version.Version.TheVariants.{One}
 
@@ -21,11 +22,6 @@ pub record Sight : Type 0 where
   pub accesses : ℕ
   pub lets : List Name
 
--- the first token, or the end of the text
-abbrev pub first : ℕ → List Spot → Spot
-first size [] = record { at = size; token = token.End }
-first size (x ∷ xs) = x
-
 -- the token that stands here, with its place
 unfoldable pub here : Sight → Spot
 here s = first s.size s.left
@@ -37,13 +33,14 @@ stands s = (here s).token
 abbrev pub Sees : Mark → Sight → Type 0
 Sees m s = stands s ≡ token.Plain m
 
-abbrev pub rest : List Spot → List Spot
-rest [] = []
-rest (x ∷ xs) = xs
-
 -- past one token; at the end it stays
 unfoldable pub skip : Sight → Sight
 skip s = record s { left = rest s.left }
+
+-- past so many tokens
+abbrev pub beyond : ℕ → Sight → Sight
+beyond zero s = s
+beyond (suc n) s = skip (beyond n s)
 
 -- past one token of an expression
 abbrev pub spend : Sight → Sight

@@ -47,7 +47,7 @@ pub struct LoopNames {
 
 /// A nest with the names of its loops, the outermost first, and its candidates' scripts.
 #[derive(Debug, Drop)]
-pub struct Unit {
+pub struct NestUnit {
     pub nest: Nest,
     pub names: Items<LoopNames>,
     pub scripts: Items<Items<Command>>,
@@ -61,5 +61,5 @@ pub struct File {
     pub scalars: Items<Scalar>,
     pub words: usize,
     pub items: Items<Item>,
-    pub units: Items<Unit>,
+    pub units: Items<NestUnit>,
 }

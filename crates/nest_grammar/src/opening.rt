@@ -24,14 +24,14 @@ pub enum Opening {
 
 /// The word that a loop begins with.
 #[derive(Clone, Copy, Debug, PartialEq, Eq)]
-pub enum LoopWord {
+pub enum LoopKeyword {
     For,
     While,
 }
 
 /// The word that an item of the memory begins with.
 #[derive(Clone, Copy, Debug, PartialEq, Eq)]
-pub enum ItemWord {
+pub enum ItemKeyword {
     Data,
     Ramp,
 }

@@ -20,14 +20,12 @@ mod writing;
 
 pub use memory::{MemSink, MemSource};
 pub use reading::{Taken, read_all, read_all_counted};
-pub use refusals::{Failed, NoMemory, ReadEnd};
+pub use refusals::{Failed, ReadEnd};
 pub use sink::Sink;
 pub use source::Source;
 pub use standard::{StdSink, StdSource};
 pub use steps::Steps;
 pub use writing::{write_all, write_all_counted};
 
-#[cfg(test)]
-mod caller;
 #[cfg(test)]
 mod tests;

@@ -1,11 +1,11 @@
-// A source and a sink in memory that fail when they are told to.
+//! A source and a sink in memory that fail when they are told to.
 ghost use Rattle.std.specs.Prelude.{◌≡◌, ◌-◌, ◌<◌, ◌≤◌, ◌↔◌, ◌++◌, ℕ, List, Option, Some, [], min, length, take, drop, IsErr, IfOk, IfSome, OnErr, vec_len, vec_capacity};
 ghost use Rattle.nest_io.specs.Faults.{Rose, next_count};
 ghost use Rattle.nest_io.specs.Bytes.{Takes, Appends};
 ghost use Rattle.nest_io.specs.Memory.{MemorySource, MemorySink, ReadFails, WriteFails};
 
-use crate::{Failed, NoMemory, Sink, Source};
-use std::alloc::Global;
+use crate::{Failed, Sink, Source};
+use std::alloc::{AllocError, Global};
 use std::marker::Model;
 
 /// A source that gives bytes of memory, a few at a time, and fails at chosen reads.
@@ -145,7 +145,7 @@ impl MemSink {
         room: usize,
         most: usize,
         failing: Vec<u64>,
-    ) -> Result<MemSink, NoMemory>
+    ) -> Result<MemSink, AllocError>
         requires { 1 ≤ most }
         ensures { IfOk result (λ sink. sink ≡ record {
           held = [];

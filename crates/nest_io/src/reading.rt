@@ -1,4 +1,4 @@
-// A source is read to its end or to a limit.
+//! A source is read to its end or to a limit.
 ghost use Rattle.std.specs.Prelude.{◌≡◌, ◌+◌, ◌<◌, ◌≤◌, ◌↔◌, ℕ, List, [], Some, false, if◌then◌else◌, length, take, drop, IsTrue, IfOk, IfSome, OnOk, OnErr, IsErrOf};
 ghost use Rattle.nest_io.specs.Faults.{Rose};
 ghost use Rattle.nest_io.specs.Bytes.{Takes, TakesUpTo};

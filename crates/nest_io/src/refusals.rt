@@ -1,4 +1,4 @@
-// What a call answers in place of its result.
+//! What a call answers in place of its result.
 ghost use Rattle.std.specs.Prelude.{◌≡◌};
 ghost use Rattle.nest_io.specs.declared.refusals.ReadEnd.TheVariants.{Fault, NoMemory as OutOfMemory};
 
@@ -10,11 +10,6 @@ use thiserror::Error;
 #[error("a read or a write failed")]
 pub struct Failed;
 
-/// A growth that was refused.
-#[derive(Clone, Copy, Debug, PartialEq, Eq, Error)]
-#[error("out of memory")]
-pub struct NoMemory;
-
 /// Why a text was not read to its end or its limit.
 #[derive(Clone, Copy, Debug, PartialEq, Eq, Error)]
 pub enum ReadEnd {
@@ -24,12 +19,6 @@ pub enum ReadEnd {
     /// There was no room for what the source gave.
     #[error("out of memory")]
     NoMemory,
-}
-
-impl From<AllocError> for NoMemory {
-    fn from(_: AllocError) -> Self {
-        NoMemory
-    }
 }
 
 impl From<Failed> for ReadEnd {

@@ -1,4 +1,4 @@
-// Where bytes go.
+//! Where bytes go.
 ghost use Rattle.std.specs.Prelude.{◌≡◌, ◌<◌, ◌≤◌, ℕ, List, Option, [], length, take, IfOk, OnErr};
 ghost use Rattle.nest_io.specs.Faults.{Rose};
 ghost use Rattle.nest_io.specs.Bytes.{Appends};

@@ -1,4 +1,4 @@
-// Where bytes come from.
+//! Where bytes come from.
 ghost use Rattle.std.specs.Prelude.{◌≡◌, ◌<◌, ◌≤◌, ◌↔◌, ℕ, List, Option, [], length, take, IfOk, IfSome, OnErr};
 ghost use Rattle.nest_io.specs.Faults.{Rose};
 ghost use Rattle.nest_io.specs.Bytes.{Takes};

@@ -1,4 +1,4 @@
-// The edge to std: its readers and writers as a source and a sink.
+//! The edge to std: its readers and writers as a source and a sink.
 ghost use Rattle.std.specs.Prelude.{◌≡◌, ◌<◌, ◌≤◌, ℕ, List, Option, None, length, take, IfOk, OnOk, OnErr};
 ghost use Rattle.std.specs.Io.KnownBytes.{ReadConsumes, WriteAppends};
 ghost use Rattle.nest_io.specs.Faults.{Rose, next_count};

@@ -1,4 +1,4 @@
-// A count of steps that takes no bytes, so that a contract can bound the turns of a loop.
+//! A count of steps that takes no bytes, so that a contract can bound the turns of a loop.
 ghost use Rattle.std.specs.Prelude.{◌≡◌, ◌+◌, ◌<◌, ℕ};
 
 use std::marker::Model;

@@ -1,4 +1,4 @@
-// All bytes are put into a sink.
+//! All bytes are put into a sink.
 ghost use Rattle.std.specs.Prelude.{◌≡◌, ◌+◌, ◌<◌, ◌≤◌, ℕ, [], length, take, IfOk, OnOk, OnErr};
 ghost use Rattle.nest_io.specs.Faults.{Rose};
 ghost use Rattle.nest_io.specs.Bytes.{Appends, AppendsFront};

@@ -5,14 +5,14 @@ use Rattle.nest_lang.specs.declared.tree.Stmt.{Stmt}
 use Rattle.nest_lang.specs.declared.tree.Loop.{Loop}
 use Rattle.nest_tokens.specs.declared.token.Name.{Name}
 use Rattle.nest_grammar.specs.declared.fault.TextKind.TheVariants as kind
-use Rattle.nest_grammar.specs.declared.opening.LoopWord.{LoopWord}
+use Rattle.nest_grammar.specs.declared.opening.LoopKeyword.{LoopKeyword}
 use Rattle.nest_grammar.specs.Sights.{Sight, here, stands}
 use Rattle.nest_grammar.specs.Readings.{refused, unexpected}
 use Rattle.nest_grammar.specs.Names.{Names}
-use Rattle.nest_grammar.specs.Loops.{loop_word, loop_of, loops, inside, has_any}
+use Rattle.nest_grammar.specs.Loops.{loop_keyword, loop_of, loops, inside, has_any}
 
 -- a loop where a level is left
-pub loops-below : (d level : ℕ) (names : Names) (w : LoopWord) (s : Sight) → 0 < d → loop_word (stands s) ≡ Some w → loops d level names s ≡ loop_of (loops (d - 1) (level + 1)) level names w s
+pub loops-below : (d level : ℕ) (names : Names) (w : LoopKeyword) (s : Sight) → 0 < d → loop_keyword (stands s) ≡ Some w → loops d level names s ≡ loop_of (loops (d - 1) (level + 1)) level names w s
 unfolding loops
 loops-below zero level names w s h e = absurd (omega arith)
 loops-below (suc d) level names w s h e =
@@ -21,12 +21,12 @@ loops-below (suc d) level names w s h e =
     rw (e, p, q) refl
 
 -- a loop where no level is left
-pub loops-none : (level : ℕ) (names : Names) (w : LoopWord) (s : Sight) → loop_word (stands s) ≡ Some w → loops 0 level names s ≡ Err (record { at = (here s).at; what = kind.Deep })
+pub loops-none : (level : ℕ) (names : Names) (w : LoopKeyword) (s : Sight) → loop_keyword (stands s) ≡ Some w → loops 0 level names s ≡ Err (record { at = (here s).at; what = kind.Deep })
 unfolding loops refused
 loops-none level names w s e = rw e refl
 
 -- no loop
-pub loops-wrong : (d level : ℕ) (names : Names) (s : Sight) → loop_word (stands s) ≡ None → loops d level names s ≡ Err (record { at = (here s).at; what = unexpected (stands s) })
+pub loops-wrong : (d level : ℕ) (names : Names) (s : Sight) → loop_keyword (stands s) ≡ None → loops d level names s ≡ Err (record { at = (here s).at; what = unexpected (stands s) })
 unfolding loops refused
 loops-wrong zero level names s e = rw e refl
 loops-wrong (suc d) level names s e = rw e refl

@@ -1,4 +1,3 @@
-pub mod Sighted
 pub mod Steps
 pub mod Listing
 pub mod Marked

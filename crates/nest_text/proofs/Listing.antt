@@ -9,7 +9,7 @@ use Rattle.nest_grammar.specs.Readings.{Reading, after, gives, many}
 use Rattle.nest_grammar.specs.Names.{Names}
 use Rattle.nest_grammar.specs.Statements.{opening_of, statement, another, statements}
 use Rattle.nest_grammar.proofs.Many.{many-stop}
-use Rattle.nest_grammar.proofs.Productions.{Part, starts, part-skipped, part-refused, local-branches, local-statements}
+use Rattle.nest_grammar.proofs.Productions.{IsPart, starts, part-skipped, part-refused, local-branches, local-statements}
 use Rattle.nest_grammar.proofs.Chains.{statement-goes, statement-fails, statement-shorter}
 use Rattle.nest_text.specs.Parts.{choice}
 use Rattle.nest_text.proofs.Steps.{statements-are}
@@ -21,7 +21,7 @@ Going = Result ((List Stmt × Names) × Sight) TextFault
 abbrev pub going : ℕ → List Stmt → Names → Sight → Going
 going d xs names s = many opening_of (another (choice d)) (xs, names) s
 
-part-choice : (d : ℕ) (names : Names) → Part (choice d names)
+part-choice : (d : ℕ) (names : Names) → IsPart (choice d names)
 unfolding choice
 part-choice zero names = part-refused kind.Deep
 part-choice (suc d) names = starts part-skipped (λ _. local-branches names (statements d names) (local-statements d names))

@@ -11,7 +11,9 @@ use Rattle.nest_tokens.specs.declared.token.Name.{Name}
 use Rattle.nest_tokens.specs.Lexing.{is_name_byte}
 use Rattle.nest_tokens.specs.Division.{AllPass}
 use Rattle.nest_grammar.specs.declared.file.Scalar.{Scalar}
+use Rattle.nest_grammar.specs.declared.file.NestUnit.{NestUnit}
 use Rattle.nest_grammar.specs.declared.file.File.{File}
+use Rattle.nest_grammar.specs.Files.{nests_of}
 use Rattle.grammar_laws.specs.Rules.{IsSpelled}
 use Rattle.nest_tokens.specs.Spellings.{name_text}
 use Rattle.nest_tokens.proofs.Spelled.{name_text-name_of}
@@ -20,6 +22,10 @@ use Rattle.nest_text.specs.Files.{scalar_names}
 -- the name at a number is that of the scalar there
 pub name-found : (file inner : File) (found : Option (Bor Scalar)) (k : ℕ) → inner ≡ file → option_copied found ≡ slice_get inner.scalars k → slice_get (scalar_names file) k ≡ option_map (λ c. name_text c.name) (option_copied found)
 name-found file inner found k same h = ap (λ (f : File). slice_get (scalar_names f) k) (sym same) ∙ (slice_get-map (λ (c : Scalar). name_text c.name) inner.scalars k ∙ ap (option_map (λ (c : Scalar). name_text c.name)) (sym h))
+
+-- the nest at a number is that of the unit there
+pub nest-found : (file inner : File) (found : Option (Bor NestUnit)) (k : ℕ) → inner ≡ file → option_copied found ≡ slice_get inner.units k → slice_get (nests_of file) k ≡ option_map (λ u. u.nest) (option_copied found)
+nest-found file inner found k same h = ap (λ (f : File). slice_get (nests_of f) k) (sym same) ∙ (slice_get-map (λ (u : NestUnit). u.nest) inner.units k ∙ ap (option_map (λ (u : NestUnit). u.nest)) (sym h))
 
 -- what holds of all holds of the one at a number
 pub All-found : {X : Type 0} (P : X → Type 0) (xs : List X) (k : ℕ) (x : X) → All P xs → slice_get xs k ≡ Some x → P x

@@ -20,7 +20,7 @@ use Rattle.nest_grammar.specs.declared.version.Version.TheVariants.{One, Two}
 use Rattle.nest_grammar.specs.Contents.{set_version, version_at, ramp_fits, item_of}
 use Rattle.nest_grammar.specs.declared.file.Item.{Item}
 use Rattle.nest_grammar.specs.declared.file.Item.TheVariants.{Ramp}
-use Rattle.nest_grammar.specs.declared.opening.ItemWord.TheVariants as item
+use Rattle.nest_grammar.specs.declared.opening.ItemKeyword.TheVariants as item
 use Rattle.nest_grammar.specs.Loops.{not_zero}
 use Rattle.nest_grammar.specs.Scripts.{is_factor}
 use Rattle.nest_grammar.specs.Names.{Names, place_of, unless_known, fresh_at, fresh}

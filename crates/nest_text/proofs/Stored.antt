@@ -9,7 +9,8 @@ use Rattle.std.proofs.Math.Nat.{mul-le-mul_left}
 use Rattle.std.proofs.Math.IntN.{pos-*ℤ-pos, negsuc-*ℤ-pos}
 use Rattle.nest_grammar.specs.declared.file.Item.{Item}
 use Rattle.nest_grammar.specs.declared.file.Item.TheVariants.{Data, Ramp}
-use Rattle.nest_grammar.specs.Contents.{is_i64, ramp_fits}
+use Rattle.nest_lang.specs.Values.{is_i64}
+use Rattle.nest_grammar.specs.Contents.{ramp_fits}
 use Rattle.nest_grammar.specs.Files.{set_words, set_ramp, after_item, after_items}
 use Rattle.grammar_laws.specs.Rules.{item_fits}
 

@@ -1,8 +1,9 @@
 -- Files: what a file that was read gives, in the words of its calls.
-use Rattle.std.specs.Prelude.{ℕ, List, map, slice_get, Option, Result, Ok, Err}
+use Rattle.std.specs.Prelude.{◌≡◌, ℕ, List, map, slice_get, Option, Result, Ok, Err}
 use Rattle.std.specs.Option.{option_and_then}
 use Rattle.nest_lang.specs.declared.command.Command.{Command}
 use Rattle.nest_grammar.specs.declared.file.File.{File}
+use Rattle.nest_grammar.specs.Contents.{reading}
 use Rattle.nest_grammar.specs.Grammar.{Reads}
 use Rattle.nest_tokens.specs.Spellings.{name_text}
 use Rattle.nest_text.specs.declared.refusal.ReadRefusal.{ReadRefusal}
@@ -14,6 +15,10 @@ abbrev pub ByGrammar : List ℕ → Result File ReadRefusal → Type 0
 ByGrammar text (Ok file) = Reads text file
 ByGrammar text (Err (Text fault)) = (file : File) → Reads text file → ⊥
 ByGrammar text (Err NoMemory) = Unit {0}
+
+-- some text reads as this file
+abbrev pub IsOfText : File → Type 0
+IsOfText file = (text : List ℕ) × (reading text ≡ Ok file)
 
 -- the names of a file's scalars
 abbrev pub scalar_names : File → List (List ℕ)

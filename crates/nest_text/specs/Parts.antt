@@ -7,7 +7,7 @@ use Rattle.nest_grammar.specs.declared.opening.Opening.{Opening}
 use Rattle.nest_grammar.specs.declared.fault.TextKind.TheVariants as kind
 use Rattle.nest_grammar.specs.declared.version.Version.{Version}
 use Rattle.nest_grammar.specs.declared.version.Version.TheVariants.{One, Two}
-use Rattle.nest_grammar.specs.Readings.{Reading, ◌>>=◌, gives, refused, skipped, at_mark, many}
+use Rattle.nest_grammar.specs.Readings.{Reading, ◌>>=◌, gives, refused, skipped, at_mark, many, always}
 use Rattle.nest_grammar.specs.Scripts.{Script, ruled, is_size, command, next_command}
 use Rattle.nest_grammar.specs.Names.{Names}
 use Rattle.nest_grammar.specs.declared.opening.Start.TheVariants as start
@@ -34,7 +34,7 @@ choice (suc d) names = skipped >>= λ _. branches names (statements d names)
 
 -- command { ";" command }
 abbrev pub commands : ℕ → Reading Script
-commands depth = command depth [] >>= many (at_mark mark.Semicolon) (next_command depth)
+commands depth = command depth [] >>= many (at_mark mark.Semicolon) (always (next_command depth))
 
 -- the size of a tile
 abbrev pub tile_size : Reading ℤ

@@ -4,15 +4,15 @@ ghost use Rattle.std.specs.Prelude.{◌≡◌, ◌<◌, ◌++◌, ◌∷◌, [],
 ghost use Rattle.nest_grammar.specs.Names.{names_of};
 ghost use Rattle.nest_grammar.specs.Contents.{version, scalar, scalars, unit, next_unit, other_units, units, contents};
 ghost use Rattle.nest_grammar.specs.declared.version.Version.TheVariants.{Two as VersionTwo};
-ghost use Rattle.nest_grammar.specs.declared.opening.LoopWord.TheVariants.{For as ForWord};
+ghost use Rattle.nest_grammar.specs.declared.opening.LoopKeyword.TheVariants.{For as ForWord};
 ghost use Rattle.nest_text.specs.Answers.{Gives, GivesAs};
 ghost use Rattle.nest_text.specs.Parts.{version_of};
 
 use crate::limits::{MOST_NESTS, MOST_SCALARS, most_depth};
-use crate::nesting::loop_word;
+use crate::nesting::loop_keyword;
 use crate::reader::Reader;
 use crate::refusal::ReadRefusal;
-use nest_grammar::{Declared, File, Scalar, TextKind, Unit, Version};
+use nest_grammar::{Declared, File, Scalar, TextKind, NestUnit, Version};
 use nest_lang::{Nest, Place};
 use nest_tokens::Mark;
 use sqlite_items::Items;
@@ -51,7 +51,7 @@ impl<'a> Reader<'a> {
     #[tactic(auto, unfolding(nest_grammar::specs::Readings::obeys))]
     fn scalar(&mut self, scalars: &[Scalar], names: &[Declared]) -> Result<Scalar, ReadRefusal>
         requires { names.now ≡ names_of scalars.now }
-        ensures read { GivesAs (λ c. scalars.now ++ c ∷ []) result self.new (scalar tt scalars.now self.old) }
+        ensures read { GivesAs (λ c. scalars.now ++ c ∷ []) result self.new (scalar scalars.now self.old) }
         ensures room { OnOk result (length scalars.now < 16) }
     {
         self.obey(scalars.len() < MOST_SCALARS, TextKind::Many)?;
@@ -83,14 +83,14 @@ impl<'a> Reader<'a> {
 
     /// Reads a nest and its candidates.
     #[tactic(auto, unfolding(nest_grammar::specs::Contents::unit))]
-    fn unit(&mut self, names: &mut Vec<Declared>) -> Result<Unit, ReadRefusal>
+    fn unit(&mut self, names: &mut Vec<Declared>) -> Result<NestUnit, ReadRefusal>
         ensures read { Gives result self.new (unit names.old.items self.old) }
         ensures kept { OnOk result (names.new.items ≡ names.old.items) }
     {
         let version = self.version;
         let (loops, loop_names) = self.loops(names, most_depth(version), 0)?;
         let scripts = self.candidates(loops.len() as u8)?;
-        Ok(Unit {
+        Ok(NestUnit {
             nest: Nest { loops },
             names: loop_names,
             scripts,
@@ -98,7 +98,7 @@ impl<'a> Reader<'a> {
     }
 
     /// Reads a nest behind so many others.
-    fn next_unit(&mut self, names: &mut Vec<Declared>, before: &[Unit]) -> Result<Unit, ReadRefusal>
+    fn next_unit(&mut self, names: &mut Vec<Declared>, before: &[NestUnit]) -> Result<NestUnit, ReadRefusal>
         ensures read { GivesAs (λ u. before.now ++ u ∷ []) result self.new (next_unit names.old.items ForWord before.now self.old) }
         ensures kept { OnOk result (names.new.items ≡ names.old.items) }
     {
@@ -111,12 +111,12 @@ impl<'a> Reader<'a> {
     fn several_units(
         &mut self,
         names: &mut Vec<Declared>,
-        mut units: Items<Unit>,
-    ) -> Result<Items<Unit>, ReadRefusal>
+        mut units: Items<NestUnit>,
+    ) -> Result<Items<NestUnit>, ReadRefusal>
         ensures read { Gives result self.new (other_units VersionTwo names.old.items units self.old) }
         ensures kept { OnOk result (names.new.items ≡ names.old.items) }
     {
-        'units: while let Some(_) = loop_word(self.token()) {
+        'units: while let Some(_) = loop_keyword(self.token()) {
             let unit = self.next_unit(names, units.as_slice())?;
             units.push(unit)?;
         }
@@ -129,7 +129,7 @@ impl<'a> Reader<'a> {
         &mut self,
         version: Version,
         names: &mut Vec<Declared>,
-    ) -> Result<Items<Unit>, ReadRefusal>
+    ) -> Result<Items<NestUnit>, ReadRefusal>
         ensures { Gives result self.new (units version names.old.items self.old) }
     {
         let mut units = Items::new(self.alloc);

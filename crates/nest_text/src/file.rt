@@ -3,27 +3,25 @@
 ghost use Rattle.std.specs.Prelude.{◌≡◌, ◌+◌, ◌≤◌, ◌+ℤ◌, ◌*ℤ◌, pos, true, length, map, option_map, slice_get, FitsSigned, IfOk, IfSome};
 ghost use Rattle.std.specs.Int.{w64};
 ghost use Rattle.std.specs.List.{All, prefix_len};
-ghost use Rattle.nest_lang.specs.Rules.{keeps_rules};
+ghost use Rattle.nest_lang.specs.Rules.{NestKeeps};
 ghost use Rattle.nest_grammar.specs.Contents.{reading, ramp_fits};
 ghost use Rattle.nest_grammar.specs.Files.{after_item, after_items, first_memory, first_store, nests_of, set_ramp, set_words};
 ghost use Rattle.grammar_laws.specs.Rules.{IsSpelled, KeepsRules, item_fits};
-ghost use Rattle.canonical.specs.Contents.{canonical};
 ghost use Rattle.nest_tokens.specs.Spellings.{name_text};
 ghost use Rattle.nest_text.specs.Answers.{Answers};
-ghost use Rattle.nest_text.specs.Files.{ByGrammar, scalar_names, scripts_of, script_at};
+ghost use Rattle.nest_text.specs.Files.{ByGrammar, IsOfText, scalar_names, scripts_of, script_at};
 
-use crate::refusal::{NoMemory, ReadRefusal};
+use crate::refusal::ReadRefusal;
 use crate::whole::read_whole;
-use canonical::write_file;
 use nest_grammar::{File, Item, Scalar};
 use nest_lang::{Command, Nest, State};
 use nest_tokens::Name;
 use std::alloc::{AllocError, Global};
 use std::marker::Model;
 
-/// What a text gives. Only `read_nest` makes one, so each keeps the rules of files that were read: at most
-/// 16 scalars and 1,048,576 words, items that set words of the memory alone, and one to eight nests of one
-/// to six loops.
+/// What a text gives. Only `read_nest` makes one, so that some text reads as it. It then keeps the rules of
+/// files that were read: at most 16 scalars and 1,048,576 words, items that set words of the memory alone, and
+/// one to eight nests of one to six loops.
 #[derive(Debug, Drop)]
 pub struct NestFile {
     file: File,
@@ -31,7 +29,7 @@ pub struct NestFile {
 
 impl Model for NestFile {
     ghost use Rattle.nest_grammar.specs.declared.file.File.{File};
-    ghost use Rattle.grammar_laws.specs.Rules.{KeepsRules};
+    ghost use Rattle.nest_text.specs.Files.{IsOfText};
     ghost use Rattle.nest_lang.specs.contracts.tree.Expr as expr;
     ghost use Rattle.nest_lang.specs.contracts.tree.Stmt as stmt;
     ghost use Rattle.std.specs.Coded.{codes};
@@ -42,7 +40,7 @@ impl Model for NestFile {
 
     ghost view = { λ f. f.file };
 
-    ghost invariant = { λ f. KeepsRules f.file };
+    ghost invariant = { λ f. IsOfText f.file };
 }
 
 /// Reads a text of at most 1,048,576 bytes: the file that it is (docs/DEFINITIONS.md, What a text reads as). `Text`
@@ -56,16 +54,15 @@ pub fn read_nest(alloc: Global, text: &[u8]) -> Result<NestFile, ReadRefusal>
     Ok(NestFile { file })
 }
 
-/// The canonical text of a file (docs/DEFINITIONS.md, Canonical text). `NoMemory` where there is no memory
-/// for it.
-pub fn write_nest(alloc: Global, file: &NestFile) -> Result<Vec<u8>, NoMemory>
-    ensures { IfOk result (λ bytes. bytes.items ≡ canonical file.now) }
-{
-    let bytes = write_file(alloc, &file.file)?;
-    Ok(bytes)
-}
-
 impl NestFile {
+    /// The file as plain data. Some text reads as it.
+    pub fn file(&self) -> &File
+        ensures same { result.now ≡ self.now }
+        ensures of_text { IsOfText self.now }
+    {
+        &self.file
+    }
+
     /// The number of nests: 1 to 8. They run one after another.
     pub fn nests(&self) -> usize
         ensures { result ≡ length (nests_of self.now) }
@@ -74,10 +71,11 @@ impl NestFile {
     }
 
     /// A nest, numbered from 0. None exactly where there is no such nest. It has one to six loops, no `for`
-    /// with a step of 0, and a statement in its innermost body.
+    /// with a step of 0, and a statement in its innermost body; in each of its blocks the accesses are
+    /// numbered from 1 on in the order of evaluation, at most 64, and the scalars are those of the file.
     pub fn nest(&self, number: usize) -> Option<&Nest>
         ensures nest { option_map (λ nest. nest.now) result ≡ slice_get (nests_of self.now) number }
-        ensures rules { IfSome result (λ nest. keeps_rules nest.now.loops ≡ true) }
+        ensures rules { IfSome result (λ nest. NestKeeps (length self.now.scalars) nest.now.loops) }
     {
         match self.file.units.get(number) {
             Some(unit) => Some(&unit.nest),
@@ -122,8 +120,9 @@ impl NestFile {
     }
 
     /// The first memory and scalars: each word is 0 that no item sets, and a later item overrides
-    /// (docs/DEFINITIONS.md, Files). `NoMemory` where there is no memory for them.
-    pub fn start(&self, alloc: Global) -> Result<State, NoMemory>
+    /// (docs/DEFINITIONS.md, Files). It is refused only
+    /// where there is no memory for them.
+    pub fn start(&self, alloc: Global) -> Result<State, AllocError>
         ensures store { IfOk result (λ state. state ≡ first_store self.now) }
         ensures scalars { IfOk result (λ state. length state.scalars ≤ 16) }
     {

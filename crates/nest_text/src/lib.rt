@@ -3,12 +3,12 @@
 //! `Reader` goes through a text token by token and has one function for each production of the grammar.
 //! Each answers what the definition of the same name in `nest_grammar` gives: the thing read, or the first
 //! token that is wrong and its kind. `read_nest` gives the file that a text is, exactly where the text has
-//! a reading, and else its first fault. A `NestFile` is made by it alone, so it keeps the rules of files
-//! that were read, and no caller proves them again.
+//! a reading, and else its first fault. A `NestFile` is made by it alone, so that some text reads as it; what
+//! holds of every file that was read is then known of it, and no caller proves it again.
 //!
 //! The crate stands on `nest_tokens` (the tokens of a text), on `nest_grammar` and `grammar_laws` (what a
-//! text reads as, and what holds of it), on `canonical` (the canonical text) and on `nest_lang` (the trees
-//! and states). The top call uses `read_nest`, `write_nest` and the parts of a `NestFile`.
+//! text reads as, and what holds of it) and on `nest_lang` (the trees and states). The layers above use
+//! `read_nest` and the parts of a `NestFile`; `canonical` writes one.
 #![tactic(auto)]
 
 mod contents;
@@ -26,6 +26,7 @@ mod tests;
 mod visible;
 mod whole;
 
-pub use file::{NestFile, read_nest, write_nest};
+pub use file::{NestFile, read_nest};
+pub use limits::MOST_BYTES;
 pub use nest_grammar::{TextFault, TextKind};
-pub use refusal::{NoMemory, ReadRefusal};
+pub use refusal::ReadRefusal;

@@ -1,8 +1,9 @@
 //! The memory and the first values of its words.
 
 ghost use Rattle.std.specs.Prelude.{◌≡◌, ◌+◌, ◌*◌, ◌<◌, ◌≤◌, ◌^◌, ◌+ℤ◌, ◌*ℤ◌, pos, unsigned_abs, OnOk};
-ghost use Rattle.nest_grammar.specs.Contents.{memory, item_word, value_begins, data_value, data_values, is_i64, ramp_fits, item_of, items};
-ghost use Rattle.nest_grammar.specs.declared.opening.ItemWord.TheVariants.{Data as DataWord, Ramp as RampWord};
+ghost use Rattle.nest_lang.specs.Values.{is_i64};
+ghost use Rattle.nest_grammar.specs.Contents.{memory, item_keyword, value_begins, data_value, data_values, ramp_fits, item_of, items};
+ghost use Rattle.nest_grammar.specs.declared.opening.ItemKeyword.TheVariants.{Data as DataWord, Ramp as RampWord};
 ghost use Rattle.nest_grammar.specs.Sights.{skip};
 ghost use Rattle.nest_grammar.specs.Readings.{signed_where};
 ghost use Rattle.nest_grammar.specs.declared.fault.TextKind.TheVariants.{Range as RangeKind};
@@ -11,18 +12,18 @@ ghost use Rattle.nest_text.specs.Answers.{Gives};
 use crate::limits::MOST_WORDS;
 use crate::reader::{Reader, signed_value};
 use crate::refusal::ReadRefusal;
-use nest_grammar::{Item, ItemWord, TextKind};
+use nest_grammar::{Item, ItemKeyword, TextKind};
 use nest_tokens::{Mark, Token};
 use sqlite_items::Items;
 
 /// The word that an item begins with.
-#[tactic(auto, unfolding(nest_grammar::specs::Contents::item_word))]
-fn item_word(token: Token) -> Option<ItemWord>
-    ensures { result ≡ item_word token }
+#[tactic(auto, unfolding(nest_grammar::specs::Contents::item_keyword))]
+fn item_keyword(token: Token) -> Option<ItemKeyword>
+    ensures { result ≡ item_keyword token }
 {
     match token {
-        Token::Plain(Mark::Data) => Some(ItemWord::Data),
-        Token::Plain(Mark::Ramp) => Some(ItemWord::Ramp),
+        Token::Plain(Mark::Data) => Some(ItemKeyword::Data),
+        Token::Plain(Mark::Ramp) => Some(ItemKeyword::Ramp),
         _ => None,
     }
 }
@@ -177,13 +178,13 @@ impl<'a> Reader<'a> {
     }
 
     /// Reads an item that begins with this word.
-    fn item(&mut self, words: usize, word: ItemWord) -> Result<Item, ReadRefusal>
+    fn item(&mut self, words: usize, word: ItemKeyword) -> Result<Item, ReadRefusal>
         ensures { Gives result self.new (item_of words word (skip self.old)) }
     {
         self.skip();
         match word {
-            ItemWord::Data => self.data(words),
-            ItemWord::Ramp => self.ramp(words),
+            ItemKeyword::Data => self.data(words),
+            ItemKeyword::Ramp => self.ramp(words),
         }
     }
 
@@ -193,7 +194,7 @@ impl<'a> Reader<'a> {
         ensures { Gives result self.new (items words self.old) }
     {
         let mut items = Items::new(self.alloc);
-        'items: while let Some(word) = item_word(self.token()) {
+        'items: while let Some(word) = item_keyword(self.token()) {
             let item = self.item(words, word)?;
             items.push(item)?;
         }

@@ -1,13 +1,13 @@
 //! Loops and what stands in them.
 
 ghost use Rattle.std.specs.Prelude.{◌≡◌, ◌≤◌, ◌<◌, ◌+◌, length, OnOk, IfOk};
-ghost use Rattle.nest_grammar.specs.Loops.{loop_word, around, inside, stride, heading, body_end, rest_of, loop_of, loops};
-ghost use Rattle.nest_grammar.specs.declared.opening.LoopWord.TheVariants.{For as ForWord, While as WhileWord};
+ghost use Rattle.nest_grammar.specs.Loops.{loop_keyword, around, inside, stride, heading, body_end, rest_of, loop_of, loops};
+ghost use Rattle.nest_grammar.specs.declared.opening.LoopKeyword.TheVariants.{For as ForWord, While as WhileWord};
 ghost use Rattle.nest_text.specs.Answers.{Gives};
 
 use crate::reader::{Reader, signed_value};
 use crate::refusal::ReadRefusal;
-use nest_grammar::{Declared, LoopNames, LoopWord, TextKind};
+use nest_grammar::{Declared, LoopNames, LoopKeyword, TextKind};
 use nest_lang::{Head, Loop, Place, Stmt};
 use nest_tokens::{Mark, Name, Token};
 use sqlite_items::Items;
@@ -20,13 +20,13 @@ pub type Loops = (Items<Loop>, Items<LoopNames>);
 type Block = (Items<Stmt>, Items<Name>);
 
 /// The word that a loop begins with.
-#[tactic(auto, unfolding(nest_grammar::specs::Loops::loop_word))]
-pub fn loop_word(token: Token) -> Option<LoopWord>
-    ensures { result ≡ loop_word token }
+#[tactic(auto, unfolding(nest_grammar::specs::Loops::loop_keyword))]
+pub fn loop_keyword(token: Token) -> Option<LoopKeyword>
+    ensures { result ≡ loop_keyword token }
 {
     match token {
-        Token::Plain(Mark::For) => Some(LoopWord::For),
-        Token::Plain(Mark::While) => Some(LoopWord::While),
+        Token::Plain(Mark::For) => Some(LoopKeyword::For),
+        Token::Plain(Mark::While) => Some(LoopKeyword::While),
         _ => None,
     }
 }
@@ -118,13 +118,13 @@ impl<'a> Reader<'a> {
     fn heading(
         &mut self,
         names: &[Declared],
-        word: LoopWord,
+        word: LoopKeyword,
     ) -> Result<(Head, Option<Name>), ReadRefusal>
         ensures { Gives result self.new (heading names.now word self.old) }
     {
         match word {
-            LoopWord::For => self.for_heading(names),
-            LoopWord::While => self.while_heading(names),
+            LoopKeyword::For => self.for_heading(names),
+            LoopKeyword::While => self.while_heading(names),
         }
     }
 
@@ -152,7 +152,7 @@ impl<'a> Reader<'a> {
         ensures kept { OnOk result (names.new.items ≡ names.old.items) }
         ensures shallow { IfOk result (λ rest. length rest.0.0 ≤ levels) }
     {
-        match loop_word(self.token()) {
+        match loop_keyword(self.token()) {
             Some(_) => {
                 let inner = self.loops(names, levels, level)?;
                 let post = self.block(names)?;
@@ -173,7 +173,7 @@ impl<'a> Reader<'a> {
         names: &mut Vec<Declared>,
         levels: usize,
         level: u8,
-        word: LoopWord,
+        word: LoopKeyword,
     ) -> Result<Loops, ReadRefusal>
         requires { level + levels < 6 }
         ensures read { Gives result self.new (loop_of (loops levels (level + 1)) level names.old.items word self.old) }
@@ -205,7 +205,7 @@ impl<'a> Reader<'a> {
         ensures kept { OnOk result (names.new.items ≡ names.old.items) }
         ensures shallow { IfOk result (λ loops. length loops.0 ≤ levels) }
     {
-        match loop_word(self.token()) {
+        match loop_keyword(self.token()) {
             Some(word) => {
                 if levels == 0 {
                     return Err(ReadRefusal::Text(self.fault(TextKind::Deep)));

@@ -96,7 +96,7 @@ impl<'a> Reader<'a> {
     }
 
     /// The token here.
-    #[tactic(auto, using(crate::proofs::Sighted::sights), unfolding(nest_tokens::specs::Ahead::here, nest_grammar::specs::Sights::here))]
+    #[tactic(auto, unfolding(nest_tokens::specs::Ahead::here, nest_grammar::specs::Sights::here))]
     pub fn token(&self) -> Token
         ensures { result ≡ stands self.now }
     {
@@ -104,7 +104,7 @@ impl<'a> Reader<'a> {
     }
 
     /// Goes past the token here; at the end it stays.
-    #[tactic(auto, using(crate::proofs::Sighted::sights), unfolding(nest_tokens::specs::Ahead::past, nest_grammar::specs::Sights::skip))]
+    #[tactic(auto, unfolding(nest_tokens::specs::Ahead::past, nest_grammar::specs::Sights::skip))]
     pub fn skip(&mut self)
         ensures { self.new ≡ skip self.old }
     {
@@ -121,7 +121,7 @@ impl<'a> Reader<'a> {
     }
 
     /// The token here is at fault.
-    #[tactic(auto, using(crate::proofs::Sighted::sights), unfolding(nest_tokens::specs::Ahead::here, nest_grammar::specs::Sights::here))]
+    #[tactic(auto, unfolding(nest_tokens::specs::Ahead::here, nest_grammar::specs::Sights::here))]
     pub fn fault(&self, what: TextKind) -> TextFault
         ensures { result ≡ record { at = (here self.now).at; what = what } }
     {

@@ -7,22 +7,6 @@ use nest_grammar::TextFault;
 use std::alloc::{AllocError, AllocFailed};
 use thiserror::Error;
 
-/// A growth that was refused.
-#[derive(Clone, Copy, Debug, PartialEq, Eq)]
-pub struct NoMemory;
-
-impl From<AllocError> for NoMemory {
-    fn from(_: AllocError) -> Self {
-        NoMemory
-    }
-}
-
-impl From<canonical::NoMemory> for NoMemory {
-    fn from(_: canonical::NoMemory) -> Self {
-        NoMemory
-    }
-}
-
 /// Why a text was not read: its first fault, or a growth that was refused.
 #[derive(Clone, Copy, Debug, PartialEq, Eq, Error)]
 pub enum ReadRefusal {

@@ -1,10 +1,10 @@
 //! Candidates and their scripts.
 
-ghost use Rattle.std.specs.Prelude.{◌≡◌, ◌<◌, ◌≤◌, ◌++◌, ◌∷◌, [], length, OnOk, nat_le};
+ghost use Rattle.std.specs.Prelude.{◌≡◌, ◌<◌, ◌++◌, ◌∷◌, [], length, OnOk, count_by, nat_le};
 ghost use Rattle.nest_tokens.specs.Lexing.{name_of};
 ghost use Rattle.nest_grammar.specs.Readings.{signed_where};
 ghost use Rattle.nest_grammar.specs.declared.fault.TextKind.TheVariants.{Script as ScriptKind};
-ghost use Rattle.nest_grammar.specs.Scripts.{word_spelling, word_of_name, command_word, how_many, is_seq, is_skew, may_follow, row, row_but, ruled, is_factor, is_size, row_begins, next_row, rows, operands, command, script, candidate, candidates};
+ghost use Rattle.nest_grammar.specs.Scripts.{word_spelling, word_of_name, command_word, is_seq, is_skew, may_follow, row, row_but, ruled, is_factor, is_size, row_begins, next_row, rows, operands, command, script, candidate, candidates};
 ghost use Rattle.nest_grammar.specs.declared.script.CommandWord.TheVariants.{Swap as SwapWord, Skew as SkewWord, Tile as TileWord};
 ghost use Rattle.nest_text.specs.Answers.{Gives, GivesAs};
 ghost use Rattle.nest_text.specs.Parts.{commands, tile_size};
@@ -31,27 +31,11 @@ const WORDS: [CommandWord; 6] = [
     CommandWord::Wave,
 ];
 
-/// How a command's word is spelled.
-#[tactic(auto, unfolding(nest_grammar::specs::Scripts::word_spelling))]
-fn spelling(word: CommandWord) -> &'static [u8]
-    ensures spelled { result.now ≡ word_spelling word }
-    ensures short { length result.now ≤ 32 }
-{
-    match word {
-        CommandWord::Seq => b"seq",
-        CommandWord::Swap => b"swap",
-        CommandWord::Skew => b"skew",
-        CommandWord::Tile => b"tile",
-        CommandWord::Par => b"par",
-        CommandWord::Wave => b"wave",
-    }
-}
-
 /// A command's word as a name, with zeros behind it.
 fn padded(word: CommandWord) -> [u8; 32]
     ensures { result ≡ (name_of (word_spelling word)).bytes }
 {
-    let spelled = spelling(word);
+    let spelled = word.spelling();
     let mut bytes = [0; LONGEST_NAME];
     bytes[..spelled.len()].copy_from_slice(spelled);
     bytes
@@ -79,30 +63,30 @@ fn command_word(token: Token) -> Option<CommandWord>
     }
 }
 
+fn is_seq(command: &Command) -> bool
+    ensures { result ≡ is_seq command.now }
+{
+    matches!(command, Command::Seq(_))
+}
+
+fn is_skew(command: &Command) -> bool
+    ensures { result ≡ is_skew command.now }
+{
+    matches!(command, Command::Skew(_, _, _))
+}
+
 /// How many commands are a `seq`.
 fn seqs(commands: &[Command]) -> usize
-    ensures { result ≡ how_many is_seq commands.now }
+    ensures { result ≡ count_by is_seq commands.now }
 {
-    let mut count = 0;
-    for command in commands {
-        if let Command::Seq(_) = command {
-            count += 1;
-        }
-    }
-    count
+    commands.iter().filter(|command| is_seq(command)).count()
 }
 
 /// How many commands are a `skew`.
 fn skews(commands: &[Command]) -> usize
-    ensures { result ≡ how_many is_skew commands.now }
+    ensures { result ≡ count_by is_skew commands.now }
 {
-    let mut count = 0;
-    for command in commands {
-        if let Command::Skew(_, _, _) = command {
-            count += 1;
-        }
-    }
-    count
+    commands.iter().filter(|command| is_skew(command)).count()
 }
 
 /// Whether a command of this word may stand behind these: `seq` stands at most once, and `skew` at most
@@ -184,7 +168,7 @@ impl<'a> Reader<'a> {
     /// Goes past the number of a row behind so many others.
     #[tactic(auto, unfolding(nest_grammar::specs::Readings::obeys))]
     fn next_row(&mut self, depth: u8, before: &[u8]) -> Result<u8, ReadRefusal>
-        ensures read { GivesAs (λ n. before.now ++ n ∷ []) result self.new (next_row depth tt before.now self.old) }
+        ensures read { GivesAs (λ n. before.now ++ n ∷ []) result self.new (next_row depth before.now self.old) }
         ensures room { OnOk result (length before.now < 6) }
     {
         self.obey(before.len() < MOST_ROWS, TextKind::Script)?;
@@ -299,7 +283,7 @@ impl<'a> Reader<'a> {
         depth: u8,
         before: &[Items<Command>],
     ) -> Result<Items<Command>, ReadRefusal>
-        ensures { GivesAs (λ cs. before.now ++ cs ∷ []) result self.new (candidate depth tt before.now self.old) }
+        ensures { GivesAs (λ cs. before.now ++ cs ∷ []) result self.new (candidate depth before.now self.old) }
     {
         self.obey(before.len() < MOST_CANDIDATES, TextKind::Many)?;
         self.skip();

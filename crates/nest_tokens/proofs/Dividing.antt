@@ -6,8 +6,9 @@ use Rattle.nest_tokens.specs.declared.token.Mark.{Mark}
 use Rattle.nest_tokens.specs.declared.token.Spot.{Spot}
 use Rattle.nest_tokens.specs.Tokens.{spelling, sign_at}
 use Rattle.nest_tokens.specs.Lexing.{is_letter, is_digit, is_name_byte, is_blank, between, gap, Lexed, lexed, spelled_by, sign_or_byte, named, numbered, spots, spots_at, tokens_from}
-use Rattle.nest_tokens.specs.Division.{Gap, none, blank, opens, inside, closes, Begins, Stops, AllPass, Spells, name, number, sign, bad_byte, Divides, ends, goes_on, TokensDivide}
-use Rattle.nest_tokens.proofs.Places.{lexed-moves, gap-no_longer}
+use Rattle.nest_tokens.specs.Division.{Gap, none, blank, opens, inside, closes, Begins, Stops, AllPass, IsSign, StandsAt, Spells, name, number, sign, bad_byte, Divides, ends, goes_on, TokensDivide}
+use Rattle.nest_tokens.proofs.Places.{lexed-moves, gap-no_longer, spelling-moves}
+use Rattle.nest_tokens.proofs.SignLaws.{found_len, sign_at-sign, sign_at-longest}
 use Rattle.nest_tokens.proofs.Names.{sign-begins}
 
 -- a text is a gap and what is left behind it
@@ -98,8 +99,18 @@ unblank b h = elim (is_blank b) as (λ t. is_blank b ≡ t → cond t (Some fals
 sign-spelled : (b : ℕ) (bs : List ℕ) → between false b ≡ None → is_letter b ≡ false → is_digit b ≡ false → (o : Option Mark) → sign_at (b ∷ bs) ≡ o → SpelledAs (b ∷ bs) (sign_or_byte o)
 sign-spelled b bs h l d (Some m) e =
     let s : take (length (spelling m)) (b ∷ bs) ≡ spelling m = sym (sign-begins (b ∷ bs) m e) in
-    sign s (rw (take-append-drop (length (spelling m)) (b ∷ bs)) e)
-sign-spelled b bs h l d None e = let u = unblank b h in bad_byte u.0 u.1 l d e
+    sign s (sign_at-sign (b ∷ bs) m e) (λ k i st. (
+    let c : StandsAt (b ∷ bs) k = subst (λ (t : List ℕ). StandsAt t k) (take-append-drop (length (spelling m)) (b ∷ bs)) st in
+    let n : length (spelling k) ≤ found_len (sign_at (b ∷ bs)) = sign_at-longest (b ∷ bs) k i c in
+    let z : found_len (sign_at (b ∷ bs)) ≡ length (spelling m) = ap found_len e in
+    let w : length (take (length (spelling m)) (b ∷ bs)) ≡ length (spelling m) = ap (λ (t : List ℕ). length t) s in
+    omega arith))
+sign-spelled b bs h l d None e =
+    let u = unblank b h in
+    bad_byte u.0 u.1 l d (λ k i st. (
+    let n : length (spelling k) ≤ found_len (sign_at (b ∷ bs)) = sign_at-longest (b ∷ bs) k i st in
+    let z : found_len (sign_at (b ∷ bs)) ≡ 0 = ap found_len e in
+    omega (arith, spelling-moves k)))
 
 lexed-spelled : (b : ℕ) (bs : List ℕ) → between false b ≡ None → SpelledAs (b ∷ bs) (lexed (b ∷ bs))
 unfolding lexed

@@ -6,3 +6,5 @@ pub mod Places
 pub mod Computed
 pub mod Dividing
 pub mod Spelled
+pub mod SignLaws
+pub mod OneDivision

@@ -10,7 +10,7 @@ use Rattle.nest_tokens.specs.contracts.token.Mark.{the_type}
 use Rattle.nest_tokens.specs.declared.token.Name.{Name}
 use Rattle.nest_tokens.specs.declared.token.Token.{Token}
 use Rattle.nest_tokens.specs.declared.token.Token.TheVariants as token
-use Rattle.nest_tokens.specs.Tokens.{spelling, word_of, sign_at, is_mark}
+use Rattle.nest_tokens.specs.Tokens.{spelling, keyword_of, sign_at, is_mark}
 
 abbrev or_else : Option Mark → Option Mark → Option Mark
 or_else (Some m) other = Some m
@@ -18,10 +18,10 @@ or_else None other = other
 
 -- the mark that is spelled so
 mark_of : List ℕ → Option Mark
-mark_of text = or_else (word_of text) (sign_at text)
+mark_of text = or_else (keyword_of text) (sign_at text)
 
 mark_of-spelling : (m : Mark) → mark_of (spelling m) ≡ Some m
-unfolding mark_of spelling word_of sign_at
+unfolding mark_of spelling keyword_of sign_at
 mark_of-spelling mark.OpenBrace = refl
 mark_of-spelling mark.CloseBrace = refl
 mark_of-spelling mark.Open = refl

@@ -6,14 +6,14 @@ use Rattle.std.proofs.lemmas.List.{drop-replicate}
 use Rattle.std.proofs.lemmas.Bool.Decides.{nat_tests}
 use Rattle.nest_tokens.specs.declared.token.Mark.{Mark}
 use Rattle.nest_tokens.specs.declared.token.Token.TheVariants as token
-use Rattle.nest_tokens.specs.Tokens.{spelling, word_of, sign_at, signs}
+use Rattle.nest_tokens.specs.Tokens.{spelling, keyword_of, sign_at, signs}
 use Rattle.nest_tokens.specs.Lexing.{named}
 
-pub named-name : (s new : List ℕ) {word : Option Mark} → length s ≤ 32 → word ≡ word_of s → word ≡ None → new ≡ s → token.Name (record { bytes = new ++ drop (length s) (replicate 32 0) }) ≡ named s
+pub named-name : (s new : List ℕ) {word : Option Mark} → length s ≤ 32 → word ≡ keyword_of s → word ≡ None → new ≡ s → token.Name (record { bytes = new ++ drop (length s) (replicate 32 0) }) ≡ named s
 unfolding named
 named-name s new {word} h w e n =
     let t : nat_lt 32 (length s) ≡ false = grind (arith, nat_tests) in
-    let o : word_of s ≡ None = sym w ∙ e in
+    let o : keyword_of s ≡ None = sym w ∙ e in
     rw (n, t, o, drop-replicate {X = ℕ} (length s) 32 0)
 
 found : {A : Type 0} (test : A → Bool) (xs : List A) (x : A) → find test xs ≡ Some x → test x ≡ true

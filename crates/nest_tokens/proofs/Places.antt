@@ -30,7 +30,7 @@ gap-same c [] = refl
 gap-same c (b ∷ bs) = elim (between c b) as (λ o. between c b ≡ o → gap false (gap_at (λ d. gap d bs) (b ∷ bs) o) ≡ gap_at (λ d. gap d bs) (b ∷ bs) o)
     [ None ↦ λ e. (let h : between false b ≡ None = none-again c b e in rw h) | Some d ↦ λ e. gap-same d bs ] refl
 
-spelling-moves : (m : Mark) → 0 < length (spelling m)
+pub spelling-moves : (m : Mark) → 0 < length (spelling m)
 unfolding spelling
 spelling-moves mark.OpenBrace = omega arith
 spelling-moves mark.CloseBrace = omega arith
@@ -111,7 +111,7 @@ spots-suc : (n size : ℕ) (bs : List ℕ) → spots (suc n) size bs ≡ spots_a
 unfolding spots
 spots-suc n size bs = refl
 
-tokens-nil : (size : ℕ) → tokens_from size [] ≡ []
+pub tokens-nil : (size : ℕ) → tokens_from size [] ≡ []
 unfolding tokens_from
 tokens-nil size = spots-nil 0 size
 

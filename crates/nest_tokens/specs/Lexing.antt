@@ -7,7 +7,7 @@ use Rattle.nest_tokens.specs.declared.token.Token.{Token}
 use Rattle.nest_tokens.specs.declared.token.Token.TheVariants as token
 use Rattle.nest_tokens.specs.declared.token.BadToken.TheVariants as bad
 use Rattle.nest_tokens.specs.declared.token.Spot.{Spot}
-use Rattle.nest_tokens.specs.Tokens.{spelling, word_of, sign_at}
+use Rattle.nest_tokens.specs.Tokens.{spelling, keyword_of, sign_at}
 
 -- a to z or _
 abbrev pub is_letter : ℕ → Bool
@@ -59,13 +59,13 @@ numbered ds = if nat_lt (decimal ds) (2 ^ 63) then token.Number (pos (decimal ds
 abbrev pub name_of : List ℕ → Name
 name_of s = record { bytes = s ++ replicate (32 - length s) 0 }
 
-abbrev pub word_or_name : Option Mark → List ℕ → Token
-word_or_name (Some word) s = token.Plain word
-word_or_name None s = token.Name (name_of s)
+abbrev pub keyword_or_name : Option Mark → List ℕ → Token
+keyword_or_name (Some keyword) s = token.Plain keyword
+keyword_or_name None s = token.Name (name_of s)
 
 -- a run of letters, digits and _: a reserved word, or a name of at most 32 bytes
 unfoldable pub named : List ℕ → Token
-named s = if nat_lt 32 (length s) then token.Bad bad.Name else word_or_name (word_of s) s
+named s = if nat_lt 32 (length s) then token.Bad bad.Name else keyword_or_name (keyword_of s) s
 
 -- a token, and how many bytes it has
 pub record Lexed : Type 0 where

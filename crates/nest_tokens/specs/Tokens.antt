@@ -45,18 +45,18 @@ spelling mark.If = codes "if"
 spelling mark.Else = codes "else"
 
 -- the reserved words
-abbrev pub words : List Mark
-words = mark.Nest ∷ mark.Scalar ∷ mark.Memory ∷ mark.Data ∷ mark.Ramp ∷ mark.Candidate ∷ mark.For ∷ mark.Below ∷ mark.Step ∷ mark.While ∷ mark.Let ∷ mark.If ∷ mark.Else ∷ []
+abbrev pub keywords : List Mark
+keywords = mark.Nest ∷ mark.Scalar ∷ mark.Memory ∷ mark.Data ∷ mark.Ramp ∷ mark.Candidate ∷ mark.For ∷ mark.Below ∷ mark.Step ∷ mark.While ∷ mark.Let ∷ mark.If ∷ mark.Else ∷ []
 
 -- the signs, a longer one before those that it begins with
 abbrev pub signs : List Mark
 signs = mark.Equal ∷ mark.NotEqual ∷ mark.AtMost ∷ mark.AtLeast ∷ mark.OpenBrace ∷ mark.CloseBrace ∷ mark.Open ∷ mark.Close ∷ mark.OpenBracket ∷ mark.CloseBracket ∷ mark.Assign ∷ mark.Less ∷ mark.Greater ∷ mark.Plus ∷ mark.Minus ∷ mark.Times ∷ mark.Divide ∷ mark.Remainder ∷ mark.Colon ∷ mark.Comma ∷ mark.Semicolon ∷ []
 
 -- the reserved word that is spelled so
-unfoldable pub word_of : List ℕ → Option Mark
-word_of text = find (λ w. bytes_eq (spelling w) text) words
+unfoldable pub keyword_of : List ℕ → Option Mark
+keyword_of text = find (λ w. bytes_eq (spelling w) text) keywords
 
--- the longest sign that a text begins with
+-- the first of the signs that a text begins with; no sign that it begins with is longer
 unfoldable pub sign_at : List ℕ → Option Mark
 sign_at text = find (λ m. starts_with nat_eq text (spelling m)) signs
 

@@ -109,8 +109,8 @@ fn name(spelled: &[u8]) -> Token
     if spelled.len() > LONGEST_NAME {
         return Token::Bad(BadToken::Name);
     }
-    match Mark::word(spelled) {
-        Some(word) => Token::Plain(word),
+    match Mark::keyword(spelled) {
+        Some(keyword) => Token::Plain(keyword),
         None => {
             let mut bytes = [0; LONGEST_NAME];
             bytes[..spelled.len()].copy_from_slice(spelled);

@@ -2,7 +2,7 @@
 
 ghost use Rattle.std.specs.Prelude.{◌≡◌, ◌≤◌, length};
 ghost use Rattle.std.specs.List.{prefix_len};
-ghost use Rattle.nest_tokens.specs.Tokens.{spelling, is_mark, word_of, sign_at};
+ghost use Rattle.nest_tokens.specs.Tokens.{spelling, is_mark, keyword_of, sign_at};
 ghost use Rattle.nest_tokens.specs.Spellings.{is_written, name_text};
 
 /// The most bytes of a name.
@@ -105,7 +105,7 @@ const SIGNS: [Mark; 21] = [
 ];
 
 /// The reserved words.
-const WORDS: [Mark; 13] = [
+const KEYWORDS: [Mark; 13] = [
     Mark::Nest,
     Mark::Scalar,
     Mark::Memory,
@@ -192,11 +192,14 @@ impl Mark {
     }
 
     /// The reserved word that is spelled so.
-    #[tactic(auto, unfolding(crate::specs::Tokens::word_of))]
-    pub fn word(text: &[u8]) -> Option<Mark>
-        ensures { result ≡ word_of text.now }
+    #[tactic(auto, unfolding(crate::specs::Tokens::keyword_of))]
+    pub fn keyword(text: &[u8]) -> Option<Mark>
+        ensures { result ≡ keyword_of text.now }
     {
-        WORDS.iter().copied().find(|word| word.spelling() == text)
+        KEYWORDS
+            .iter()
+            .copied()
+            .find(|keyword| keyword.spelling() == text)
     }
 
     /// The longest sign that this text begins with.

@@ -1,14 +1,14 @@
-// The line of a refused text.
+//! The line of a refused text.
 ghost use Rattle.std.specs.Prelude.{◌≡◌, IfOk};
 ghost use Rattle.report.specs.Faults.{kind_word, refusal_line};
 
-use crate::NoMemory;
 use nest_grammar::{TextFault, TextKind};
-use std::alloc::Global;
+use std::alloc::{AllocError, Global};
 
 /// The line `refused AT KIND` of a text with this first fault (docs/LANGUAGE.md, Refusals): the offset in
-/// bytes of the token that is wrong, and the word of what is wrong with it.
-pub fn refusal_text(alloc: Global, fault: &TextFault) -> Result<Vec<u8>, NoMemory>
+/// bytes of the token that is wrong, and the word of what is wrong with it. It is
+/// refused only where there is no memory for it.
+pub fn refusal_text(alloc: Global, fault: &TextFault) -> Result<Vec<u8>, AllocError>
     ensures { IfOk result (λ bytes. bytes.items ≡ refusal_line fault.now) }
 {
     let mut text = String::new(alloc);

@@ -1,7 +1,7 @@
 //! The texts that a run writes: how it ended, and what it left.
 //!
-//! The layer stands on `nest_lang`, whose state, store and ending it writes down, and on `nest_grammar`,
-//! whose faults of texts it names in one line (`refusal_text`). Its outcome
+//! The layer stands on `nest_lang`, whose state, store and ending it writes down, on `nest_text`, whose file
+//! names the scalars, and on `nest_grammar`, whose faults of texts it names in one line (`refusal_text`). Its outcome
 //! part has a line for how the run ended, one for each scalar, one for each longest run of equal
 //! words that aren't 0, and one for the steps. What the longest runs are is said without a loop
 //! (`specs/LongestRuns.antt`), and `laws` has that each memory has exactly one list of them, so that
@@ -11,12 +11,10 @@
 mod faults;
 pub mod laws;
 mod outcome;
-mod refusals;
 mod runs;
 
 pub use faults::refusal_text;
 pub use outcome::outcome_text;
-pub use refusals::NoMemory;
 pub use runs::WordRun;
 
 #[cfg(test)]

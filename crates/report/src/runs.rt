@@ -1,4 +1,4 @@
-// Runs of equal words.
+//! Runs of equal words.
 ghost use Rattle.std.specs.Prelude.{◌≡◌, ℕ, ℤ, List, ◌++◌, OnOk, flat_map, string_bytes};
 ghost use Rattle.report.specs.LongestRuns.{LongestRuns};
 ghost use Rattle.report.specs.Outcomes.{words_line};

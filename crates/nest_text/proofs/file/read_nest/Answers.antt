@@ -2,7 +2,6 @@ use Rattle.std.proofs.Common.{rules, ◌≡◌, ℕ, List, Result, Ok, Err}
 use Rattle.nest_grammar.specs.declared.file.File.{File}
 use Rattle.nest_grammar.specs.Contents.{reading}
 use Rattle.grammar_laws.proofs.Contents.{reading-reads, reads-reading}
-use Rattle.grammar_laws.proofs.Rules.{reading-keeps}
 use Rattle.nest_text.specs.declared.refusal.ReadRefusal.{ReadRefusal}
 use Rattle.nest_text.specs.declared.refusal.ReadRefusal.TheVariants.{Text, NoMemory}
 use Rattle.nest_text.specs.Answers.{Answers}
@@ -23,7 +22,7 @@ returns-in_err-file-clause-grammar c =
 pub invariant_of-result : goal.invariant_of-result
 invariant_of-result c =
     let h : reading c.args.text.now ≡ Ok c.in_ok-file.file = search rules in
-    reading-keeps c.args.text.now c.in_ok-file.file h
+    (c.args.text.now, h)
 
 pub returns-clause-grammar : goal.returns-clause-grammar
 returns-clause-grammar c =

@@ -1,6 +1,6 @@
 use Rattle.std.proofs.Common.{rules, arith, Err}
 use Rattle.nest_grammar.specs.declared.file.Item.{Item}
-use Rattle.nest_grammar.specs.declared.opening.ItemWord.TheVariants.{Ramp as RampWord}
+use Rattle.nest_grammar.specs.declared.opening.ItemKeyword.TheVariants.{Ramp as RampWord}
 use Rattle.nest_grammar.specs.Contents.{item_of}
 use Rattle.nest_text.specs.Answers.{Gives}
 use Rattle.nest_text.proofs.Steps.{ramp-copies, ramp-errs}

@@ -1,0 +1,47 @@
+//! What the words ask for.
+
+ghost use Rattle.command_line.specs.Invocations.{Finds};
+ghost use Rattle.command_line.specs.Modes.{word_of};
+ghost use Rattle.std.specs.Prelude.{◌≡◌};
+
+/// What the program is to do. A mode stands here once it is built.
+#[derive(Clone, Copy, Debug, PartialEq, Eq)]
+pub enum Mode {
+    /// Run the file plainly, and write the outcome.
+    Plain,
+    /// Write the canonical text of the file.
+    Check,
+}
+
+impl Mode {
+    /// The mode of a word, if one that is built has it.
+    pub(crate) fn of_word(word: &str) -> Option<Mode>
+        ensures { Finds result (λ mode. word.now ≡ word_of mode) }
+    {
+        match word {
+            "plain" => Some(Mode::Plain),
+            "check" => Some(Mode::Check),
+            _ => None,
+        }
+    }
+}
+
+/// The numbers of the four options (docs/LANGUAGE.md, The command line).
+#[derive(Clone, Copy, Debug, PartialEq, Eq)]
+pub struct Options {
+    /// The workers, 1 to 64.
+    pub workers: u32,
+    /// The turns of a chunk, 1 to 1,024.
+    pub chunk: i64,
+    /// The turns of a profile, 2 to 64.
+    pub sample: i64,
+    /// The steps of a run, at most 2^32.
+    pub steps: u64,
+}
+
+/// A mode and its options.
+#[derive(Clone, Copy, Debug, PartialEq, Eq)]
+pub struct Invocation {
+    pub mode: Mode,
+    pub options: Options,
+}
