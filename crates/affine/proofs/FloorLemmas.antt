@@ -4,7 +4,7 @@ use Rattle.std.proofs.Math.IntN.{pos-*ℤ-negsuc, *ℤ-one, neg_ℤ}
 use Rattle.std.proofs.Math.Nat.{div-add-mod, mod-lt, div-le_self, mul-div_cancel'}
 use Rattle.std.proofs.lemmas.Int.{ints, by_lt_z}
 use Rattle.std.specs.Int.{int_div_euclid, int_rem_euclid, ◌∣◌}
-use Rattle.affine.proofs.IntegerLemmas.{mul-add, mul-≤ℤ, mul-neg}
+use Rattle.plain_lemmas.proofs.IntegerLaws.{*ℤ-+ℤ, *ℤ-neg_ℤ, *ℤ-≤ℤ}
 
 below-divisor : (a n : ℕ) → a % suc n < suc n
 below-divisor a n = mod-lt a (omega arith)
@@ -30,8 +30,8 @@ le-quotient d v q r z p small e h = by_lt_z q v (λ more. absurd (too-far more))
   where
     too-far : q <ℤ v → ⊥
     too-far more =
-        let k : (d *ℤ (q +ℤ pos 1)) ≤ℤ (d *ℤ v) = mul-≤ℤ d (q +ℤ pos 1) v p (omega (arith, ints)) in
-        let j = mul-add d q (pos 1) in
+        let k : (d *ℤ (q +ℤ pos 1)) ≤ℤ (d *ℤ v) = *ℤ-≤ℤ d (q +ℤ pos 1) v p (omega (arith, ints)) in
+        let j = *ℤ-+ℤ d q (pos 1) in
         let i = *ℤ-one d in
         omega (arith, ints)
 
@@ -43,14 +43,14 @@ pub ≤ℤ-floor : (z v : ℤ) (n : ℕ) → ((pos (suc n) *ℤ v) ≤ℤ z) ↔
     let rest = floor-rest z n in
     let split = floor-split z n in (
       λ h. le-quotient d v q (int_rem_euclid z d) z (omega (arith, ints)) rest.1 split h,
-      λ h. let k = mul-≤ℤ d v q (omega (arith, ints)) h in omega (arith, ints),
+      λ h. let k = *ℤ-≤ℤ d v q (omega (arith, ints)) h in omega (arith, ints),
     )
 
 -- a sum of a multiple of the divisor and z is at least 0 exactly where the sum of the quotients is
 pub non_negative-floor : (s z : ℤ) (n : ℕ) → (pos 0 ≤ℤ (pos (suc n) *ℤ s +ℤ z)) ↔ (pos 0 ≤ℤ (s +ℤ int_div_euclid z (pos (suc n))))
 non_negative-floor s z n =
     let both = ≤ℤ-floor z (neg_ℤ s) n in
-    let turned = mul-neg (pos (suc n)) s in (
+    let turned = *ℤ-neg_ℤ (pos (suc n)) s in (
       λ h. let k = both.0 (omega (arith, ints)) in omega (arith, ints),
       λ h. let k = both.1 (omega (arith, ints)) in omega (arith, ints),
     )
@@ -77,7 +77,7 @@ mul-floor z n h = let m = multiple-of z h in rw (m.1, floor-mul m.0 n) refl
     multiple-of (negsuc a) k =
         let q = suc a / suc n in
         let e = mul-div_cancel' (suc n) k in
-        let turned : pos (suc n) *ℤ neg_ℤ (pos q) ≡ neg_ℤ (pos (suc n * q)) = mul-neg (pos (suc n)) (pos q) in
+        let turned : pos (suc n) *ℤ neg_ℤ (pos q) ≡ neg_ℤ (pos (suc n * q)) = *ℤ-neg_ℤ (pos (suc n)) (pos q) in
         (neg_ℤ (pos q), omega (arith, ints))
 
 -- a quotient is no greater in size than the number

@@ -4,22 +4,22 @@ use Rattle.std.specs.List.{AllByRecursion, swap}
 use Rattle.std.proofs.Math.IntN.{*ℤ_comm}
 use Rattle.std.proofs.Math.ListN.{set, get_or-map}
 use Rattle.std.proofs.lemmas.Bool.{cases_eq}
-use Rattle.std.proofs.lemmas.List.{ext_get_or, get_or-replicate, get_or-set_other, length-map}
+use Rattle.std.proofs.lemmas.List.{ext_get_or, get_or-replicate, get_or-set_other, length-map, length-replicate, map-set}
 use Rattle.std.proofs.lemmas.List.FromFn.{length-map-range_with_len}
 use Rattle.std.proofs.lemmas.List.Edits.{length-swap}
+use Rattle.plain_lemmas.proofs.IntegerLaws.{one-*ℤ}
 use Rattle.affine.specs.Inverses.{IsSquare, across}
 use Rattle.affine.specs.Laws.{IdentityIsInverse, SwapKeepsInverse, SkewKeepsInverse, InvertedIsOneToOneAndOnto}
 use Rattle.affine.specs.Matrices.{identity, product, skew, unit_row}
 use Rattle.affine.specs.Sums.{dot, weighted}
-use Rattle.affine.proofs.IntegerLemmas.{one-*ℤ}
-use Rattle.affine.proofs.MoveLaws.{all-at, back_again, forth_again, gained, gained_lost, length-gained, length-product, length-replicate, length-unit, map-set, map-swap, product-at, product-skew, row-at, square-identity, square-skew, square-swap, swap_twice}
+use Rattle.affine.proofs.MoveLaws.{all-at, back_again, forth_again, gained, gained_lost, length-gained, length-product, length-unit, map-swap, product-at, product-skew, row-at, square-identity, square-skew, square-swap, swap_twice}
 use Rattle.affine.proofs.MovedSumLaws.{dot-gained, dot-swap}
 use Rattle.affine.proofs.OneToOneLemmas.{product-identity}
 use Rattle.affine.proofs.SumLemmas.{get_or-weighted, length-weighted}
 
 pub length-across : (n : ℕ) (columns : List (List ℤ)) (ys : List ℤ) → AllByRecursion (λ column. length column ≡ n) columns → length (across n columns ys) ≡ n
-length-across n [] ys long = length-replicate n
-length-across n (column ∷ columns) [] long = length-replicate n
+length-across n [] ys long = length-replicate n (pos 0)
+length-across n (column ∷ columns) [] long = length-replicate n (pos 0)
 length-across n (column ∷ columns) (y ∷ ys) long = length-weighted y column (pos 1) (across n columns ys) (long.0 ∙ sym (length-across n columns ys long.1)) ∙ long.0
 
 -- ---- coordinates

@@ -1,6 +1,5 @@
 pub mod DivisorLemmas
 pub mod FloorLemmas
-pub mod IntegerLemmas
 pub mod InverseLaws
 pub mod MatrixLemmas
 pub mod MoveLaws

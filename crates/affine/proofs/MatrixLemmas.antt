@@ -6,10 +6,10 @@ use Rattle.std.proofs.lemmas.Int.{fits_signed_from_abs}
 use Rattle.std.proofs.lemmas.List.{take_more, take_more_set, take_all, map-append}
 use Rattle.std.proofs.lemmas.List.FromFn.{map-range_with_len_more}
 use Rattle.std.proofs.lemmas.List.Elements.{All-map, All-set, All-replicate}
+use Rattle.plain_lemmas.proofs.IntegerLaws.{one-*ℤ}
 use Rattle.affine.specs.Forms.{AllWithinSize}
 use Rattle.affine.specs.Matrices.{identity, unit_row, HasSmallEntries}
 use Rattle.affine.specs.Sums.{weighted}
-use Rattle.affine.proofs.IntegerLemmas.{one-*ℤ}
 use Rattle.affine.proofs.SumLemmas.{get_or-weighted, length-weighted}
 
 -- ---- loops that write row by row, or entry by entry

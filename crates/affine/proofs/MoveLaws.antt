@@ -5,13 +5,13 @@ use Rattle.std.proofs.Math.IntN.{*ℤ_comm}
 use Rattle.std.proofs.Math.ListN.{set, length-set, get_or-map}
 use Rattle.std.proofs.lemmas.Bool.{cases_eq}
 use Rattle.std.proofs.lemmas.Int.{ints}
-use Rattle.std.proofs.lemmas.List.{ext_get_or, get_or-set_same, get_or-set_other, length-map}
+use Rattle.std.proofs.lemmas.List.{ext_get_or, get_or-set_same, get_or-set_other, length-map, length-replicate, map-set}
 use Rattle.std.proofs.lemmas.List.FromFn.{get_or-map-range_with_len, length-map-range_with_len}
 use Rattle.std.proofs.lemmas.List.Edits.{length-swap, swap_is, swapped_from_swap}
+use Rattle.plain_lemmas.proofs.IntegerLaws.{*ℤ-neg_ℤ, one-*ℤ}
 use Rattle.affine.specs.Inverses.{IsSquare}
 use Rattle.affine.specs.Matrices.{identity, product, skew, unit_row}
 use Rattle.affine.specs.Sums.{dot, weighted}
-use Rattle.affine.proofs.IntegerLemmas.{mul-neg, one-*ℤ}
 use Rattle.affine.proofs.SumLemmas.{dot-weighted, length-weighted}
 
 -- ---- products, row by row
@@ -32,11 +32,6 @@ gained z a b m = set z a (pos 1 *ℤ get_or z a (pos 0) +ℤ m *ℤ get_or z b (
 pub length-gained : (z : List ℤ) (a b : ℕ) (m : ℤ) → length (gained z a b m) ≡ length z
 unfolding gained
 length-gained z a b m = length-set z a _
-
-pub map-set : {X Y : Type 0} (f : X → Y) (xs : List X) (a : ℕ) (x : X) → map f (set xs a x) ≡ set (map f xs) a (f x)
-map-set f [] a x = refl
-map-set f (y ∷ xs) zero x = refl
-map-set f (y ∷ xs) (suc a) x = ap (λ l. f y ∷ l) (map-set f xs a x)
 
 pub all-at : (P : List ℤ → Type 0) (xs : List (List ℤ)) (i : ℕ) → i < length xs → AllByRecursion P xs → P (get_or xs i [])
 all-at P [] i inside all = absurd (omega arith)
@@ -74,14 +69,14 @@ pub back_again : (m x y : ℤ) → pos 1 *ℤ (pos 1 *ℤ x +ℤ m *ℤ y) +ℤ 
 back_again m x y =
     let one = one-*ℤ x in
     let two = one-*ℤ (pos 1 *ℤ x +ℤ m *ℤ y) in
-    let turned : neg_ℤ m *ℤ y ≡ neg_ℤ (m *ℤ y) = *ℤ_comm (neg_ℤ m) y ∙ mul-neg y m ∙ ap neg_ℤ (*ℤ_comm y m) in
+    let turned : neg_ℤ m *ℤ y ≡ neg_ℤ (m *ℤ y) = *ℤ_comm (neg_ℤ m) y ∙ *ℤ-neg_ℤ y m ∙ ap neg_ℤ (*ℤ_comm y m) in
     omega (arith, ints, one, two, turned)
 
 pub forth_again : (m x y : ℤ) → pos 1 *ℤ (pos 1 *ℤ x +ℤ neg_ℤ m *ℤ y) +ℤ m *ℤ y ≡ x
 forth_again m x y =
     let one = one-*ℤ x in
     let two = one-*ℤ (pos 1 *ℤ x +ℤ neg_ℤ m *ℤ y) in
-    let turned : neg_ℤ m *ℤ y ≡ neg_ℤ (m *ℤ y) = *ℤ_comm (neg_ℤ m) y ∙ mul-neg y m ∙ ap neg_ℤ (*ℤ_comm y m) in
+    let turned : neg_ℤ m *ℤ y ≡ neg_ℤ (m *ℤ y) = *ℤ_comm (neg_ℤ m) y ∙ *ℤ-neg_ℤ y m ∙ ap neg_ℤ (*ℤ_comm y m) in
     omega (arith, ints, one, two, turned)
 
 pub set-set : (z : List ℤ) (a : ℕ) (v w : ℤ) → set (set z a v) a w ≡ set z a w
@@ -141,15 +136,11 @@ swap_twice z a b in-a in-b =
 
 -- ---- the unit matrix
 
-pub length-replicate : (n : ℕ) → length (replicate n (pos 0)) ≡ n
-length-replicate zero = refl
-length-replicate (suc n) = ap suc (length-replicate n)
-
 pub row-at : (n i : ℕ) → i < n → get_or (identity n) i [] ≡ unit_row n i
 row-at n i h = get_or-map-range_with_len (unit_row n) 0 n i i [] h (omega arith)
 
 pub length-unit : (n i : ℕ) → length (unit_row n i) ≡ n
-length-unit n i = length-set (replicate n (pos 0)) i (pos 1) ∙ length-replicate n
+length-unit n i = length-set (replicate n (pos 0)) i (pos 1) ∙ length-replicate n (pos 0)
 
 pub square-identity : (n : ℕ) → IsSquare n (identity n)
 square-identity n = record { many = length-map-range_with_len (unit_row n) 0 n; long = units (range_with_len 0 n) }

@@ -7,8 +7,8 @@ use Rattle.std.proofs.lemmas.Bool.{cases_eq}
 use Rattle.std.proofs.lemmas.Int.{ints}
 use Rattle.std.proofs.lemmas.List.{get_or-set_same, get_or-set_other}
 use Rattle.std.proofs.lemmas.List.Edits.{swap_is}
+use Rattle.plain_lemmas.proofs.IntegerLaws.{*ℤ_assoc, +ℤ-*ℤ, -ℤ-*ℤ, one-*ℤ}
 use Rattle.affine.specs.Sums.{dot}
-use Rattle.affine.proofs.IntegerLemmas.{add-mul, mul_assoc, one-*ℤ}
 use Rattle.affine.proofs.MoveLaws.{gained}
 use Rattle.affine.proofs.SumLemmas.{dot_comm}
 
@@ -17,7 +17,7 @@ use Rattle.affine.proofs.SumLemmas.{dot_comm}
 change : (x y v d : ℤ) → v *ℤ y +ℤ d ≡ (x *ℤ y +ℤ d) +ℤ (v -ℤ x) *ℤ y
 change x y v d =
     let whole : x +ℤ (v -ℤ x) ≡ v = omega (arith, ints) in
-    let parts : v *ℤ y ≡ x *ℤ y +ℤ (v -ℤ x) *ℤ y = ap (λ (z : ℤ). z *ℤ y) (sym whole) ∙ add-mul x (v -ℤ x) y in
+    let parts : v *ℤ y ≡ x *ℤ y +ℤ (v -ℤ x) *ℤ y = ap (λ (z : ℤ). z *ℤ y) (sym whole) ∙ +ℤ-*ℤ x (v -ℤ x) y in
     omega (arith, ints, parts)
 
 pub dot-set : (xs ys : List ℤ) (a : ℕ) (v : ℤ) → a < length xs → a < length ys → dot (set xs a v) ys ≡ dot xs ys +ℤ (v -ℤ get_or xs a (pos 0)) *ℤ get_or ys a (pos 0)
@@ -31,7 +31,7 @@ dot-set (x ∷ xs) (y ∷ ys) (suc a) v inside also =
 -- ---- the gain of one side is the gain of the other
 
 swap_sides : (m u v w : ℤ) → m *ℤ u *ℤ v ≡ m *ℤ v *ℤ u
-swap_sides m u v w = mul_assoc m u v ∙ ap (λ (z : ℤ). m *ℤ z) (*ℤ_comm u v) ∙ sym (mul_assoc m v u)
+swap_sides m u v w = *ℤ_assoc m u v ∙ ap (λ (z : ℤ). m *ℤ z) (*ℤ_comm u v) ∙ sym (*ℤ_assoc m v u)
 
 gain : (m x y : ℤ) → (pos 1 *ℤ x +ℤ m *ℤ y) -ℤ x ≡ m *ℤ y
 gain m x y = let one = one-*ℤ x in omega (arith, ints, one)
@@ -49,18 +49,12 @@ dot-gained z y a b m in-a in-b long =
 
 -- ---- an exchange on one side is the exchange on the other
 
-pub sub-mul : (p q r : ℤ) → (p -ℤ q) *ℤ r ≡ p *ℤ r -ℤ q *ℤ r
-sub-mul p q r =
-    let whole : q +ℤ (p -ℤ q) ≡ p = omega (arith, ints) in
-    let parts : p *ℤ r ≡ q *ℤ r +ℤ (p -ℤ q) *ℤ r = ap (λ (z : ℤ). z *ℤ r) (sym whole) ∙ add-mul q (p -ℤ q) r in
-    omega (arith, ints, parts)
-
 crossed : (d za zb ya yb : ℤ) → (d +ℤ (zb -ℤ za) *ℤ ya) +ℤ (za -ℤ zb) *ℤ yb ≡ (d +ℤ (yb -ℤ ya) *ℤ za) +ℤ (ya -ℤ yb) *ℤ zb
 crossed d za zb ya yb =
-    let p = sub-mul zb za ya in
-    let q = sub-mul za zb yb in
-    let r = sub-mul yb ya za in
-    let s = sub-mul ya yb zb in
+    let p = -ℤ-*ℤ zb za ya in
+    let q = -ℤ-*ℤ za zb yb in
+    let r = -ℤ-*ℤ yb ya za in
+    let s = -ℤ-*ℤ ya yb zb in
     let t = *ℤ_comm zb ya in
     let u = *ℤ_comm za ya in
     let v = *ℤ_comm za yb in

@@ -8,10 +8,10 @@ use Rattle.std.proofs.lemmas.Int.{ints}
 use Rattle.std.proofs.lemmas.List.{length-map, ext_get_or, get_or-set_same, get_or-set_other}
 use Rattle.std.proofs.lemmas.List.Edits.{Swapped, swapped_from_swap}
 use Rattle.std.proofs.lemmas.List.FromFn.{length-map-range_with_len, get_or-map-range_with_len}
+use Rattle.plain_lemmas.proofs.IntegerLaws.{one-*ℤ}
 use Rattle.affine.specs.Matrices.{identity, unit_row, product, skew, IsOneToOne}
 use Rattle.affine.specs.Sums.{dot, weighted}
 use Rattle.affine.proofs.SumLemmas.{dot-weighted, dot-weighted_point}
-use Rattle.affine.proofs.IntegerLemmas.{one-*ℤ}
 
 -- ---- linear
 

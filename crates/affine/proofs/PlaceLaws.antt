@@ -4,12 +4,12 @@ use Rattle.std.specs.Int.{int_div_euclid}
 use Rattle.std.specs.List.{AllByRecursion}
 use Rattle.std.proofs.Math.IntN.{*ℤ_comm}
 use Rattle.std.proofs.lemmas.Int.{by_lt_z, ints}
+use Rattle.plain_lemmas.proofs.IntegerLaws.{one-*ℤ}
 use Rattle.affine.specs.Inverses.{across}
 use Rattle.affine.specs.Laws.{FormOverPlaces, RowOverPlaces, QuotientIsInterval}
 use Rattle.affine.specs.Matrices.{product}
 use Rattle.affine.specs.Sums.{dot}
 use Rattle.affine.proofs.FloorLemmas.{≤ℤ-floor_by}
-use Rattle.affine.proofs.IntegerLemmas.{one-*ℤ}
 use Rattle.affine.proofs.InverseLaws.{length-across}
 use Rattle.affine.proofs.MoveLaws.{length-product}
 use Rattle.affine.proofs.SumLemmas.{dot-weighted_point, dot_comm}

@@ -4,8 +4,11 @@ use Rattle.std.proofs.Math.IntN.{+ℤ_idr, +ℤ_idl, zero-*ℤ, *ℤ-zero, *ℤ_
 use Rattle.std.proofs.lemmas.Int.{ints, unsigned_abs-mul}
 use Rattle.std.proofs.lemmas.List.Elements.{All-head, All-tail}
 use Rattle.std.specs.List.{All}
+use Rattle.plain_lemmas.proofs.IntegerLaws.{*ℤ-+ℤ, *ℤ_assoc, +ℤ-*ℤ, unsigned_abs-add}
 use Rattle.affine.specs.Sums.{dot, weighted}
-use Rattle.affine.proofs.IntegerLemmas.{mul-add, mul_assoc, weighted-dot-step}
+
+weighted-dot-step : (q x p y z a b : ℤ) → (q *ℤ x +ℤ p *ℤ y) *ℤ z +ℤ (q *ℤ a +ℤ p *ℤ b) ≡ q *ℤ (x *ℤ z +ℤ a) +ℤ p *ℤ (y *ℤ z +ℤ b)
+weighted-dot-step q x p y z a b = rw (+ℤ-*ℤ (q *ℤ x) (p *ℤ y) z, *ℤ-+ℤ q (x *ℤ z) a, *ℤ-+ℤ p (y *ℤ z) b, *ℤ_assoc q x z, *ℤ_assoc p y z) (omega (arith, ints))
 
 pub dot-nil : (xs : List ℤ) → dot xs [] ≡ pos 0
 dot-nil [] = refl
@@ -26,7 +29,7 @@ dot-weighted q (x ∷ xs) p (y ∷ ys) (z ∷ zs) h =
 pub dot-map_mul : (q : ℤ) (xs point : List ℤ) → dot (map (λ x. q *ℤ x) xs) point ≡ q *ℤ dot xs point
 dot-map_mul q [] point = sym (*ℤ-zero q)
 dot-map_mul q (x ∷ xs) [] = sym (*ℤ-zero q)
-dot-map_mul q (x ∷ xs) (z ∷ zs) = rw (mul-add q (x *ℤ z) (dot xs zs), mul_assoc q x z, dot-map_mul q xs zs) refl
+dot-map_mul q (x ∷ xs) (z ∷ zs) = rw (*ℤ-+ℤ q (x *ℤ z) (dot xs zs), *ℤ_assoc q x z, dot-map_mul q xs zs) refl
 
 -- one more number of the point
 pub dot-push : (xs point : List ℤ) (v : ℤ) → dot xs (point ++ v ∷ []) ≡ dot xs point +ℤ get_or xs (length point) (pos 0) *ℤ v
@@ -58,12 +61,9 @@ dot_more (x ∷ xs) (y ∷ ys) (suc i) h k = omega (arith, ints, dot_more xs ys 
 pub dot_more_is : (xs ys : List ℤ) (i : ℕ) (sum r : ℤ) → i < length xs → i < length ys → sum ≡ dot (take i xs) (take i ys) → r ≡ sum +ℤ get_or xs i (pos 0) *ℤ get_or ys i (pos 0) → r ≡ dot (take (i + 1) xs) (take (i + 1) ys)
 dot_more_is xs ys i sum r h k e f = rw (f, e, add-one) (sym (dot_more xs ys i h k))
 
-pub abs-add : (a b : ℤ) → unsigned_abs (a +ℤ b) ≤ unsigned_abs a + unsigned_abs b
-abs-add a b = grind (arith, ints)
-
 -- the size of a sum with one more product
 dot-step-size : (sum x y : ℤ) (n most range : ℕ) → unsigned_abs sum ≤ n * (most * range) → unsigned_abs x ≤ most → unsigned_abs y ≤ range → unsigned_abs (sum +ℤ x *ℤ y) ≤ (n + 1) * (most * range)
-dot-step-size sum x y n most range h i j = grind (arith, abs-add, unsigned_abs-mul)
+dot-step-size sum x y n most range h i j = grind (arith, unsigned_abs-add, unsigned_abs-mul)
 
 pub dot_more-size : (xs ys : List ℤ) (i most range : ℕ) (sum : ℤ) → i < length xs → All (λ x. unsigned_abs x ≤ most) xs → unsigned_abs (get_or ys i (pos 0)) ≤ range → unsigned_abs sum ≤ i * (most * range) → unsigned_abs (sum +ℤ get_or xs i (pos 0) *ℤ get_or ys i (pos 0)) ≤ (i + 1) * (most * range)
 dot_more-size xs ys i most range sum h all y small = dot-step-size sum (get_or xs i (pos 0)) (get_or ys i (pos 0)) i most range small (all i (pos 0) h) y

@@ -3,8 +3,8 @@ use Rattle.std.proofs.Common.{◌≡◌, zero, suc, ℤ, pos, negsuc, neg_ℤ, �
 use Rattle.std.specs.Prelude.{◌↔◌}
 use Rattle.std.specs.Int.{int_div_euclid}
 use Rattle.std.proofs.lemmas.Int.{ints}
+use Rattle.plain_lemmas.proofs.IntegerLaws.{*ℤ-neg_ℤ}
 use Rattle.affine.proofs.FloorLemmas.{non_negative-floor}
-use Rattle.affine.proofs.IntegerLemmas.{mul-neg}
 use Rattle.fourier_motzkin.specs.Ranges.{Lies}
 
 mul_comm : (a b : ℤ) → a *ℤ b ≡ b *ℤ a
@@ -25,8 +25,8 @@ pub bounded_above : (c rest x : ℤ) → c <ℤ pos 0 → (pos 0 ≤ℤ (rest +�
 bounded_above (pos n) rest x some = absurd (omega (arith, ints))
 bounded_above (negsuc n) rest x some =
     let both = non_negative-floor (neg_ℤ x) rest n in
-    let turned = mul-neg (pos (suc n)) x in
-    let minus : negsuc n *ℤ x ≡ neg_ℤ (pos (suc n) *ℤ x) = mul_comm (negsuc n) x ∙ mul-neg x (pos (suc n)) ∙ ap neg_ℤ (mul_comm x (pos (suc n))) in (
+    let turned = *ℤ-neg_ℤ (pos (suc n)) x in
+    let minus : negsuc n *ℤ x ≡ neg_ℤ (pos (suc n) *ℤ x) = mul_comm (negsuc n) x ∙ *ℤ-neg_ℤ x (pos (suc n)) ∙ ap neg_ℤ (mul_comm x (pos (suc n))) in (
       λ h. let k = both.0 (omega (arith, ints)) in omega (arith, ints, k),
       λ h. let k = both.1 (omega (arith, ints)) in omega (arith, ints, k),
     )

@@ -7,10 +7,10 @@ use Rattle.std.proofs.lemmas.Int.{ints}
 use Rattle.std.proofs.lemmas.List.{get_or_append_left, get_or_past, take_more}
 use Rattle.std.proofs.lemmas.List.Elements.{All-nil}
 use Rattle.std.proofs.Math.Seq.{get_or-append_seam}
+use Rattle.plain_lemmas.proofs.IntegerLaws.{*ℤ-neg_ℤ}
 use Rattle.affine.specs.declared.row.Row.{Row}
 use Rattle.affine.specs.Sums.{dot, weighted}
 use Rattle.affine.specs.Rows.{Meets, coefficient, variables}
-use Rattle.affine.proofs.IntegerLemmas.{mul-neg}
 use Rattle.affine.proofs.NormalLemmas.{coefficient-normal_zero}
 use Rattle.fourier_motzkin.specs.RowSets.{tidied}
 use Rattle.fourier_motzkin.specs.Elimination.{AllOver, MeetsSaid, eliminated, judged, projected}
@@ -18,7 +18,7 @@ use Rattle.fourier_motzkin.specs.declared.elimination.Eliminated.{Eliminated}
 use Rattle.fourier_motzkin.specs.declared.elimination.Eliminated.TheVariants as set
 use Rattle.fourier_motzkin.specs.Laws.{LevelsReach, PointsLieInRanges}
 use Rattle.fourier_motzkin.specs.Verdicts.{bounds_of, levels, next, standing}
-use Rattle.fourier_motzkin.proofs.Members.{All_from, All_has}
+use Rattle.plain_lemmas.proofs.MembershipLaws.{All_from, All_has}
 use Rattle.fourier_motzkin.proofs.Points.{OverSaid, judged_cases, judged_met, judged_over, next_met, next_over, projected_from, tidied_met, tidied_over, told_from}
 use Rattle.fourier_motzkin.proofs.Runs.{length-levels}
 use Rattle.fourier_motzkin.proofs.Sets.{least_tidied}
@@ -43,7 +43,7 @@ both_zero q x p y e f = rw (e, f) (omega (arith, ints))
 cancels : (a b : ℤ) → neg_ℤ b *ℤ a +ℤ a *ℤ b ≡ pos 0
 cancels a b =
     let turned = mul_comm (neg_ℤ b) a in
-    let minus = mul-neg a b in
+    let minus = *ℤ-neg_ℤ a b in
     omega (arith, ints, turned, minus)
 
 tidied_zero : (j : ℕ) (rows : List Row) → IsZeroAt j rows → IsZeroAt j (tidied rows)

@@ -1,6 +1,5 @@
 pub mod Combinations
 pub mod Entries
-pub mod Members
 pub mod Sets
 pub mod Sizes
 pub mod Steps
@@ -10,3 +9,4 @@ pub mod Runs
 pub mod Ends
 pub mod Ranges
 pub mod Levels
+pub mod MaybeLaws

@@ -9,7 +9,7 @@ use Rattle.fourier_motzkin.specs.RowSets.{IsKept, IsTidied, is_constant, says_no
 use Rattle.fourier_motzkin.specs.Elimination.{bounds_above, bounds_below, crossed, eliminated, is_without, judged, projected}
 use Rattle.fourier_motzkin.specs.Verdicts.{Bounds, bounds_of, levels, ruling, verdict_of}
 use Rattle.fourier_motzkin.specs.Laws.{OrderIsNoMatter, SameRows, TidiedIsKept}
-use Rattle.fourier_motzkin.proofs.Members.{Has, any_from_has, has_from_any, contains_from_has, has_from_contains, has_filter, filter_has, has_map, has_left, has_right, has_flat_map}
+use Rattle.plain_lemmas.proofs.MembershipLaws.{Has, any_from_has, has_from_any, contains_from_has, has_from_contains, has_filter, filter_has, has_map, has_left, has_right, has_flat_map}
 use Rattle.fourier_motzkin.proofs.Sets.{LeastIn, has_tidied, least_tidied, least_unique, rising_unique, same_coefficients, tidied_has, tidied_rises, tied_coefficients}
 use Rattle.fourier_motzkin.proofs.Points.{both_first, both_second, has_told, projected_from, told_from}
 

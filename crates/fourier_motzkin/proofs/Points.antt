@@ -16,7 +16,7 @@ use Rattle.fourier_motzkin.specs.declared.elimination.Eliminated.{Eliminated}
 use Rattle.fourier_motzkin.specs.declared.elimination.Eliminated.TheVariants as set
 use Rattle.fourier_motzkin.specs.Verdicts.{next, ruled, ruling, verdict_of}
 use Rattle.fourier_motzkin.specs.declared.verdicts.Ruling.TheVariants.{Empty}
-use Rattle.fourier_motzkin.proofs.Members.{Has, All_from, All_has, has_filter, filter_has, has_map, map_has, has_cases, flat_map_has, list_any_has}
+use Rattle.plain_lemmas.proofs.MembershipLaws.{Has, All_from, All_has, has_filter, filter_has, has_map, map_has, has_cases, flat_map_has, list_any_has}
 use Rattle.fourier_motzkin.proofs.Sets.{least_tidied, tied_coefficients}
 
 pub both_first : (a b : Bool) → (a && b) ≡ true → a ≡ true

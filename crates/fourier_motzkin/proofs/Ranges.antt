@@ -9,7 +9,7 @@ use Rattle.affine.specs.Rows.{Meets, coefficient, sum_at}
 use Rattle.affine.proofs.RowLemmas.{sum_at-push}
 use Rattle.fourier_motzkin.specs.Elimination.{bounds_above, bounds_below}
 use Rattle.fourier_motzkin.specs.Ranges.{Allowed, IsOpen, IsRange, Lies}
-use Rattle.fourier_motzkin.proofs.Members.{All_from, All_has, has_cases, has_left, has_right, list_any_has, list_any_none}
+use Rattle.plain_lemmas.proofs.MembershipLaws.{All_from, All_has, has_cases, has_left, has_right, list_any_has, list_any_none}
 
 -- a row at the point with one value more
 

@@ -12,7 +12,7 @@ use Rattle.fourier_motzkin.specs.declared.elimination.Eliminated.{Eliminated}
 use Rattle.fourier_motzkin.specs.declared.elimination.Eliminated.TheVariants as set
 use Rattle.fourier_motzkin.specs.Verdicts.{AreLevels, Bounds, bounds_of, levels, next, ruled, ruling, standing, verdict_of}
 use Rattle.fourier_motzkin.specs.declared.verdicts.Ruling.{Ruling}
-use Rattle.fourier_motzkin.proofs.Members.{All_from, list_any_none}
+use Rattle.plain_lemmas.proofs.MembershipLaws.{All_from, list_any_none}
 use Rattle.fourier_motzkin.proofs.Points.{judged_cases, projected_over, tidied_over}
 
 -- rows with no wide number

@@ -9,7 +9,7 @@ use Rattle.std.proofs.lemmas.Int.{ints}
 use Rattle.affine.specs.declared.row.Row.{Row}
 use Rattle.affine.specs.Rows.{normal}
 use Rattle.fourier_motzkin.specs.RowSets.{compare, says_nothing, is_least_of, placed, rising, told, tidied, Rises, kept, with_row, with_rows}
-use Rattle.fourier_motzkin.proofs.Members.{Has, all_has, all_from, has_left, has_right, has_cases, has_filter, filter_has, list_all_has, list_all_from}
+use Rattle.plain_lemmas.proofs.MembershipLaws.{Has, all_has, all_from, has_left, has_right, has_cases, has_filter, filter_has, list_all_has, list_all_from}
 
 -- the order of rows by their coefficients
 

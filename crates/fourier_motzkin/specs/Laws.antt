@@ -1,13 +1,13 @@
 -- The laws of elimination, each in one statement.
-use Rattle.std.specs.Prelude.{◌≡◌, ◌<◌, ℕ, ℤ, pos, List, [], ◌↔◌, length, slice_index_or, take}
+use Rattle.std.specs.Prelude.{◌≡◌, ◌<◌, ℕ, ℤ, pos, ◌<ℤ◌, List, [], ◌↔◌, length, slice_index_or, take}
 use Rattle.std.specs.List.{All, Contains}
 use Rattle.affine.specs.declared.row.Row.{Row}
 use Rattle.affine.specs.Rows.{Meets, coefficient}
 use Rattle.fourier_motzkin.specs.RowSets.{IsTidied, tidied}
 use Rattle.fourier_motzkin.specs.Elimination.{AllOver, MeetsSaid, eliminated}
-use Rattle.fourier_motzkin.specs.Ranges.{Allowed}
+use Rattle.fourier_motzkin.specs.Ranges.{Allowed, IsAlone, IsOpen}
 use Rattle.fourier_motzkin.specs.Verdicts.{verdict_of, bounds_of}
-use Rattle.fourier_motzkin.specs.declared.verdicts.Ruling.TheVariants.{Empty}
+use Rattle.fourier_motzkin.specs.declared.verdicts.Ruling.TheVariants.{Empty, Maybe}
 
 -- the tidied set is the one list that rises and has exactly the rows that are kept
 abbrev pub TidiedIsKept : Type 0
@@ -45,3 +45,20 @@ abbrev pub PointsLieInRanges : Type 0
 PointsLieInRanges =
     (n : ℕ) (rows : List Row) (point : List ℤ) (k : ℕ) → AllOver n rows → All (Meets point) rows → length point ≡ n → k < n
     → Allowed (slice_index_or (bounds_of n rows).levels k []) (take k point) (slice_index_or point k (pos 0))
+
+-- where the verdict is Maybe, a point that is allowed at every level meets all rows: the rows of the last level alone
+-- are those of the whole system
+abbrev pub AllowedPointsMeet : Type 0
+AllowedPointsMeet =
+    (n : ℕ) (rows : List Row) (point : List ℤ) → verdict_of n rows ≡ Maybe → 0 < n → length point ≡ n
+    → ((k : ℕ) → k < n → Allowed (slice_index_or (bounds_of n rows).levels k []) (take k point) (slice_index_or point k (pos 0)))
+    → All (Meets point) rows
+
+-- where the verdict is Maybe, a variable that two of the rows bound, each by itself and one on each side, is bound on
+-- both sides at its level, so that it has a range wherever it has a value
+abbrev pub BoundedLevelsClose : Type 0
+BoundedLevelsClose =
+    (n : ℕ) (rows : List Row) (k : ℕ) (lower upper : Row) → verdict_of n rows ≡ Maybe → k < n
+    → Contains rows lower → IsAlone k lower → pos 0 <ℤ coefficient lower k
+    → Contains rows upper → IsAlone k upper → coefficient upper k <ℤ pos 0
+    → IsOpen k (slice_index_or (bounds_of n rows).levels k []) → ⊥

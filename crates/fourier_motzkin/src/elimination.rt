@@ -7,12 +7,11 @@ ghost use Rattle.affine.specs.Sums.{weighted};
 ghost use Rattle.fourier_motzkin.specs.RowSets.{IsWithin, is_false, is_wide, is_wide_number, tidied, with_rows};
 ghost use Rattle.fourier_motzkin.specs.Elimination.{AllOver, MeetsSaid, is_without, bounds_above, bounds_below, crossed, eliminated, judged};
 
-use crate::NoMemory;
 use crate::row_set::RowSet;
 use crate::tidying::{Tidying, is_constant};
 use affine::Row;
 use arrayvec::ArrayVec;
-use std::alloc::Global;
+use std::alloc::{AllocError, Global};
 
 /// The largest size of a number in a set of rows that stands.
 pub const WIDEST: u128 = 1 << 62;
@@ -34,7 +33,7 @@ pub enum Eliminated {
 /// One elimination of a variable: the rows without it, and for each row P with a coefficient p > 0 on it and each
 /// row N with -q < 0 the row q·P + p·N, tidied and judged (docs/DEFINITIONS.md, Elimination). The rows have numbers
 /// of at most 2^62 in size and one number of variables, above `variable`. A point that meets them meets what is said.
-pub fn eliminate(alloc: Global, rows: &[Row], variable: usize) -> Result<Eliminated, NoMemory>
+pub fn eliminate(alloc: Global, rows: &[Row], variable: usize) -> Result<Eliminated, AllocError>
     requires within { All (IsWithin (2 ^ 62)) rows.now }
     requires over { (n : ℕ) × (variable < n) × AllOver n rows.now }
     ensures value { IfOk result (λ said. said ≡ eliminated variable rows.now) }
@@ -47,7 +46,7 @@ pub fn eliminate(alloc: Global, rows: &[Row], variable: usize) -> Result<Elimina
 }
 
 /// The rows, tidied and judged (docs/DEFINITIONS.md, Tidying). Numbers are at most 2^126 in size.
-pub(crate) fn tidy(alloc: Global, rows: &[Row]) -> Result<Eliminated, NoMemory>
+pub fn tidy(alloc: Global, rows: &[Row]) -> Result<Eliminated, AllocError>
     requires { All (IsWithin (2 ^ 126)) rows.now }
     ensures { IfOk result (λ said. said ≡ judged (tidied rows.now)) }
 {
@@ -86,7 +85,7 @@ fn has_wide(rows: &[Row]) -> bool
 }
 
 /// Adds the rows that don't have the variable.
-fn add_without(next: &mut Tidying, rows: &[Row], variable: usize) -> Result<(), NoMemory>
+fn add_without(next: &mut Tidying, rows: &[Row], variable: usize) -> Result<(), AllocError>
     requires within { All (IsWithin (2 ^ 62)) rows.now }
     requires over { All (λ row. variable < variables row) rows.now }
     ensures { OnOk result (next.new ≡ with_rows next.old (filter (is_without variable) rows.now)) }
@@ -100,7 +99,7 @@ fn add_without(next: &mut Tidying, rows: &[Row], variable: usize) -> Result<(), 
 }
 
 /// Adds, for each row that bounds the variable below, its combinations with those that bound it above.
-fn add_crossed(next: &mut Tidying, rows: &[Row], variable: usize) -> Result<(), NoMemory>
+fn add_crossed(next: &mut Tidying, rows: &[Row], variable: usize) -> Result<(), AllocError>
     requires within { All (IsWithin (2 ^ 62)) rows.now }
     requires over { All (λ row. variable < variables row) rows.now }
     ensures { OnOk result (next.new ≡ with_rows next.old (flat_map (λ below. map (crossed variable below) (filter (bounds_above variable) rows.now)) (filter (bounds_below variable) rows.now))) }
@@ -119,7 +118,7 @@ fn add_crossed_with(
     below: &Row,
     rows: &[Row],
     variable: usize,
-) -> Result<(), NoMemory>
+) -> Result<(), AllocError>
     requires below { IsWithin (2 ^ 62) below.now }
     requires has { variable < variables below.now }
     requires within { All (IsWithin (2 ^ 62)) rows.now }
@@ -134,8 +133,9 @@ fn add_crossed_with(
     Ok(())
 }
 
-/// The combination of two rows in which the variable cancels.
-fn crossed(below: &Row, above: &Row, variable: usize) -> Row
+/// Of a row P with the coefficient p > 0 on a variable and a row N with -q < 0 the row q·P + p·N, in which the variable
+/// cancels. Their numbers are at most 2^62 in size, and those of the result at most 2^126; it isn't normal.
+pub fn crossed(below: &Row, above: &Row, variable: usize) -> Row
     requires below { IsWithin (2 ^ 62) below.now }
     requires above { IsWithin (2 ^ 62) above.now }
     requires below_has { variable < variables below.now }
@@ -189,8 +189,8 @@ pub(crate) fn negated(number: i128) -> i128
     -number
 }
 
-/// The coefficient of a variable.
-pub(crate) fn coefficient(row: &Row, variable: usize) -> i128
+/// The coefficient of a variable, which the row has.
+pub fn coefficient(row: &Row, variable: usize) -> i128
     requires { variable < variables row.now }
     ensures { result ≡ coefficient row.now variable }
 {
@@ -198,7 +198,7 @@ pub(crate) fn coefficient(row: &Row, variable: usize) -> i128
 }
 
 /// Whether the row has no variables and is false.
-fn is_false(row: &Row) -> bool
+pub fn is_false(row: &Row) -> bool
     ensures { result ≡ is_false row.now }
 {
     is_constant(row) && row.cst < 0

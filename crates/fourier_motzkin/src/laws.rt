@@ -1,6 +1,6 @@
 //! Laws: functions that do nothing, each with a law of the definitions as its contract.
 
-ghost use Rattle.fourier_motzkin.specs.Laws.{EliminatingKeepsPoints, EmptyHasNoPoint, LevelsReach, OrderIsNoMatter, PointsLieInRanges, TidiedIsKept, TidyingKeepsPoints};
+ghost use Rattle.fourier_motzkin.specs.Laws.{AllowedPointsMeet, BoundedLevelsClose, EliminatingKeepsPoints, EmptyHasNoPoint, LevelsReach, OrderIsNoMatter, PointsLieInRanges, TidiedIsKept, TidyingKeepsPoints};
 
 /// The tidied set is the one list that rises by the coefficients and has exactly the rows that tidying keeps.
 pub fn tidied_is_kept()
@@ -36,4 +36,16 @@ pub fn levels_reach()
 /// scanning the ranges from the first level on misses no point.
 pub fn points_lie_in_ranges()
     ensures { PointsLieInRanges }
+{}
+
+/// Where the verdict is Maybe, a whole-number point that is allowed at every level meets all rows, so that scanning
+/// the ranges gives no point that doesn't.
+pub fn allowed_points_meet()
+    ensures { AllowedPointsMeet }
+{}
+
+/// Where the verdict is Maybe, a variable that two of the rows bound, each by itself and one on each side, is bound on
+/// both sides at its level.
+pub fn bounded_levels_close()
+    ensures { BoundedLevelsClose }
 {}

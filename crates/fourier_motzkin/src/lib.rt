@@ -23,6 +23,3 @@ pub use elimination::{Eliminated, eliminate};
 pub use row_set::RowSet;
 pub use scans::Scan;
 pub use verdicts::{Ruling, bounds, verdict};
-
-/// Memory ran out. What was lent to the call is as before.
-pub type NoMemory = std::alloc::AllocError;

@@ -9,7 +9,7 @@ ghost use Rattle.fourier_motzkin.specs.Elimination.{AllOver};
 use super::*;
 use affine::Row;
 use arrayvec::ArrayVec;
-use std::alloc::Global;
+use std::alloc::{AllocError, Global};
 use std::test::Fail;
 
 /// The row a x + b y + c >= 0.
@@ -27,7 +27,7 @@ fn row(a: i64, b: i64, c: i64) -> Row
 }
 
 /// The rows a x + b y + c >= 0.
-fn rows(alloc: Global, given: &[(i64, i64, i64)]) -> Result<Vec<Row>, NoMemory>
+fn rows(alloc: Global, given: &[(i64, i64, i64)]) -> Result<Vec<Row>, AllocError>
     ensures over { IfOk result (λ rows. AllOver 2 rows.items) }
     ensures within { IfOk result (λ rows. All (IsWithin (2 ^ 100)) rows.items) }
 {
@@ -39,7 +39,7 @@ fn rows(alloc: Global, given: &[(i64, i64, i64)]) -> Result<Vec<Row>, NoMemory>
 }
 
 /// The verdict on the rows a x + b y + c >= 0.
-fn verdict_on(alloc: Global, given: &[(i64, i64, i64)]) -> Result<Ruling, NoMemory> {
+fn verdict_on(alloc: Global, given: &[(i64, i64, i64)]) -> Result<Ruling, AllocError> {
     verdict(alloc, &rows(alloc, given)?, 2)
 }
 
@@ -48,7 +48,7 @@ fn ranges(
     alloc: Global,
     given: &[(i64, i64, i64)],
     x: i32,
-) -> Result<(Ruling, Option<(i128, i128)>, Option<(i128, i128)>), NoMemory> {
+) -> Result<(Ruling, Option<(i128, i128)>, Option<(i128, i128)>), AllocError> {
     let scan = bounds(alloc, &rows(alloc, given)?, 2)?;
     if scan.variables() == 2 {
         Ok((

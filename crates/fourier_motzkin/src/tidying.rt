@@ -7,10 +7,9 @@ ghost use Rattle.std.specs.BTreeMap.{IsOrdered};
 ghost use Rattle.affine.specs.declared.row.Row.{Row};
 ghost use Rattle.fourier_motzkin.specs.RowSets.{IsWithin, is_constant, says_nothing, kept, with_row};
 
-use crate::NoMemory;
 use affine::Row;
 use arrayvec::ArrayVec;
-use std::alloc::Global;
+use std::alloc::{AllocError, Global};
 use std::collections::BTreeMap;
 use std::marker::Model;
 
@@ -39,7 +38,7 @@ impl Tidying {
     }
 
     /// Adds what a row says.
-    pub fn add(&mut self, row: &Row) -> Result<(), NoMemory>
+    pub fn add(&mut self, row: &Row) -> Result<(), AllocError>
         requires { IsWithin (2 ^ 126) row.now }
         ensures { OnOk result (self.new ≡ with_row row.now self.old) }
     {
@@ -51,7 +50,7 @@ impl Tidying {
     }
 
     /// Keeps the row, or the one with the same coefficients, where that has no greater constant.
-    fn place(&mut self, row: Row) -> Result<(), NoMemory>
+    fn place(&mut self, row: Row) -> Result<(), AllocError>
         ensures { OnOk result (self.new ≡ kept row self.old) }
     {
         let Row { coef, cst } = row;
@@ -65,7 +64,7 @@ impl Tidying {
     }
 
     /// The rows, by their coefficients.
-    pub fn into_rows(self, alloc: Global) -> Result<Vec<Row>, NoMemory>
+    pub fn into_rows(self, alloc: Global) -> Result<Vec<Row>, AllocError>
         ensures { IfOk result (λ rows. rows.items ≡ self) }
     {
         let mut rows = Vec::new(alloc);

@@ -7,12 +7,11 @@ ghost use Rattle.fourier_motzkin.specs.RowSets.{IsWithin};
 ghost use Rattle.fourier_motzkin.specs.Elimination.{AllOver, IsSound};
 ghost use Rattle.fourier_motzkin.specs.Verdicts.{bounds_of, next, ruled, standing, verdict_of};
 
-use crate::NoMemory;
 use crate::elimination::{Eliminated, eliminate, tidy};
 use crate::row_set::RowSet;
 use crate::scans::Scan;
 use affine::Row;
-use std::alloc::Global;
+use std::alloc::{AllocError, Global};
 
 /// What elimination says of a system.
 #[derive(Clone, Copy, Debug, PartialEq, Eq)]
@@ -27,7 +26,7 @@ pub enum Ruling {
 
 /// The verdict on rows over so many variables, 16 at most, with numbers of at most 2^100 in size
 /// (docs/DEFINITIONS.md, Verdict). No rows at all give Maybe.
-pub fn verdict(alloc: Global, rows: &[Row], variables: usize) -> Result<Ruling, NoMemory>
+pub fn verdict(alloc: Global, rows: &[Row], variables: usize) -> Result<Ruling, AllocError>
     requires few { variables ≤ 16 }
     requires over { AllOver variables rows.now }
     requires within { All (IsWithin (2 ^ 100)) rows.now }
@@ -38,7 +37,7 @@ pub fn verdict(alloc: Global, rows: &[Row], variables: usize) -> Result<Ruling, 
 }
 
 /// The rows before each elimination, and the verdict, under the conditions of `verdict`.
-pub fn bounds(alloc: Global, rows: &[Row], variables: usize) -> Result<Scan, NoMemory>
+pub fn bounds(alloc: Global, rows: &[Row], variables: usize) -> Result<Scan, AllocError>
     requires few { variables ≤ 16 }
     requires over { AllOver variables rows.now }
     requires within { All (IsWithin (2 ^ 100)) rows.now }
@@ -56,7 +55,11 @@ pub fn bounds(alloc: Global, rows: &[Row], variables: usize) -> Result<Scan, NoM
 }
 
 /// The rows that stand, and what is said once the variable is eliminated too.
-fn step(alloc: Global, said: Eliminated, variable: usize) -> Result<(RowSet, Eliminated), NoMemory>
+fn step(
+    alloc: Global,
+    said: Eliminated,
+    variable: usize,
+) -> Result<(RowSet, Eliminated), AllocError>
     requires { (n : ℕ) × (variable < n) × IsSound n said }
     ensures { IfOk result (λ pair. pair ≡ (standing said, next variable said)) }
 {

@@ -1,9 +1,8 @@
 -- What one command makes of a draft.
-use Rattle.std.proofs.Common.{◌≡◌, refl, sym, ap, ap₂, ◌∙◌, ℕ, ◌<◌, ◌≤◌, ◌+◌, ◌-◌, ℤ, Bool, true, false, not, ◌&&◌, ◌||◌, cond, List, Option, Some, None, unsigned_abs, arith}
-use Rattle.std.specs.Prelude.{nat_eq, nat_le, nat_lt}
+use Rattle.std.proofs.Common.{◌≡◌, refl, sym, ap, ap₂, ◌∙◌, ℕ, ◌<◌, ◌≤◌, ◌+◌, ◌-◌, ℤ, Bool, true, false, not, ◌&&◌, cond, List, Some, None, unsigned_abs}
+use Rattle.std.specs.Prelude.{nat_eq, nat_lt}
 use Rattle.std.proofs.Math.Bool.{or-false}
 use Rattle.std.proofs.lemmas.Bool.{and_from, le-leb, lt-ltb}
-use Rattle.nest_lang.specs.declared.command.Command.{Command}
 use Rattle.nest_lang.specs.declared.command.Command.TheVariants.{Skew}
 use Rattle.affine.specs.Matrices.{skew}
 use Rattle.transform.specs.Drafts.{Draft, drafted, extended, has_room}

@@ -1,14 +1,13 @@
 -- How large the entries of a matrix grow by exchanges and skews.
-use Rattle.std.proofs.Common.{◌≡◌, refl, sym, ◌∙◌, subst, ℕ, zero, suc, ◌+◌, ◌*◌, ◌^◌, ◌<◌, ◌≤◌, ℤ, pos, neg_ℤ, ◌+ℤ◌, ◌*ℤ◌, unsigned_abs, List, [], ◌∷◌, length, get_or, set, replicate, map, lit≤, add-one, mul_comm, pow-suc, arith}
+use Rattle.std.proofs.Common.{◌≡◌, refl, subst, ℕ, zero, suc, ◌+◌, ◌*◌, ◌^◌, ◌<◌, ◌≤◌, ℤ, pos, ◌+ℤ◌, ◌*ℤ◌, unsigned_abs, List, [], ◌∷◌, length, get_or, set, replicate, lit≤, add-one, mul_comm, pow-suc, arith}
 use Rattle.std.specs.List.{All, range_with_len, swap}
-use Rattle.std.proofs.lemmas.Int.{ints, unsigned_abs-mul}
+use Rattle.std.proofs.lemmas.Int.{unsigned_abs-mul}
 use Rattle.std.proofs.lemmas.List.Elements.{All-cons, All-get_or, All-head, All-map, All-nil, All-replicate, All-set, All-tail, All-weaker}
 use Rattle.std.proofs.lemmas.List.Edits.{swap_is}
+use Rattle.plain_lemmas.proofs.IntegerLaws.{one-*ℤ, unsigned_abs-add}
 use Rattle.affine.specs.Forms.{AllWithinSize}
 use Rattle.affine.specs.Matrices.{HasSmallEntries, identity, skew, unit_row}
 use Rattle.affine.specs.Sums.{weighted}
-use Rattle.affine.proofs.IntegerLemmas.{one-*ℤ}
-use Rattle.affine.proofs.SumLemmas.{abs-add}
 
 -- every entry is at most this in size
 abbrev pub EntriesWithin : ℕ → List (List ℤ) → Type 0
@@ -36,7 +35,7 @@ EntriesWithin-swap most rows a b in-a in-b small =
 -- a number with at most 8 times another
 number-gained : (most : ℕ) (x y m : ℤ) → unsigned_abs x ≤ most → unsigned_abs y ≤ most → unsigned_abs m ≤ 8 → unsigned_abs (pos 1 *ℤ x +ℤ m *ℤ y) ≤ 9 * most
 number-gained most x y m first second factor =
-    let sum = abs-add (pos 1 *ℤ x) (m *ℤ y) in
+    let sum = unsigned_abs-add (pos 1 *ℤ x) (m *ℤ y) in
     let one : unsigned_abs (pos 1 *ℤ x) ≤ most = rw one-*ℤ first in
     let times : unsigned_abs (m *ℤ y) ≡ unsigned_abs m * unsigned_abs y = unsigned_abs-mul m y in
     let eight = product-le (unsigned_abs m) (unsigned_abs y) 8 most factor second in

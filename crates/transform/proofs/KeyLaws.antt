@@ -1,5 +1,5 @@
 -- Keys of phases as lists of numbers.
-use Rattle.std.proofs.Common.{◌≡◌, refl, sym, ap, ap₂, ◌∙◌, ℕ, zero, suc, ◌≤◌, ◌-◌, ℤ, pos, List, [], ◌∷◌, ◌++◌, length, map, take, replicate, arith}
+use Rattle.std.proofs.Common.{◌≡◌, refl, sym, ap, ap₂, ◌∙◌, ◌-◌, ℤ, pos, List, [], ◌∷◌, ◌++◌, length, take, replicate, arith}
 use Rattle.std.specs.Cmp.Lexicographic.{slice_cmp}
 use Rattle.std.specs.Cmp.{int_cmp_is}
 use Rattle.std.specs.Ordering.{int_cmp, ordering_then}

@@ -1,5 +1,5 @@
 -- The lines of a schedule by its rows, sizes and marks.
-use Rattle.std.proofs.Common.{◌≡◌, refl, sym, ap, ap₂, ◌∙◌, subst, ℕ, zero, suc, ◌<◌, ◌≤◌, ◌+◌, ◌-◌, ◌⊎◌, inl, inr, ℤ, pos, ◌+ℤ◌, Bool, false, cond, List, [], ◌∷◌, ◌++◌, length, get_or, set, map, take, drop, replicate, drop-cons, add-one, length-append, length-drop, length-take, arith}
+use Rattle.std.proofs.Common.{◌≡◌, refl, sym, ap, ap₂, ◌∙◌, subst, ℕ, zero, suc, ◌<◌, ◌≤◌, ◌+◌, ◌-◌, ◌⊎◌, inl, inr, ℤ, pos, ◌+ℤ◌, Bool, false, cond, List, [], ◌∷◌, length, get_or, set, map, take, drop, replicate, drop-cons, add-one, length-append, length-drop, length-take, arith}
 use Rattle.std.specs.Int.{int_div_euclid}
 use Rattle.std.specs.List.{All}
 use Rattle.std.proofs.lemmas.List.Elements.{All-cons, All-head, All-nil, All-tail}
@@ -9,7 +9,7 @@ use Rattle.affine.specs.Inverses.{IsInverse, IsSquare}
 use Rattle.affine.specs.Matrices.{HasSmallEntries, IsOneToOne, IsOnto, product}
 use Rattle.affine.specs.Sums.{dot}
 use Rattle.affine.proofs.InverseLaws.{inverted}
-use Rattle.transform.specs.Schedules.{IsMade, IsSchedule, Line, Schedule, along, lead, matrix, place, tile, tile_along, wave_of, wide_lead, wide_tile}
+use Rattle.transform.specs.Schedules.{IsSchedule, Line, Schedule, along, matrix, place, tile_along, wave_of, wide_lead, wide_tile}
 use Rattle.transform.specs.Scripts.{lines_of, schedule_from}
 
 abbrev pub no_line : Line

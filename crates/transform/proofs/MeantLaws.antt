@@ -1,22 +1,20 @@
 -- What the commands of a script keep: from the unit matrix on, every draft is a schedule.
-use Rattle.std.proofs.Common.{◌≡◌, ◌≢◌, refl, sym, ap, ◌∙◌, subst, ℕ, zero, suc, ◌<◌, ◌≤◌, ◌+◌, ◌-◌, ◌^◌, ℤ, pos, negsuc, neg_ℤ, Bool, true, false, not, ◌&&◌, cond, List, [], ◌∷◌, Option, Some, None, length, set, replicate, unsigned_abs, add-zero, lit<, lit≤, arith}
+use Rattle.std.proofs.Common.{◌≡◌, ◌≢◌, refl, sym, ◌∙◌, subst, ℕ, ◌<◌, ◌≤◌, ◌+◌, ◌-◌, ◌^◌, ℤ, pos, negsuc, Bool, true, false, not, ◌&&◌, cond, List, [], ◌∷◌, Option, Some, None, length, set, unsigned_abs, add-zero, lit<, lit≤, arith}
 use Rattle.std.specs.Prelude.{int_lt, nat_eq, nat_le, nat_lt, option_map}
-use Rattle.std.specs.List.{All, fold}
+use Rattle.std.specs.List.{All}
 use Rattle.std.specs.Option.{option_and_then}
 use Rattle.std.proofs.Math.ListN.{length-set}
 use Rattle.std.proofs.lemmas.Bool.{and_parts, eqb-false, leb-true, ltb-false, ltb-true, not-true, true≢false}
-use Rattle.std.proofs.lemmas.Int.{ints}
 use Rattle.std.proofs.lemmas.List.{length-replicate}
 use Rattle.std.proofs.lemmas.List.Elements.{All-replicate, All-set}
 use Rattle.nest_lang.specs.declared.command.Command.{Command}
 use Rattle.nest_lang.specs.declared.command.Command.TheVariants.{Seq, Swap, Skew, Tile, Par, Wave}
 use Rattle.affine.specs.Inverses.{IsInverse}
-use Rattle.affine.specs.Matrices.{skew}
 use Rattle.affine.proofs.InverseLaws.{IsInverse-identity, IsInverse-skew, IsInverse-swap}
-use Rattle.transform.specs.Drafts.{Draft, drafted, drafted_all, extended, has_room, new_draft}
+use Rattle.transform.specs.Drafts.{Draft, drafted_all, extended, has_room, new_draft}
 use Rattle.transform.specs.Laws.{ScriptsMakeSchedules}
 use Rattle.transform.specs.Schedules.{IsSchedule, Schedule}
-use Rattle.transform.specs.Scripts.{is_row, is_size, keeps_rule, marked, schedule_from, schedule_of}
+use Rattle.transform.specs.Scripts.{is_row, is_size, keeps_rule, marked, schedule_from}
 use Rattle.transform.proofs.EntryLaws.{EntriesWithin, EntriesWithin-identity, EntriesWithin-next, EntriesWithin-swap, HasSmallEntries-within}
 use Rattle.transform.proofs.LineLaws.{IsSchedule-made}
 use Rattle.transform.proofs.ScriptLaws.{schedule_of-drafted}

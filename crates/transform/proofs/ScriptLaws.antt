@@ -1,14 +1,13 @@
 -- What comes of a script: command by command, and as a whole.
-use Rattle.std.proofs.Common.{◌≡◌, refl, sym, ap, ap₂, ◌∙◌, subst, ℕ, zero, suc, ◌<◌, ◌≤◌, ◌+◌, Bool, true, false, not, ◌&&◌, ◌||◌, cond, List, [], ◌∷◌, Option, Some, None, ◌⊎◌, inl, inr, add_assoc, zero-add, lit≤, arith}
+use Rattle.std.proofs.Common.{◌≡◌, refl, sym, ap, ap₂, ◌∙◌, subst, ℕ, ◌<◌, ◌≤◌, ◌+◌, Bool, true, false, not, ◌&&◌, ◌||◌, cond, List, [], ◌∷◌, Option, Some, None, ◌⊎◌, inl, inr, add_assoc, zero-add, lit≤, arith}
 use Rattle.std.specs.Prelude.{nat_le, nat_lt, option_map}
 use Rattle.std.specs.List.{count_by, fold, list_all}
 use Rattle.std.specs.Option.{option_and_then}
-use Rattle.std.proofs.lemmas.Bool.{and_parts, true≢false, le-leb, lt-leb, le-ltb, lt-ltb, ltb-true, ltb-false, cases_lt}
+use Rattle.std.proofs.lemmas.Bool.{and_parts, le-leb, lt-leb, le-ltb, lt-ltb, ltb-true, cases_lt}
 use Rattle.std.proofs.lemmas.List.Sums.{sum_by-cons}
 use Rattle.nest_lang.specs.declared.command.Command.{Command}
 use Rattle.transform.specs.Drafts.{Draft, drafted, drafted_all, extended, has_room, new_draft}
-use Rattle.transform.specs.Schedules.{Schedule}
-use Rattle.transform.specs.Scripts.{Parts, applied, is_seq, is_skew, keeps_rule, keeps_rules, meaning, schedule_from, schedule_of, untouched}
+use Rattle.transform.specs.Scripts.{applied, is_seq, is_skew, keeps_rule, keeps_rules, meaning, schedule_from, schedule_of}
 
 abbrev number : Bool → ℕ
 number b = cond b 1 0

@@ -1,5 +1,5 @@
 -- The standard candidates.
-use Rattle.std.proofs.Common.{◌≡◌, refl, sym, ap, ◌∙◌, subst, ℕ, zero, suc, ◌<◌, ◌≤◌, ◌+◌, ◌-◌, ℤ, pos, Bool, true, false, ◌&&◌, cond, List, [], ◌∷◌, ◌++◌, map, Option, Some, None, length, add-one, arith}
+use Rattle.std.proofs.Common.{◌≡◌, refl, ap, ◌∙◌, ℕ, zero, suc, ◌<◌, ◌≤◌, ◌+◌, ◌-◌, ℤ, pos, true, cond, List, [], ◌∷◌, ◌++◌, map, Option, Some, None, length, arith}
 use Rattle.std.specs.Prelude.{IsSome, is_some, option_map, slice_get}
 use Rattle.std.specs.List.{list_all, range_with_len}
 use Rattle.std.specs.Option.{option_and_then}
@@ -8,7 +8,6 @@ use Rattle.nest_lang.specs.declared.command.Command.{Command}
 use Rattle.nest_lang.specs.declared.command.Command.TheVariants.{Seq, Skew, Tile}
 use Rattle.transform.specs.Drafts.{Draft, drafted, drafted_all, new_draft}
 use Rattle.transform.specs.Laws.{StandardsAreSchedules}
-use Rattle.transform.specs.Schedules.{Schedule}
 use Rattle.transform.specs.Scripts.{keeps_rules, meaning, schedule_from, schedule_of}
 use Rattle.transform.specs.Standards.{parallel_row, skews, standard, standard_script, standard_scripts, tiles}
 use Rattle.transform.proofs.ScriptLaws.{schedule_of-drafted}

@@ -1,5 +1,5 @@
 -- Schedules with known answers, computed by the definitions.
-use Rattle.std.specs.Prelude.{◌≡◌, ◌∷◌, [], pos, negsuc, true, refl, Some, None, option_map}
+use Rattle.std.specs.Prelude.{◌≡◌, ◌∷◌, [], pos, negsuc, refl, Some, None, option_map}
 use Rattle.nest_lang.specs.declared.command.Command.TheVariants.{Seq, Swap, Skew, Tile}
 use Rattle.transform.specs.Schedules.{phase, place, tile}
 use Rattle.transform.specs.Scripts.{schedule_of}

@@ -1,8 +1,7 @@
-use Rattle.std.proofs.Common.{◌∙◌, ap, sym, ◌≡◌, ◌<◌, suc, drop, drop-cons, length, [], ◌∷◌, Option, Some, None, arith}
+use Rattle.std.proofs.Common.{◌∙◌, ap, sym, ◌≡◌, ◌<◌, suc, drop, drop-cons, length, [], ◌∷◌, Some, None, arith}
 use Rattle.std.specs.Prelude.{option_map}
 use Rattle.std.proofs.lemmas.List.{drop_all}
 use Rattle.transform.specs.Drafts.{Draft, drafted_all, new_draft}
-use Rattle.transform.specs.Schedules.{Schedule}
 use Rattle.transform.specs.Scripts.{schedule_from}
 use Rattle.transform.proofs.ScriptLaws.{drafted_all-gone, schedule_of-drafted}
 use Rattle.transform.proofs.scripts.schedule_of.Goals as goal

@@ -1,4 +1,4 @@
-use Rattle.std.proofs.Common.{◌≡◌, ◌<◌, ◌+◌, ◌∙◌, ap, sym, pos, arith}
+use Rattle.std.proofs.Common.{◌+◌, ◌∙◌, ap, sym, pos}
 use Rattle.nest_lang.specs.declared.command.Command.TheVariants.{Skew}
 use Rattle.transform.specs.Drafts.{drafted_all}
 use Rattle.transform.proofs.ScriptLaws.{drafted_all-goes, drafted_all-gone}

@@ -1,4 +1,4 @@
-use Rattle.std.proofs.Common.{◌≡◌, ◌≤◌, ◌∙◌, ap, sym, arith}
+use Rattle.std.proofs.Common.{◌≤◌, ◌∙◌, ap, sym, arith}
 use Rattle.std.specs.Option.{option_and_then}
 use Rattle.transform.specs.Drafts.{drafted_all, new_draft}
 use Rattle.transform.specs.Standards.{standard_script}

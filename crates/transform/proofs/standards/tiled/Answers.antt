@@ -1,10 +1,10 @@
-use Rattle.std.proofs.Common.{◌≡◌, ◌<◌, ◌+◌, ◌∙◌, ap, sym, rules, arith}
+use Rattle.std.proofs.Common.{◌≡◌, ◌+◌, ◌∙◌, ap, sym, arith}
 use Rattle.std.proofs.lemmas.Int.{to_z-of_z}
 use Rattle.nest_lang.specs.declared.command.Command.TheVariants.{Tile}
 use Rattle.transform.specs.Drafts.{drafted_all}
 use Rattle.transform.specs.Standards.{tiles}
 use Rattle.transform.proofs.ScriptLaws.{drafted_all-goes, drafted_all-gone}
-use Rattle.transform.proofs.StandardLaws.{tiles-none, tiles-step}
+use Rattle.transform.proofs.StandardLaws.{tiles-step}
 use Rattle.transform.proofs.standards.tiled.Goals as goal
 
 pub returns-in_err-apply : goal.returns-in_err-apply

@@ -1,7 +1,6 @@
-use Rattle.std.proofs.Common.{◌∙◌, ◌≡◌, sym, ap, ◌≤◌, length, ◌<◌, ◌+◌, ◌^◌, neg_ℤ, unsigned_abs, FitsSigned, w64, rules, arith}
+use Rattle.std.proofs.Common.{◌∙◌, sym, ap, ◌≤◌, ◌<◌, neg_ℤ, unsigned_abs, rules, arith}
 use Rattle.std.proofs.Math.ListN.{length-set}
 use Rattle.std.proofs.lemmas.Int.{ints, to_z-of_z}
-use Rattle.affine.specs.Matrices.{skew}
 use Rattle.affine.specs.Inverses.{Inverted}
 use Rattle.transform.proofs.DraftLaws.{drafted-skew}
 use Rattle.transform.proofs.EntryLaws.{EntriesWithin-next, row_fits-skew}

@@ -1,4 +1,4 @@
-use Rattle.std.proofs.Common.{◌∙◌, length, ◌<◌, ◌^◌, arith}
+use Rattle.std.proofs.Common.{◌∙◌, ◌^◌, arith}
 use Rattle.std.proofs.lemmas.List.Edits.{length-swap}
 use Rattle.transform.proofs.EntryLaws.{EntriesWithin-swap}
 use Rattle.transform.proofs.draft.Draft.swap.Goals as goal

@@ -1,4 +1,4 @@
-use Rattle.std.proofs.Common.{◌≡◌, ◌∙◌, sym, subst, length, arith}
+use Rattle.std.proofs.Common.{◌≡◌, sym, subst, length, arith}
 use Rattle.affine.specs.Inverses.{IsInverse}
 use Rattle.transform.proofs.LineLaws.{map-lines_of}
 use Rattle.transform.proofs.schedule.Schedule.columns.Goals as goal

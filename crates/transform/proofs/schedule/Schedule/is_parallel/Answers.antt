@@ -1,4 +1,4 @@
-use Rattle.std.proofs.Common.{◌≡◌, sym, ap, length, arith}
+use Rattle.std.proofs.Common.{◌≡◌, length, arith}
 use Rattle.transform.proofs.LineLaws.{parallel-lines_of}
 use Rattle.transform.proofs.schedule.Schedule.is_parallel.Goals as goal
 

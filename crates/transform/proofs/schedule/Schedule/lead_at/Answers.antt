@@ -1,4 +1,4 @@
-use Rattle.std.proofs.Common.{◌≡◌, ◌∙◌, ◌<◌, ◌≤◌, ℕ, pos, sym, ap, length, get_or, arith}
+use Rattle.std.proofs.Common.{◌≡◌, ◌∙◌, pos, ap, length, get_or, arith}
 use Rattle.transform.specs.Scripts.{schedule_from}
 use Rattle.transform.proofs.LineLaws.{get_or-place, length-lines_of, wide_lead_is}
 use Rattle.transform.proofs.schedule.Schedule.lead_at.Goals as goal

@@ -1,4 +1,4 @@
-use Rattle.std.proofs.Common.{◌≡◌, ◌∙◌, sym, ap, length, arith}
+use Rattle.std.proofs.Common.{◌≡◌, ◌∙◌, sym, length, arith}
 use Rattle.transform.proofs.LineLaws.{IsSchedule-made, map-lines_of}
 use Rattle.transform.proofs.schedule.Schedule.matrix.Goals as goal
 

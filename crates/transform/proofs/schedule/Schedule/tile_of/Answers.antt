@@ -1,4 +1,4 @@
-use Rattle.std.proofs.Common.{◌≡◌, ◌∙◌, ◌<◌, ◌≤◌, ℕ, pos, sym, ap, length, get_or, FitsSigned, rules, arith}
+use Rattle.std.proofs.Common.{◌≡◌, ◌∙◌, ◌<◌, pos, ap, length, get_or, FitsSigned, rules, arith}
 use Rattle.std.specs.Int.{w128, int_div_euclid}
 use Rattle.std.proofs.Math.ListN.{length-set}
 use Rattle.std.proofs.lemmas.Int.{to_z-of_z}

@@ -1,7 +1,5 @@
-use Rattle.std.proofs.Common.{◌≡◌, ◌<◌, ◌≤◌, ℕ, ℤ, pos, length, get_or, unsigned_abs, ◌*◌, ◌^◌, ◌+ℤ◌, List, drop}
+use Rattle.std.proofs.Common.{◌≡◌, ◌<◌, ◌≤◌, ℕ, pos, length, get_or}
 use Rattle.std.specs.Int.{int_div_euclid}
-use Rattle.transform.specs.Schedules.{place, wave_of}
-use Rattle.transform.specs.Scripts.{lines_of, schedule_from}
 use Rattle.transform.proofs.schedule.Schedule.tile_of.Given as goal
 
 abbrev pub invariant-loop-row : goal.invariant-loop-row

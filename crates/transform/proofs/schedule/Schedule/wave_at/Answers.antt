@@ -1,7 +1,7 @@
-use Rattle.std.proofs.Common.{◌≡◌, ◌∙◌, ◌<◌, ◌≤◌, ◌+◌, ◌*◌, ◌^◌, ℕ, pos, ◌+ℤ◌, sym, ap, length, get_or, unsigned_abs, FitsSigned, rules, to_z, arith}
+use Rattle.std.proofs.Common.{◌≡◌, ◌<◌, pos, ◌+ℤ◌, length, get_or, FitsSigned, rules, to_z, arith}
 use Rattle.std.specs.Int.{w128}
 use Rattle.std.proofs.lemmas.Int.{fits_signed_from_abs, ints, to_z-of_z}
-use Rattle.affine.proofs.SumLemmas.{abs-add}
+use Rattle.plain_lemmas.proofs.IntegerLaws.{unsigned_abs-add}
 use Rattle.transform.proofs.LineLaws.{wave_more}
 use Rattle.transform.proofs.schedule.Schedule.wave_at.Goals as goal
 
@@ -12,7 +12,7 @@ overflow_add-wave g c =
     let inside : c.loop-row.row < length c.args.numbers.now = omega arith in
     let small = c.requires.small c.loop-row.row (pos 0) inside in
     let size = simp to_z-of_z at c.share-wave.ensures.size in
-    let both = abs-add (to_z w128 c.loop-row.wave-bits) c.share-wave.result in
+    let both = unsigned_abs-add (to_z w128 c.loop-row.wave-bits) c.share-wave.result in
     let few : c.loop-row.row < 7 = omega (arith, c.requires.few) in
     simp to_z-of_z (fits_signed_from_abs w128 _ (omega (arith, small, both, size, c.loop-row.invariant.size, few)))
 
@@ -23,7 +23,7 @@ loop-row-preserved g c =
     let inside : c.loop-row.row < length c.args.numbers.now = omega arith in
     let small = c.requires.small c.loop-row.row (pos 0) inside in
     let size = simp to_z-of_z at c.share-wave.ensures.size in
-    let both = abs-add (to_z w128 c.loop-row.wave-bits) c.share-wave.result in
+    let both = unsigned_abs-add (to_z w128 c.loop-row.wave-bits) c.share-wave.result in
     let few : c.loop-row.row < 7 = omega (arith, c.requires.few) in
     let value = simp to_z-of_z at c.share-wave.ensures.value in
     let fits : FitsSigned w128 (to_z w128 c.loop-row.wave-bits +ℤ c.share-wave.result) = fits_signed_from_abs w128 _ (omega (arith, small, both, size, c.loop-row.invariant.size, few)) in

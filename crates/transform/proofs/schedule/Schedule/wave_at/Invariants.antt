@@ -1,5 +1,4 @@
-use Rattle.std.proofs.Common.{◌≡◌, ◌<◌, ◌≤◌, ℕ, ℤ, pos, length, get_or, unsigned_abs, ◌*◌, ◌^◌, ◌+ℤ◌, List, drop}
-use Rattle.std.specs.Int.{int_div_euclid}
+use Rattle.std.proofs.Common.{◌≡◌, ◌≤◌, ℤ, unsigned_abs, ◌*◌, ◌^◌, ◌+ℤ◌, List, drop}
 use Rattle.transform.specs.Schedules.{place, wave_of}
 use Rattle.transform.specs.Scripts.{lines_of, schedule_from}
 use Rattle.transform.proofs.schedule.Schedule.wave_at.Given as goal
