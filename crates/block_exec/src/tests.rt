@@ -1,4 +1,4 @@
-ghost use Rattle.std.specs.Prelude.{◌≡◌, ◌≤◌, ◌^◌};
+ghost use Rattle.std.specs.Prelude.{◌≡◌, ◌+◌, ◌≤◌, ◌^◌, length};
 
 use super::*;
 use nest_lang::{BlockRef, Budget, Expr, Op, Part, Place, Stmt, Trap};
@@ -78,17 +78,7 @@ fn run_block<W: Watch>(block: &[Stmt], scalars: [i64; 2], left: u64, watch: &mut
     let mut memory = [0, 0];
     let mut scalars = scalars;
     let mut port = MemoryPort::new(&mut memory);
-    let mut run = Run {
-        scalars: &mut scalars,
-        locals: [0; 16],
-        port: &mut port,
-        steps: Budget { left, used: 0 },
-        watch,
-        halt: Halt::NONE,
-    };
-    let places = Places::new();
-    let end = run.block(&places.site(AT, 0), block);
-    let (halt, left) = (run.halt, run.steps.left);
+    let (end, halt, left) = run_over(block, &mut scalars, &mut port, left, watch);
     After {
         end,
         halt,
@@ -96,6 +86,37 @@ fn run_block<W: Watch>(block: &[Stmt], scalars: [i64; 2], left: u64, watch: &mut
         scalars,
         left,
     }
+}
+
+/// The same over a port and scalars: how it ended and why, and the steps that are left.
+fn run_over<P: Port, W: Watch>(
+    block: &[Stmt],
+    scalars: &mut [i64],
+    port: &mut P,
+    left: u64,
+    watch: &mut W,
+) -> (Result<(), Cut>, Halt, u64)
+    requires left { left ≤ 2 ^ 32 }
+    requires scalars { length scalars.old ≤ 256 }
+{
+    let mut run = Run {
+        scalars,
+        locals: [0; 16],
+        port,
+        steps: Budget { left, used: 0 },
+        watch,
+        halt: Halt::NONE,
+    };
+    let end = run_here(&mut run, block);
+    (end, run.halt, run.steps.left)
+}
+
+fn run_here<P: Port, W: Watch>(run: &mut Run<'_, P, W>, block: &[Stmt]) -> Result<(), Cut>
+    requires steps { run.old.steps.left + run.old.steps.used ≤ 2 ^ 32 }
+    requires scalars { length run.old.scalars.now ≤ 256 }
+{
+    let places = Places::new();
+    run.block(&places.site(AT, 0), block)
 }
 
 #[test]
