@@ -1,39 +1,41 @@
 -- Answers: which status has which cause, and that there is one.
-use Rattle.std.proofs.Common.{◌≡◌, refl, ap, ◌∙◌, sym, subst, ℕ, List, [], Option, Some, None, Result, Ok, Err, IfOk, ◌≤◌, ◌^◌, arith, pos}
+use Rattle.std.proofs.Common.{◌≡◌, refl, ap, ◌∙◌, sym, subst, ℕ, List, [], Option, Some, None, Result, Ok, Err, IfOk, ◌≤◌, ◌^◌, arith, pos, inl, inr}
 use Rattle.nest_lang.specs.declared.tree.Trap.{Trap}
 use Rattle.nest_lang.specs.declared.budget.Ending.{Ending}
 use Rattle.nest_lang.specs.declared.budget.Ending.TheVariants as ending
 use Rattle.nest_lang.specs.Traces as traces
 use Rattle.nest_lang.specs.Traces.{Finish}
-use Rattle.nest_lang.specs.Runs.{finish_by}
+use Rattle.nest_lang.specs.Runs.{finish_of_ending}
 use Rattle.nest_grammar.specs.declared.fault.TextFault.{TextFault}
 use Rattle.nest_grammar.specs.declared.file.File.{File}
+use Rattle.nest_grammar.specs.Files.{first_store, nests_of}
 use Rattle.nest_grammar.specs.Contents.{reading}
+use Rattle.canonical.specs.Contents.{canonical}
 use Rattle.report.specs.declared.runs.WordRun.{WordRun}
 use Rattle.report.specs.Outcomes.{outcome_lines}
+use Rattle.report.specs.Faults.{refusal_line}
+use Rattle.report.proofs.RunLemmas.{longest_runs}
 use Rattle.report.proofs.OneList.{same_runs}
-use Rattle.command_line.specs.declared.command.Command.{Command}
-use Rattle.command_line.specs.declared.command.Mode.{Mode}
-use Rattle.command_line.specs.declared.command.Mode.TheVariants.{Plain, Check}
-use Rattle.command_line.specs.declared.command.Options.{Options}
-use Rattle.command_line.specs.Commands.{IsCommand, IsNoCommand, usage_line}
-use Rattle.command_line.proofs.Found.{one_command}
+use Rattle.command_line.specs.declared.invocation.Invocation.{Invocation}
+use Rattle.command_line.specs.declared.invocation.Mode.{Mode}
+use Rattle.command_line.specs.declared.invocation.Mode.TheVariants.{Plain, Check}
+use Rattle.command_line.specs.declared.invocation.Options.{Options}
+use Rattle.command_line.specs.Invocations.{IsInvocation, IsNoInvocation, usage_line}
+use Rattle.command_line.proofs.Found.{one_invocation}
+use Rattle.command_line.proofs.Decided.{invocation_or_none}
 use Rattle.std.specs.Str.Parse.{digits_value}
 use Rattle.nest_top.specs.declared.status.Status.{Status}
 use Rattle.nest_top.specs.declared.status.Status.TheVariants.{Ended, Trapped, Limited, Refused, Usage, SourceFault, SinkFault, NoMemory}
 use Rattle.nest_top.specs.Texts.{IsTextOf, text_taken}
 use Rattle.nest_top.specs.Answers.{AnswersFile, AnswersReading, Causes, Finishes, IsAnswer, IsOutcomeOf, Prepared, finish_of, run_of_file, status_of}
-use Rattle.nest_top.specs.Answers.IsAnswer.{usage, command}
+use Rattle.nest_top.specs.Answers.IsAnswer.{usage, invoked}
 use Rattle.nest_text.specs.Files.{scalar_names}
-use Rattle.std.specs.Prelude.{MatchResult}
-use Rattle.nest_top.specs.declared.answer.Answer.{Answer}
-use Rattle.nest_top.specs.declared.run.Unanswered.{Unanswered}
-use Rattle.nest_top.specs.declared.run.Unanswered.TheVariants.{NoMemory as OutOfMemory}
 use Rattle.nest_top.specs.Laws.{OneAnswer, EachHasItsCause}
+use Rattle.nest_top.proofs.TrapsOnly.{plain_run-finishes}
 
 -- ---- statuses of endings
 
-same-ending : (e d : Ending) → finish_by e ≡ finish_by d → e ≡ d
+same-ending : (e d : Ending) → finish_of_ending e ≡ finish_of_ending d → e ≡ d
 same-ending ending.Ended ending.Ended h = refl
 same-ending ending.Ended (ending.Trapped t) h = absurd (cc)
 same-ending ending.Ended ending.Limited h = absurd (cc)
@@ -56,32 +58,32 @@ of-ending ending.Ended = tt
 of-ending (ending.Trapped trap) = tt
 of-ending ending.Limited = tt
 
-is-ended : (e : Ending) → status_of e ≡ Ended → finish_by e ≡ traces.Done
+is-ended : (e : Ending) → status_of e ≡ Ended → finish_of_ending e ≡ traces.Done
 is-ended ending.Ended h = refl
 is-ended (ending.Trapped trap) h = absurd (cc)
 is-ended ending.Limited h = absurd (cc)
 
-from-ended : (e : Ending) → finish_by e ≡ traces.Done → status_of e ≡ Ended
+from-ended : (e : Ending) → finish_of_ending e ≡ traces.Done → status_of e ≡ Ended
 from-ended ending.Ended h = refl
 from-ended (ending.Trapped trap) h = absurd (cc)
 from-ended ending.Limited h = absurd (cc)
 
-is-trapped : (e : Ending) → status_of e ≡ Trapped → (trap : Trap) × (finish_by e ≡ traces.Halted (traces.Trapped trap))
+is-trapped : (e : Ending) → status_of e ≡ Trapped → (trap : Trap) × (finish_of_ending e ≡ traces.Halted (traces.Trapped trap))
 is-trapped ending.Ended h = absurd (cc)
 is-trapped (ending.Trapped trap) h = (trap, refl)
 is-trapped ending.Limited h = absurd (cc)
 
-from-trapped : (e : Ending) (trap : Trap) → finish_by e ≡ traces.Halted (traces.Trapped trap) → status_of e ≡ Trapped
+from-trapped : (e : Ending) (trap : Trap) → finish_of_ending e ≡ traces.Halted (traces.Trapped trap) → status_of e ≡ Trapped
 from-trapped ending.Ended trap h = absurd (cc)
 from-trapped (ending.Trapped t) trap h = refl
 from-trapped ending.Limited trap h = absurd (cc)
 
-is-limited : (e : Ending) → status_of e ≡ Limited → finish_by e ≡ traces.Limited
+is-limited : (e : Ending) → status_of e ≡ Limited → finish_of_ending e ≡ traces.Limited
 is-limited ending.Ended h = absurd (cc)
 is-limited (ending.Trapped trap) h = absurd (cc)
 is-limited ending.Limited h = refl
 
-from-limited : (e : Ending) → finish_by e ≡ traces.Limited → status_of e ≡ Limited
+from-limited : (e : Ending) → finish_of_ending e ≡ traces.Limited → status_of e ≡ Limited
 from-limited ending.Ended h = absurd (cc)
 from-limited (ending.Trapped trap) h = absurd (cc)
 from-limited ending.Limited h = refl
@@ -89,7 +91,7 @@ from-limited ending.Limited h = refl
 -- how the answer to a file ended
 record EndedSo (mode : Mode) (options : Options) (file : File) (status : Status) : Type 0 where
   ending : Ending
-  finished : finish_by ending ≡ finish_of mode options file
+  finished : finish_of_ending ending ≡ finish_of mode options file
   answered : status ≡ status_of ending
 
 ended-so : (mode : Mode) (options : Options) (file : File) (bytes : List ℕ) (status : Status) → AnswersFile mode options file bytes status → EndedSo mode options file status
@@ -105,13 +107,13 @@ same-file r f g one other = let e = sym one ∙ other in cc
 no-fault : {A B : Type 0} (r : Result A B) (f : A) (b : B) → r ≡ Ok f → r ≡ Err b → ⊥
 no-fault r f b one other = let e = sym one ∙ other in cc
 
-module _ (words : List (List ℕ)) (text : List ℕ) (c : Command) (is : IsCommand words c) where
-  -- the command and the file of a run are these
+module _ (words : List (List ℕ)) (text : List ℕ) (c : Invocation) (is : IsInvocation words c) where
+  -- the invocation and the file of a run are these
   finishes-here : (file : File) → reading text ≡ Ok file → (finish : Finish) → Finishes words text finish → finish_of c.mode c.options file ≡ finish
   finishes-here file reads finish f =
-      let same = one_command words c f.command is f.is in
+      let same = one_invocation words c f.invocation is f.is in
       let alike = same-file (reading text) file f.file reads f.reads in
-      ap (λ (d : Command). finish_of d.mode d.options file) same ∙ (ap (finish_of f.command.mode f.command.options) alike ∙ f.finished)
+      ap (λ (d : Invocation). finish_of d.mode d.options file) same ∙ (ap (finish_of f.invocation.mode f.invocation.options) alike ∙ f.finished)
 
   -- the causes of the answer to a file
   file-causes : (file : File) → reading text ≡ Ok file → (status : Status) → EndedSo c.mode c.options file status → Causes words text status
@@ -122,16 +124,16 @@ module _ (words : List (List ℕ)) (text : List ℕ) (c : Command) (is : IsComma
       λ r. absurd (no-fault (reading text) file r.fault reads r.reads),
     );
     ended = (
-      λ s. record { command = c; is = is; file = file; reads = reads; finished = sym e.finished ∙ is-ended e.ending (sym e.answered ∙ s) },
+      λ s. record { invocation = c; is = is; file = file; reads = reads; finished = sym e.finished ∙ is-ended e.ending (sym e.answered ∙ s) },
       λ f. e.answered ∙ from-ended e.ending (e.finished ∙ finishes-here file reads traces.Done f),
     );
     trapped = (
       λ s. let t = is-trapped e.ending (sym e.answered ∙ s) in
-          (t.0, record { command = c; is = is; file = file; reads = reads; finished = sym e.finished ∙ t.1 }),
+          (t.0, record { invocation = c; is = is; file = file; reads = reads; finished = sym e.finished ∙ t.1 }),
       λ f. e.answered ∙ from-trapped e.ending f.0 (e.finished ∙ finishes-here file reads (traces.Halted (traces.Trapped f.0)) f.1),
     );
     limited = (
-      λ s. record { command = c; is = is; file = file; reads = reads; finished = sym e.finished ∙ is-limited e.ending (sym e.answered ∙ s) },
+      λ s. record { invocation = c; is = is; file = file; reads = reads; finished = sym e.finished ∙ is-limited e.ending (sym e.answered ∙ s) },
       λ f. e.answered ∙ from-limited e.ending (e.finished ∙ finishes-here file reads traces.Limited f),
     );
   }
@@ -139,29 +141,29 @@ module _ (words : List (List ℕ)) (text : List ℕ) (c : Command) (is : IsComma
   refused-causes : (fault : TextFault) → reading text ≡ Err fault → (status : Status) → status ≡ Refused → Causes words text status
   refused-causes fault reads status r = record {
     usage = (λ u. let bad : Refused ≡ Usage = sym r ∙ u in absurd (cc), λ none. absurd (none c is));
-    refused = (λ s. record { command = c; is = is; fault = fault; reads = reads }, λ s. r);
+    refused = (λ s. record { invocation = c; is = is; fault = fault; reads = reads }, λ s. r);
     ended = (λ s. let bad : Refused ≡ Ended = sym r ∙ s in absurd (cc), λ f. absurd (no-fault (reading text) f.file fault f.reads reads));
     trapped = (λ s. let bad : Refused ≡ Trapped = sym r ∙ s in absurd (cc), λ f. absurd (no-fault (reading text) f.1.file fault f.1.reads reads));
     limited = (λ s. let bad : Refused ≡ Limited = sym r ∙ s in absurd (cc), λ f. absurd (no-fault (reading text) f.file fault f.reads reads));
   }
 
-  command-causes : (bytes : List ℕ) (status : Status) (r : Result File TextFault) → reading text ≡ r → AnswersReading c r bytes status → Causes words text status
-  command-causes bytes status (Ok file) reads answers = file-causes file reads status (ended-so c.mode c.options file bytes status answers)
-  command-causes bytes status (Err fault) reads answers = refused-causes fault reads status answers.1
+  invocation-causes : (bytes : List ℕ) (status : Status) (r : Result File TextFault) → reading text ≡ r → AnswersReading c r bytes status → Causes words text status
+  invocation-causes bytes status (Ok file) reads answers = file-causes file reads status (ended-so c.mode c.options file bytes status answers)
+  invocation-causes bytes status (Err fault) reads answers = refused-causes fault reads status answers.1
 
-usage-causes : (words : List (List ℕ)) (text : List ℕ) → IsNoCommand words → Causes words text Usage
+usage-causes : (words : List (List ℕ)) (text : List ℕ) → IsNoInvocation words → Causes words text Usage
 usage-causes words text none = record {
   usage = (λ e. none, λ e. refl);
-  refused = (λ e. absurd (cc), λ r. absurd (none r.command r.is));
-  ended = (λ e. absurd (cc), λ f. absurd (none f.command f.is));
-  trapped = (λ e. absurd (cc), λ f. absurd (none f.1.command f.1.is));
-  limited = (λ e. absurd (cc), λ f. absurd (none f.command f.is));
+  refused = (λ e. absurd (cc), λ r. absurd (none r.invocation r.is));
+  ended = (λ e. absurd (cc), λ f. absurd (none f.invocation f.is));
+  trapped = (λ e. absurd (cc), λ f. absurd (none f.1.invocation f.1.is));
+  limited = (λ e. absurd (cc), λ f. absurd (none f.invocation f.is));
 }
 
 -- each status of an answer has its cause
 pub causes : EachHasItsCause
 causes words text bytes status (usage none) = usage-causes words text none
-causes words text bytes status (command c is b s answers) = command-causes words text c is b s (reading text) refl answers
+causes words text bytes status (invoked c is b s answers) = invocation-causes words text c is b s (reading text) refl answers
 
 -- ---- one answer
 
@@ -184,17 +186,44 @@ one-file_answer : (mode : Mode) (options : Options) (file : File) (bytes bytes' 
 one-file_answer Plain options file bytes bytes' status status' a b = one-outcome file options.steps bytes bytes' status status' a b
 one-file_answer Check options file bytes bytes' status status' a b = (a.0 ∙ sym b.0, a.1 ∙ sym b.1)
 
-one-reading_answer : (c : Command) (r : Result File TextFault) (bytes bytes' : List ℕ) (status status' : Status) → AnswersReading c r bytes status → AnswersReading c r bytes' status' → Same bytes bytes' status status'
+one-reading_answer : (c : Invocation) (r : Result File TextFault) (bytes bytes' : List ℕ) (status status' : Status) → AnswersReading c r bytes status → AnswersReading c r bytes' status' → Same bytes bytes' status status'
 one-reading_answer c (Ok file) bytes bytes' status status' a b = one-file_answer c.mode c.options file bytes bytes' status status' a b
 one-reading_answer c (Err fault) bytes bytes' status status' a b = (a.0 ∙ sym b.0, a.1 ∙ sym b.1)
 
 -- words and a text have at most one answer
-pub at_most_one_answer : OneAnswer
+at_most_one_answer : (words : List (List ℕ)) (text bytes bytes' : List ℕ) (status status' : Status) → IsAnswer words text bytes status → IsAnswer words text bytes' status' → Same bytes bytes' status status'
 at_most_one_answer words text bytes bytes' status status' (usage n) (usage m) = (refl, refl)
-at_most_one_answer words text bytes bytes' status status' (usage n) (command d is b s a) = absurd (n d is)
-at_most_one_answer words text bytes bytes' status status' (command c is b s a) (usage n) = absurd (n c is)
-at_most_one_answer words text bytes bytes' status status' (command c is b s a) (command d is' b' s' a') =
-    one-reading_answer c (reading text) b b' s s' a (subst (λ (x : Command). AnswersReading x (reading text) b' s') (sym (one_command words c d is is')) a')
+at_most_one_answer words text bytes bytes' status status' (usage n) (invoked d is b s a) = absurd (n d is)
+at_most_one_answer words text bytes bytes' status status' (invoked c is b s a) (usage n) = absurd (n c is)
+at_most_one_answer words text bytes bytes' status status' (invoked c is b s a) (invoked d is' b' s' a') =
+    one-reading_answer c (reading text) b b' s s' a (subst (λ (x : Invocation). AnswersReading x (reading text) b' s') (sym (one_invocation words c d is is')) a')
+
+-- and one at least
+Answered_by : List (List ℕ) → List ℕ → Type 0
+Answered_by words text = (bytes : List ℕ) × (status : Status) × IsAnswer words text bytes status
+
+a-file_answer : (mode : Mode) (options : Options) (file : File) → (bytes : List ℕ) × (status : Status) × AnswersFile mode options file bytes status
+a-file_answer Plain options file =
+    let run = run_of_file file options.steps in
+    let e = plain_run-finishes (nests_of file) (first_store file) options.steps in
+    let runs = longest_runs run.store.memory in
+    (outcome_lines (scalar_names file) run.store.scalars runs.0 e.0 run.steps, status_of e.0, record { ending = e.0; ended = e.1; written = (runs.0, runs.1, refl); answered = refl })
+a-file_answer Check options file = (canonical file, Ended, (refl, refl))
+
+a-reading_answer : (c : Invocation) (r : Result File TextFault) → (bytes : List ℕ) × (status : Status) × AnswersReading c r bytes status
+a-reading_answer c (Ok file) = a-file_answer c.mode c.options file
+a-reading_answer c (Err fault) = (refusal_line fault, Refused, (refl, refl))
+
+an-answer : (words : List (List ℕ)) (text : List ℕ) → Answered_by words text
+unfolding Answered_by
+an-answer words text = elim (invocation_or_none words) [
+  | inl i ↦ (let a = a-reading_answer i.0 (reading text) in (a.0, a.1, invoked i.0 i.1 a.0 a.1 a.2))
+  | inr none ↦ (usage_line, Usage, usage none)
+]
+
+pub one-answer : OneAnswer
+unfolding Answered_by
+one-answer words text = let a = an-answer words text in (a.0, a.1, a.2, λ other another h. at_most_one_answer words text other a.0 another a.1 h a.2)
 
 -- ---- what the calls use
 
@@ -210,13 +239,13 @@ of-an-ending ending.Ended = tt
 of-an-ending (ending.Trapped trap) = tt
 of-an-ending ending.Limited = tt
 
-of-reading : (c : Command) (r : Result File TextFault) (bytes : List ℕ) (status : Status) → AnswersReading c r bytes status → IsOfAnswer status
+of-reading : (c : Invocation) (r : Result File TextFault) (bytes : List ℕ) (status : Status) → AnswersReading c r bytes status → IsOfAnswer status
 of-reading c (Ok file) bytes status a = let e = ended-so c.mode c.options file bytes status a in subst IsOfAnswer (sym e.answered) (of-an-ending e.ending)
 of-reading c (Err fault) bytes status a = subst IsOfAnswer (sym a.1) tt
 
 of-answer : (words : List (List ℕ)) (text bytes : List ℕ) (status : Status) → IsAnswer words text bytes status → IsOfAnswer status
 of-answer words text bytes status (usage n) = tt
-of-answer words text bytes status (command c is b s a) = of-reading c (reading text) b s a
+of-answer words text bytes status (invoked c is b s a) = of-reading c (reading text) b s a
 
 -- no answer has the status of a fault
 pub answer-no_sink_fault : (words : List (List ℕ)) (text bytes : List ℕ) (status : Status) → IsAnswer words text bytes status → status ≡ SinkFault → ⊥
@@ -225,13 +254,16 @@ answer-no_sink_fault words text bytes status a e = subst IsOfAnswer e (of-answer
 pub answer-no_source_fault : (words : List (List ℕ)) (text bytes : List ℕ) (status : Status) → IsAnswer words text bytes status → status ≡ SourceFault → ⊥
 answer-no_source_fault words text bytes status a e = subst IsOfAnswer e (of-answer words text bytes status a)
 
+pub answer-no_memory : (words : List (List ℕ)) (text bytes : List ℕ) (status : Status) → IsAnswer words text bytes status → status ≡ NoMemory → ⊥
+answer-no_memory words text bytes status a e = subst IsOfAnswer e (of-answer words text bytes status a)
+
 -- a text that a source may have given
 text-of : (left : Option (List ℕ)) → (text : List ℕ) × IsTextOf left text
 text-of None = ([], tt)
 text-of (Some bytes) = (text_taken bytes, refl)
 
--- words that are no command have their answer at once
-pub usage-prepared : (words : List (List ℕ)) (left : Option (List ℕ)) (bytes : List ℕ) (status : Status) → IsNoCommand words → (bytes ≡ usage_line) × (status ≡ Usage) → Prepared words left bytes status
+-- words that are no invocation have their answer at once
+pub usage-prepared : (words : List (List ℕ)) (left : Option (List ℕ)) (bytes : List ℕ) (status : Status) → IsNoInvocation words → (bytes ≡ usage_line) × (status ≡ Usage) → Prepared words left bytes status
 usage-prepared words left bytes status none is =
     let t = text-of left in
     let at : IsAnswer words t.0 usage_line Usage = usage none in
@@ -249,18 +281,13 @@ ok-map P Q go (Err e) p = tt
 same-natural : (m n : ℕ) → pos m ≡ pos n → m ≡ n
 same-natural m n e = cc
 
--- the steps of a command
-pub steps-most : (words : List (List ℕ)) (c : Command) → IsCommand words c → c.options.steps ≤ 2 ^ 32
+-- the steps of an invocation
+pub steps-most : (words : List (List ℕ)) (c : Invocation) → IsInvocation words c → c.options.steps ≤ 2 ^ 32
 steps-most words c is =
     let given = is.found.options.steps.is in
     let value : c.options.steps ≡ digits_value 10 is.found.options.steps.text = same-natural _ _ given.value in
     omega (arith, given.upto, value)
 
--- what was made is answered, unless memory was refused
-pub unless-refused : {E : Type 0} (P : Answer → Type 0) (made : Result Answer E) (r : Result Answer Unanswered) → MatchResult made (λ a. r ≡ Ok a) (λ _. r ≡ Err OutOfMemory) → IfOk made P → IfOk r P
-unless-refused P (Ok a) r is h = subst (λ (x : Result Answer Unanswered). IfOk x P) (sym is) h
-unless-refused P (Err e) r is h = subst (λ (x : Result Answer Unanswered). IfOk x P) (sym is) tt
-
--- a command has its answer to the text
-pub command-prepared : (words : List (List ℕ)) (left : Option (List ℕ)) (c : Command) (text bytes : List ℕ) (status : Status) → IsCommand words c → IsTextOf left text → AnswersReading c (reading text) bytes status → Prepared words left bytes status
-command-prepared words left c text bytes status is taken answers = record { text = text; taken = taken; answer = command c is bytes status answers }
+-- an invocation has its answer to the text
+pub invocation-prepared : (words : List (List ℕ)) (left : Option (List ℕ)) (c : Invocation) (text bytes : List ℕ) (status : Status) → IsInvocation words c → IsTextOf left text → AnswersReading c (reading text) bytes status → Prepared words left bytes status
+invocation-prepared words left c text bytes status is taken answers = record { text = text; taken = taken; answer = invoked c is bytes status answers }

@@ -1,2 +1,3 @@
+pub mod TrapsOnly
 pub mod AnswerLemmas
 pub mod PlainLemmas

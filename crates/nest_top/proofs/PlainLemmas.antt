@@ -1,4 +1,4 @@
--- The loops over the parts of a file: over its nests, and over the names of its scalars.
+-- The loop over the nests of a file.
 use Rattle.std.proofs.Common.{◌≡◌, ◌∙◌, refl, ap, ap₂, sym, ℕ, ◌+◌, ◌<◌, ◌≤◌, suc, List, [], ◌∷◌, ◌++◌, length, map, take, drop, Some, None, inl, inr, arith, get_or, drop-cons}
 use Rattle.std.specs.Prelude.{slice_get}
 use Rattle.std.proofs.lemmas.Option.{slice_get_cases}
@@ -8,7 +8,7 @@ use Rattle.nest_lang.specs.declared.budget.Ending.{Ending}
 use Rattle.nest_lang.specs.declared.budget.Ending.TheVariants as ending
 use Rattle.nest_lang.specs.Stores.{Store}
 use Rattle.nest_lang.specs.Traces.{Finish, Done, cut, cut_of}
-use Rattle.nest_lang.specs.Runs.{finish_by, nest_trace, nests_trace, plain_run, run_of}
+use Rattle.nest_lang.specs.Runs.{finish_of_ending, nest_trace, nests_trace, plain_run, run_of}
 use Rattle.plain_interp.proofs.Several.{rest_of_run, plain_run-rest, rest_of_run-end, rest_of_run-next, rest_of_run-out}
 
 -- the element at a place, and what is behind it
@@ -36,7 +36,7 @@ pub record Left (nests : List Nest) (number : ℕ) (s t : Store) (left used left
 
 -- a nest that was run from a store to another
 pub record NestRan (nest : Nest) (s t : Store) (left used left' used' : ℕ) (e : Ending) : Type 0 where
-  pub ran : (k : ℕ) → left < k → cut_of t left' used' (finish_by e) ≡ cut (nest_trace k nest.loops s) s left used
+  pub ran : (k : ℕ) → left < k → cut_of t left' used' (finish_of_ending e) ≡ cut (nest_trace k nest.loops s) s left used
   pub kept : left' + used' ≡ left + used
   pub fewer : left' ≤ left
   pub scalars : length t.scalars ≡ length s.scalars
@@ -47,7 +47,7 @@ module _ (nests : List Nest) (number : ℕ) (s t : Store) (left used left' used'
     unfolding rest_of_run
     left-next ended = record {
       rest = λ k more.
-          let ran : cut_of u left'' used'' Done ≡ cut (nest_trace k nest.loops t) t left' used' = ap (λ (x : Ending). cut_of u left'' used'' (finish_by x)) (sym ended) ∙ run.ran k (omega (arith, more, before.fewer)) in
+          let ran : cut_of u left'' used'' Done ≡ cut (nest_trace k nest.loops t) t left' used' = ap (λ (x : Ending). cut_of u left'' used'' (finish_of_ending x)) (sym ended) ∙ run.ran k (omega (arith, more, before.fewer)) in
           rest_of_run-next k nest (drop (number + 1) nests) t u left' used' left'' used'' ran
           ∙ ap (λ (ns : List Nest). cut (nests_trace k ns t) t left' used') (sym (drop-at nests number nest here))
           ∙ before.rest k more;
@@ -56,14 +56,14 @@ module _ (nests : List Nest) (number : ℕ) (s t : Store) (left used left' used'
       scalars = run.scalars ∙ before.scalars;
     }
 
-    pub left-out : (e ≡ ending.Ended → ⊥) → (k : ℕ) → left < k → cut_of u left'' used'' (finish_by e) ≡ cut (nests_trace k nests s) s left used
+    pub left-out : (e ≡ ending.Ended → ⊥) → (k : ℕ) → left < k → cut_of u left'' used'' (finish_of_ending e) ≡ cut (nests_trace k nests s) s left used
     unfolding rest_of_run
     left-out out k more =
-        rest_of_run-out k nest (drop (number + 1) nests) t u left' used' left'' used'' (finish_by e) (λ done. out (only-ended e done)) (run.ran k (omega (arith, more, before.fewer)))
+        rest_of_run-out k nest (drop (number + 1) nests) t u left' used' left'' used'' (finish_of_ending e) (λ done. out (only-ended e done)) (run.ran k (omega (arith, more, before.fewer)))
         ∙ ap (λ (ns : List Nest). cut (nests_trace k ns t) t left' used') (sym (drop-at nests number nest here))
         ∙ before.rest k more
       where
-        only-ended : (x : Ending) → finish_by x ≡ Done → x ≡ ending.Ended
+        only-ended : (x : Ending) → finish_of_ending x ≡ Done → x ≡ ending.Ended
         only-ended ending.Ended h = refl
         only-ended (ending.Trapped trap) h = absurd (cc)
         only-ended ending.Limited h = absurd (cc)
@@ -83,14 +83,3 @@ pub nests-ran : (nests : List Nest) (s t : Store) (n left used : ℕ) (e : Finis
     → record { store = t; ending = e; steps = used } ≡ plain_run nests s n
 unfolding rest_of_run
 nests-ran nests s t n left used e ran = ap run_of ran ∙ plain_run-rest nests s n
-
--- one more name
-pub names-next : {A : Type 0} (text_of : A → List ℕ) (names : List A) (texts : List (List ℕ)) (k : ℕ) (name : A) (text : List ℕ) → map text_of names ≡ take k texts → slice_get texts k ≡ Some text → text_of name ≡ text
-    → map text_of (names ++ name ∷ []) ≡ take (k + 1) texts
-names-next text_of names texts k name text before here is =
-    let at = element-at texts k text here in
-    map-append text_of names name ∙ ap₂ (λ xs y. xs ++ y ∷ []) before (is ∙ sym at.1) ∙ sym (take_more texts k text at.0)
-  where
-    map-append : {B : Type 0} (f : B → List ℕ) (xs : List B) (y : B) → map f (xs ++ y ∷ []) ≡ map f xs ++ f y ∷ []
-    map-append f [] y = refl
-    map-append f (x ∷ xs) y = ap (λ ys. f x ∷ ys) (map-append f xs y)

@@ -5,7 +5,7 @@ use Rattle.nest_lang.specs.declared.budget.Ending.TheVariants as ending
 use Rattle.nest_lang.specs.declared.tree.Trap.{Trap}
 use Rattle.nest_lang.specs.Traces as traces
 use Rattle.nest_lang.specs.Traces.{Finish}
-use Rattle.nest_lang.specs.Runs.{Run, plain_run, finish_by}
+use Rattle.nest_lang.specs.Runs.{Run, plain_run, finish_of_ending}
 use Rattle.nest_grammar.specs.declared.fault.TextFault.{TextFault}
 use Rattle.nest_grammar.specs.declared.file.File.{File}
 use Rattle.nest_grammar.specs.Files.{first_store, nests_of}
@@ -14,13 +14,17 @@ use Rattle.canonical.specs.Contents.{canonical}
 use Rattle.nest_text.specs.Files.{scalar_names}
 use Rattle.report.specs.Faults.{refusal_line}
 use Rattle.report.specs.Outcomes.{IsOutcome}
-use Rattle.command_line.specs.declared.command.Command.{Command}
-use Rattle.command_line.specs.declared.command.Mode.{Mode}
-use Rattle.command_line.specs.declared.command.Mode.TheVariants.{Plain, Check}
-use Rattle.command_line.specs.declared.command.Options.{Options}
-use Rattle.command_line.specs.Commands.{IsCommand, IsNoCommand, usage_line}
+use Rattle.command_line.specs.declared.invocation.Invocation.{Invocation}
+use Rattle.command_line.specs.declared.invocation.Mode.{Mode}
+use Rattle.command_line.specs.declared.invocation.Mode.TheVariants.{Plain, Check}
+use Rattle.command_line.specs.declared.invocation.Options.{Options}
+use Rattle.command_line.specs.Invocations.{IsInvocation, IsNoInvocation, usage_line}
 use Rattle.nest_top.specs.declared.status.Status.{Status}
 use Rattle.nest_top.specs.declared.status.Status.TheVariants.{Ended, Trapped, Limited, Refused, Usage, SourceFault, SinkFault, NoMemory}
+use Rattle.nest_io.specs.declared.refusals.ReadEnd.{ReadEnd}
+use Rattle.nest_io.specs.declared.refusals.ReadEnd.TheVariants as end
+use Rattle.nest_top.specs.declared.unanswered.Unanswered.{Unanswered}
+use Rattle.nest_top.specs.declared.unanswered.Unanswered.TheVariants as unanswered
 use Rattle.nest_top.specs.Texts.{IsTextOf}
 
 -- the status of a run that ended so
@@ -36,7 +40,7 @@ run_of_file file steps = plain_run (nests_of file) (first_store file) steps
 -- bytes and a status are those of the plain run of a file within so many steps
 pub record IsOutcomeOf (file : File) (steps : ℕ) (bytes : List ℕ) (status : Status) : Type 0 where
   pub ending : Ending
-  pub ended : finish_by ending ≡ (run_of_file file steps).ending
+  pub ended : finish_of_ending ending ≡ (run_of_file file steps).ending
   pub written : IsOutcome (scalar_names file) (run_of_file file steps).store ending (run_of_file file steps).steps bytes
   pub answered : status ≡ status_of ending
 
@@ -46,17 +50,17 @@ abbrev pub AnswersFile : Mode → Options → File → List ℕ → Status → T
 AnswersFile Plain options file bytes status = IsOutcomeOf file options.steps bytes status
 AnswersFile Check options file bytes status = (bytes ≡ canonical file) × (status ≡ Ended)
 
--- bytes and a status are the answer of a command to what a text reads as: the line of its first fault, or
+-- bytes and a status are the answer of an invocation to what a text reads as: the line of its first fault, or
 -- the answer to its file
-abbrev pub AnswersReading : Command → Result File TextFault → List ℕ → Status → Type 0
-AnswersReading command (Err fault) bytes status = (bytes ≡ refusal_line fault) × (status ≡ Refused)
-AnswersReading command (Ok file) bytes status = AnswersFile command.mode command.options file bytes status
+abbrev pub AnswersReading : Invocation → Result File TextFault → List ℕ → Status → Type 0
+AnswersReading invocation (Err fault) bytes status = (bytes ≡ refusal_line fault) × (status ≡ Refused)
+AnswersReading invocation (Ok file) bytes status = AnswersFile invocation.mode invocation.options file bytes status
 
--- The answer of words and a text: words that are no command give the usage line, and a command what it
+-- The answer of words and a text: words that are no invocation give the usage line, and an invocation what it
 -- answers to what the text reads as.
 pub data IsAnswer (words : List (List ℕ)) (text : List ℕ) : List ℕ → Status → Type 0 where
-  usage : IsNoCommand words → IsAnswer words text usage_line Usage
-  command : (c : Command) → IsCommand words c → (bytes : List ℕ) (status : Status) → AnswersReading c (reading text) bytes status → IsAnswer words text bytes status
+  usage : IsNoInvocation words → IsAnswer words text usage_line Usage
+  invoked : (c : Invocation) → IsInvocation words c → (bytes : List ℕ) (status : Status) → AnswersReading c (reading text) bytes status → IsAnswer words text bytes status
 
 -- the call answered: no fault and no want of memory stands in place of the answer
 abbrev pub Answered : Status → Type 0
@@ -65,30 +69,30 @@ Answered SinkFault = ⊥
 Answered NoMemory = ⊥
 Answered status = Unit {0}
 
--- how the run of a command on a file finishes: in mode `plain` the plain run; mode `check` runs nothing
+-- how the run of an invocation on a file finishes: in mode `plain` the plain run; mode `check` runs nothing
 -- and is done
 abbrev pub finish_of : Mode → Options → File → Finish
 finish_of Plain options file = (run_of_file file options.steps).ending
 finish_of Check options file = traces.Done
 
--- the words are a command, the text reads as a file, and the command's run on it finishes so
+-- the words are an invocation, the text reads as a file, and the invocation's run on it finishes so
 pub record Finishes (words : List (List ℕ)) (text : List ℕ) (finish : Finish) : Type 0 where
-  pub command : Command
-  pub is : IsCommand words command
+  pub invocation : Invocation
+  pub is : IsInvocation words invocation
   pub file : File
   pub reads : reading text ≡ Ok file
-  pub finished : finish_of command.mode command.options file ≡ finish
+  pub finished : finish_of invocation.mode invocation.options file ≡ finish
 
--- the words are a command, and the text has a fault
+-- the words are an invocation, and the text has a fault
 pub record IsRefused (words : List (List ℕ)) (text : List ℕ) : Type 0 where
-  pub command : Command
-  pub is : IsCommand words command
+  pub invocation : Invocation
+  pub is : IsInvocation words invocation
   pub fault : TextFault
   pub reads : reading text ≡ Err fault
 
 -- when each status is the answer's
 pub record Causes (words : List (List ℕ)) (text : List ℕ) (status : Status) : Type 0 where
-  pub usage : (status ≡ Usage) ↔ IsNoCommand words
+  pub usage : (status ≡ Usage) ↔ IsNoInvocation words
   pub refused : (status ≡ Refused) ↔ IsRefused words text
   pub ended : (status ≡ Ended) ↔ Finishes words text traces.Done
   pub trapped : (status ≡ Trapped) ↔ ((trap : Trap) × Finishes words text (traces.Halted (traces.Trapped trap)))
@@ -99,6 +103,11 @@ abbrev pub Reading : Status → Type 0
 Reading SourceFault = ⊥
 Reading NoMemory = ⊥
 Reading status = Unit {0}
+
+-- why there is no answer where the source was not read
+abbrev pub unanswered_by : ReadEnd → Unanswered
+unanswered_by end.Fault = unanswered.SourceFault
+unanswered_by end.NoMemory = unanswered.NoMemory
 
 -- an answer that was made, and not yet written
 pub record Prepared (words : List (List ℕ)) (left : Option (List ℕ)) (bytes : List ℕ) (status : Status) : Type 0 where

@@ -1,3 +1,5 @@
 pub mod Texts
 pub mod Answers
+pub mod Exits
+pub mod Runs
 pub mod Laws

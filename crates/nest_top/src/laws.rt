@@ -2,7 +2,7 @@
 
 ghost use Rattle.nest_top.specs.Laws.{OneAnswer, EachHasItsCause};
 
-/// Words and a text have at most one answer.
+/// Words and a text have exactly one answer: bytes and a status.
 pub fn one_answer()
     ensures { OneAnswer }
 {}

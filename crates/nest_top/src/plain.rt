@@ -1,14 +1,13 @@
 //! Mode `plain`: the outcome of the plain run of a file.
 
-ghost use Rattle.std.specs.Prelude.{◌≡◌, ◌+◌, ◌<◌, ◌≤◌, ◌^◌, ℕ, IfOk, length, map, string_bytes};
-ghost use Rattle.nest_lang.specs.Runs.{nests_trace, finish_by};
+ghost use Rattle.std.specs.Prelude.{◌≡◌, ◌+◌, ◌<◌, ◌≤◌, ◌^◌, ℕ, IfOk, length};
+ghost use Rattle.nest_lang.specs.Runs.{nests_trace, finish_of_ending};
 ghost use Rattle.nest_lang.specs.Traces.{cut, cut_of};
 ghost use Rattle.nest_grammar.specs.Files.{nests_of};
 ghost use Rattle.nest_top.specs.Answers as answers;
-ghost use Rattle.nest_text.specs.Files.{scalar_names};
 ghost use Rattle.nest_top.specs.Answers.{IsOutcomeOf};
 
-use crate::answer::{Answer, NoMemory};
+use crate::answer::Answer;
 use crate::status::Status;
 use nest_lang::{Budget, Ending, State};
 use nest_text::NestFile;
@@ -17,18 +16,17 @@ use report::outcome_text;
 use std::alloc::{AllocError, Global};
 
 /// The outcome of the plain run of a file within so many steps, at most 2^32.
-pub(crate) fn plain(alloc: Global, file: &NestFile, steps: u64) -> Result<Answer, NoMemory>
+pub(crate) fn plain(alloc: Global, file: &NestFile, steps: u64) -> Result<Answer, AllocError>
     requires { steps ≤ 2 ^ 32 }
     ensures { IfOk result (λ answer. IsOutcomeOf file.now steps answer.bytes.items answer.status) }
 {
     let mut state = file.start(alloc)?;
-    let names = scalar_names(alloc, file, state.scalars.len())?;
     let mut budget = Budget {
         left: steps,
         used: 0,
     };
     let ending = run_nests(file, &mut state, &mut budget);
-    let bytes = outcome_text(alloc, names.as_slice(), &state, &ending, budget.used)?;
+    let bytes = outcome_text(alloc, file, &state, &ending, budget.used)?;
     Ok(Answer {
         bytes,
         status: status_of(ending),
@@ -39,7 +37,7 @@ pub(crate) fn plain(alloc: Global, file: &NestFile, steps: u64) -> Result<Answer
 fn run_nests(file: &NestFile, state: &mut State, steps: &mut Budget) -> Ending
     requires steps { steps.old.left + steps.old.used ≤ 2 ^ 32 }
     requires scalars { length state.old.scalars ≤ 256 }
-    ensures ran { (k : ℕ) → steps.old.left < k → cut_of state.new steps.new.left steps.new.used (finish_by result)
+    ensures ran { (k : ℕ) → steps.old.left < k → cut_of state.new steps.new.left steps.new.used (finish_of_ending result)
         ≡ cut (nests_trace k (nests_of file.now) state.old) state.old steps.old.left steps.old.used }
     ensures scalars { length state.new.scalars ≡ length state.old.scalars }
 {
@@ -53,22 +51,6 @@ fn run_nests(file: &NestFile, state: &mut State, steps: &mut Budget) -> Ending
         }
     }
     Ending::Ended
-}
-
-/// The names of a file's scalars, of which there are so many.
-fn scalar_names(alloc: Global, file: &NestFile, count: usize) -> Result<Vec<String>, AllocError>
-    requires count { count ≡ length (scalar_names file.now) }
-    requires few { count ≤ 16 }
-    ensures { IfOk result (λ names. map string_bytes names.items ≡ scalar_names file.now) }
-{
-    let mut names = Vec::new(alloc);
-    'names: for number in 0..count {
-        let Some(name) = file.scalar_name(number as u8) else {
-            unreachable!()
-        };
-        names.push(String::from_str(alloc, name)?)?;
-    }
-    Ok(names)
 }
 
 /// The status of a run that ended so.

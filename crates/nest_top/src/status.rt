@@ -1,5 +1,8 @@
 //! Statuses: how a call of the program went.
 
+ghost use Rattle.std.specs.Prelude.{◌≡◌};
+ghost use Rattle.nest_top.specs.Exits.{exit_code};
+
 /// What `nest_run` answers.
 #[derive(Clone, Copy, Debug, PartialEq, Eq)]
 pub enum Status {
@@ -19,4 +22,22 @@ pub enum Status {
     Limited,
     /// The words are no command.
     Usage,
+}
+
+impl Status {
+    /// The exit of the program (docs/LANGUAGE.md, Exits).
+    pub fn exit(self) -> u8
+        ensures { result ≡ exit_code self }
+    {
+        match self {
+            Status::Ended => 0,
+            Status::Refused => 2,
+            Status::SourceFault => 3,
+            Status::SinkFault => 4,
+            Status::NoMemory => 5,
+            Status::Trapped => 10,
+            Status::Limited => 11,
+            Status::Usage => 64,
+        }
+    }
 }

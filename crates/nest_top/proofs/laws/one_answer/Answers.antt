@@ -1,5 +1,5 @@
-use Rattle.nest_top.proofs.AnswerLemmas.{at_most_one_answer}
+use Rattle.nest_top.proofs.AnswerLemmas.{one-answer}
 use Rattle.nest_top.proofs.laws.one_answer.Goals as goal
 
 pub returns : goal.returns
-returns c = at_most_one_answer
+returns c = one-answer

@@ -1,5 +1,5 @@
 use Rattle.std.proofs.Common.{◌≡◌, ◌∙◌, ◌+◌, ap, subst, map, string_bytes, List, ℕ, arith}
-use Rattle.nest_lang.specs.Runs.{Run, finish_by, plain_run}
+use Rattle.nest_lang.specs.Runs.{Run, finish_of_ending, plain_run}
 use Rattle.nest_grammar.specs.Files.{nests_of}
 use Rattle.report.specs.Outcomes.{IsOutcome}
 use Rattle.nest_text.specs.Files.{scalar_names}
@@ -14,14 +14,13 @@ returns c =
     let store = c.run_nests-ending.new.state in
     let used = c.run_nests-ending.new.steps.used in
     let bytes = c.in_ok-bytes.bytes.items in
-    let run : record { store = store; ending = finish_by ending; steps = used } ≡ run_of_file c.args.file.now c.args.steps =
+    let run : record { store = store; ending = finish_of_ending ending; steps = used } ≡ run_of_file c.args.file.now c.args.steps =
     nests-ran nests c.in_ok-state.state store c.args.steps _ used _ (c.run_nests-ending.ensures.ran (c.args.steps + 1) (omega arith))
     ∙ ap (λ s. plain_run nests s c.args.steps) c.in_ok-state.ensures.store in
-    let names : map string_bytes c.as_slice.result.now ≡ scalar_names c.args.file.now = ap (map string_bytes) c.as_slice.ensures.value ∙ c.in_ok-names.ensures in
     record {
       ending = ending;
       ended = ap (λ (r : Run). r.ending) run;
       written = subst (λ (r : Run). IsOutcome (scalar_names c.args.file.now) r.store ending r.steps bytes) run
-          (subst (λ (ns : List (List ℕ)). IsOutcome ns store ending used bytes) names c.in_ok-bytes.ensures);
+          c.in_ok-bytes.ensures;
       answered = c.status_of.ensures;
     }
