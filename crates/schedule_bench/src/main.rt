@@ -1,0 +1,59 @@
+//! Schedules a square of points over two loops and writes the exclusive or of the numbers that come of it. It stands
+//! on `transform` alone, and is what bench/schedules.sh measures.
+#![tactic(auto)]
+
+use nest_lang::Command;
+use std::io;
+use transform::{Schedule, schedule_of};
+
+/// The side of the square.
+const SIDE: i64 = 1_001;
+
+fn main(rt: HostRuntime) -> io::Result<()> {
+    let script = [
+        Command::Skew(2, 1, 1),
+        Command::Tile(1, 4),
+        Command::Tile(2, 4),
+    ];
+    if let Some(schedule) = schedule_of::<2>(&script) {
+        let numbers = places(&schedule) ^ tiles(&schedule) ^ phases(&schedule);
+        println!(rt; "{numbers}")?;
+    }
+    Ok(())
+}
+
+/// The places of the square.
+fn places(schedule: &Schedule<2>) -> i128 {
+    let mut numbers = 0;
+    for i in 0..SIDE {
+        for j in 0..SIDE {
+            let place = schedule.place_of(&[i, j]);
+            numbers ^= place[0] ^ place[1];
+        }
+    }
+    numbers
+}
+
+/// The tiles of the square.
+fn tiles(schedule: &Schedule<2>) -> i128 {
+    let mut numbers = 0;
+    for i in 0..SIDE {
+        for j in 0..SIDE {
+            let tile = schedule.tile_of(&[i, j]);
+            numbers ^= tile[0] ^ tile[1];
+        }
+    }
+    numbers
+}
+
+/// The keys of the square.
+fn phases(schedule: &Schedule<2>) -> i128 {
+    let mut numbers = 0;
+    for i in 0..SIDE {
+        for j in 0..SIDE {
+            let key = schedule.phase_of(&[i, j]);
+            numbers ^= key.lead[0] ^ key.wave;
+        }
+    }
+    numbers
+}
