@@ -1,0 +1,5 @@
+use Rattle.follow.proofs.Saying.{chain-law}
+use Rattle.follow.proofs.laws.chain.Goals as goal
+
+pub returns : goal.returns
+returns c = chain-law

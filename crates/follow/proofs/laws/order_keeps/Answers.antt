@@ -1,0 +1,5 @@
+use Rattle.follow.proofs.Reordering.{order-keeps}
+use Rattle.follow.proofs.laws.order_keeps.Goals as goal
+
+pub returns : goal.returns
+returns c = order-keeps

@@ -1,0 +1,17 @@
+use Rattle.follow.proofs.Ranking.{original-order}
+use Rattle.follow.proofs.Having.{planned-some}
+use Rattle.follow.proofs.Beginning.{planned-first}
+use Rattle.follow.proofs.Finding.{planned-by_instance}
+use Rattle.follow.proofs.laws.planned_in_order.Goals as goal
+
+pub returns-clause-ordered : goal.returns-clause-ordered
+returns-clause-ordered c = original-order
+
+pub returns-clause-some : goal.returns-clause-some
+returns-clause-some c = planned-some
+
+pub returns-clause-first : goal.returns-clause-first
+returns-clause-first c = planned-first
+
+pub returns-clause-each : goal.returns-clause-each
+returns-clause-each c = planned-by_instance

@@ -1,0 +1,5 @@
+use Rattle.follow.proofs.Reordering.{swap-keeps}
+use Rattle.follow.proofs.laws.swap_keeps.Goals as goal
+
+pub returns : goal.returns
+returns c = swap-keeps

@@ -1,0 +1,13 @@
+pub mod Forecasts
+pub mod Reaches
+pub mod Plans
+pub mod FollowRuns
+pub mod ChunkRuns
+pub mod Deviations
+pub mod OriginalOrder
+pub mod Successors
+pub mod ChainLaw
+pub mod Instances
+pub mod PlannedLaws
+pub mod Footprints
+pub mod ReorderLaws

@@ -1,0 +1,9 @@
+pub mod Swaps
+pub mod Lists
+pub mod Permutations
+pub mod Lifts
+pub mod Beside
+pub mod Sorts
+pub mod Shares
+pub mod Writes
+pub mod Chains
