@@ -1,0 +1,4 @@
+pub mod IntegerLaws
+pub mod ListLaws
+pub mod MembershipLaws
+pub mod OrderLaws
