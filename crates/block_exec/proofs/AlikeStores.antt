@@ -11,27 +11,12 @@ use Rattle.nest_lang.specs.declared.observe.Stop.TheVariants.{Outside, Unexpecte
 use Rattle.nest_lang.specs.Values.{same}
 use Rattle.nest_lang.specs.Stores.{Store, store_of, word_at, Effect, Nothing, Local, Scalar, Word, effect_on}
 use Rattle.nest_lang.specs.Lookups.{Interval, Expectation, lies_in, line_of, look, look_load, look_store, word_or_outside}
-use Rattle.nest_lang.specs.Traces.{Observation, Entry, Halt, Trace, after_all, joined, and_then, in_turn, Step, step_of, traced}
+use Rattle.nest_lang.specs.Traces.{Observation, Entry, Halt, Trace, after_all, joined, and_then, in_turn, Transition, step_of, traced}
 use Rattle.nest_lang.specs.Expressions.{Frame, shown, Told, told, told_by, or_stopped}
 use Rattle.nest_lang.specs.Statements.{with_value, stored, statement_level, statement_trace, block_trace}
+use Rattle.plain_lemmas.proofs.ListLaws.{slice_get-set, is_some-slice_get}
 use Rattle.block_exec.specs.Laws.{IsLoaded, AlikeWhereLoaded, DependsWhereLoaded}
 use Rattle.block_exec.proofs.EveryBlock.{every_block}
-
-get_set : (m w : List ℤ) (i n : ℕ) (v : ℤ) → length m ≡ length w → slice_get m n ≡ slice_get w n → slice_get (set m i v) n ≡ slice_get (set w i v) n
-get_set [] [] i n v size h = h
-get_set [] (y ∷ ys) i n v size h = absurd (omega arith)
-get_set (x ∷ xs) [] i n v size h = absurd (omega arith)
-get_set (x ∷ xs) (y ∷ ys) zero zero v size h = refl
-get_set (x ∷ xs) (y ∷ ys) zero (suc n) v size h = h
-get_set (x ∷ xs) (y ∷ ys) (suc i) zero v size h = h
-get_set (x ∷ xs) (y ∷ ys) (suc i) (suc n) v size h = get_set xs ys i n v (omega arith) h
-
-is_some_both : (m w : List ℤ) (n : ℕ) → length m ≡ length w → is_some (slice_get m n) ≡ is_some (slice_get w n)
-is_some_both [] [] n size = refl
-is_some_both [] (y ∷ ys) n size = absurd (omega arith)
-is_some_both (x ∷ xs) [] n size = absurd (omega arith)
-is_some_both (x ∷ xs) (y ∷ ys) zero size = refl
-is_some_both (x ∷ xs) (y ∷ ys) (suc n) size = is_some_both xs ys n (omega arith)
 
 module _ (f : Frame) (verified : f.expects.verifies ≡ true) where
   pub record StoreAlike (s t : Store) : Type 0 where
@@ -40,7 +25,7 @@ module _ (f : Frame) (verified : f.expects.verifies ≡ true) where
     pub memory : AlikeWhereLoaded f.expects s.memory t.memory
 
   set_alike : (m w : List ℤ) (i : ℕ) (v : ℤ) → AlikeWhereLoaded f.expects m w → AlikeWhereLoaded f.expects (set m i v) (set w i v)
-  set_alike m w i v h = (length-set m i v ∙ h.0 ∙ sym (length-set w i v), λ n k. get_set m w i n v h.0 (h.1 n k))
+  set_alike m w i v h = (length-set m i v ∙ h.0 ∙ sym (length-set w i v), λ n k. slice_get-set m w i n v h.0 (h.1 n k))
 
   effect_alike : (s t : Store) (e : Effect) → StoreAlike s t → StoreAlike (effect_on s e) (effect_on t e)
   effect_alike s t Nothing h = h
@@ -83,7 +68,7 @@ module _ (f : Frame) (verified : f.expects.verifies ≡ true) where
   stored_alike seen access z v m w size = by_test (f.expects.verifies && not (lies_in (f.expects.stores access) z))
     where
       found : (z : ℤ) → stored seen z v (or_stopped access (word_or_outside z (word_at m z))) ≡ stored seen z v (or_stopped access (word_or_outside z (word_at w z)))
-      found (pos n) = word_stored seen access (pos n) v (slice_get m n) (slice_get w n) (is_some_both m w n size)
+      found (pos n) = word_stored seen access (pos n) v (slice_get m n) (slice_get w n) (is_some-slice_get m w n size)
       found (negsuc n) = refl
 
       by_test : (b : Bool) → stored seen z v (or_stopped access (if b then Err (Unexpected z (line_of (f.expects.stores access))) else word_or_outside z (word_at m z))) ≡ stored seen z v (or_stopped access (if b then Err (Unexpected z (line_of (f.expects.stores access))) else word_or_outside z (word_at w z)))
@@ -111,7 +96,7 @@ module _ (f : Frame) (verified : f.expects.verifies ≡ true) where
       ap (λ (q : Told). with_value q.seen q.value (λ z. step_of [] q.seen Nothing None (if same z (pos 0) then second else first))) (told_alike s t e h)
   level_near (Stmt-F.Store access a e) s t h =
       ap₂ (λ (p q : Told). with_value p.seen p.value (λ z. with_value (p.seen ++ q.seen) q.value (λ k. stored (p.seen ++ q.seen ++ shown f (Address access) z ∷ []) z k (or_stopped access (look_store f.expects s.memory access z))))) (told_alike s t a h) (told_alike s t e h)
-      ∙ ap (λ (go : ℤ → ℤ → Step). with_value (told f t a).seen (told f t a).value (λ z. with_value ((told f t a).seen ++ (told f t e).seen) (told f t e).value (go z)))
+      ∙ ap (λ (go : ℤ → ℤ → Transition). with_value (told f t a).seen (told f t a).value (λ z. with_value ((told f t a).seen ++ (told f t e).seen) (told f t e).value (go z)))
       (λ i z k. stored_alike ((told f t a).seen ++ (told f t e).seen ++ shown f (Address access) z ∷ []) access z k s.memory t.memory h.memory.0 i)
 
   traced_near : (x : Stmt-F (Store → Trace)) → ((s : Store) → AllByRecursion Near (statement_level f x s).rest) → Near (λ s. traced (statement_level f x s) s)
@@ -119,7 +104,7 @@ module _ (f : Frame) (verified : f.expects.verifies ≡ true) where
   traced_near x rest s t h =
       let st = statement_level f x s in
       joined_near st.halt (st.entry ∷ []) (in_turn st.rest) (effect_on s st.entry.effect) (effect_on t st.entry.effect) (turn_near st.rest (rest s)) (effect_alike s t st.entry.effect h)
-      ∙ ap (λ (z : Step). traced z t) (level_near x s t h)
+      ∙ ap (λ (z : Transition). traced z t) (level_near x s t h)
 
   pub block_near : (block : List Stmt) (s t : Store) → StoreAlike s t → block_trace f block s ≡ block_trace f block t
   unfolding Near block_trace

@@ -6,7 +6,7 @@ use Rattle.nest_lang.specs.declared.tree.Stmt.{Stmt, map-Stmt, roll-Stmt}
 use Rattle.nest_lang.specs.declared.tree.Stmt.TheOpen.{Stmt-F}
 use Rattle.nest_lang.specs.declared.tree.Stmt.TheFolds.{fold-roll-Stmt, ind-Stmt}
 use Rattle.nest_lang.specs.Stores.{Store}
-use Rattle.nest_lang.specs.Traces.{Observation, Halt, Trace, Step, traced}
+use Rattle.nest_lang.specs.Traces.{Observation, Halt, Trace, Transition, traced}
 use Rattle.nest_lang.specs.Expressions.{Frame, told}
 use Rattle.nest_lang.specs.Statements.{with_value, stored, statement_level, statement_trace}
 
@@ -15,7 +15,7 @@ module _ (f : Frame) (P : (Store → Trace) → Type 0) where
   Parts (Stmt-F.If e first second) = AllByRecursion P first × AllByRecursion P second
   Parts _ = Unit {0}
 
-  with_rest : (seen : List Observation) (v : Result ℤ Halt) (go : ℤ → Step) → ((z : ℤ) → AllByRecursion P (go z).rest) → AllByRecursion P (with_value seen v go).rest
+  with_rest : (seen : List Observation) (v : Result ℤ Halt) (go : ℤ → Transition) → ((z : ℤ) → AllByRecursion P (go z).rest) → AllByRecursion P (with_value seen v go).rest
   with_rest seen (Ok z) go more = more z
   with_rest seen (Err halt) go more = tt
 

@@ -8,7 +8,7 @@ use Rattle.nest_lang.specs.declared.observe.Stop.{Stop}
 use Rattle.nest_lang.specs.declared.observe.Stop.TheVariants.{Unexpected}
 use Rattle.nest_lang.specs.Stores.{Store, word_at, Effect, Nothing, Local, Scalar, Word, effect_on}
 use Rattle.nest_lang.specs.Lookups.{Interval, lies_in, line_of, look, look_store, word_or_outside}
-use Rattle.nest_lang.specs.Traces.{Observation, Entry, Halt, Trace, after_all, joined, and_then, in_turn, Step, step_of, traced}
+use Rattle.nest_lang.specs.Traces.{Observation, Entry, Halt, Trace, after_all, joined, and_then, in_turn, Transition, step_of, traced}
 use Rattle.nest_lang.specs.Expressions.{Frame, told, or_stopped}
 use Rattle.nest_lang.specs.Statements.{with_value, stored, statement_level, statement_trace, block_trace}
 use Rattle.block_exec.specs.Laws.{IsStored, ChangesWhereStored}
@@ -43,7 +43,7 @@ module _ (f : Frame) (verified : f.expects.verifies ≡ true) where
   turn_inside [] each = λ s. tt
   turn_inside (g ∷ fs) each = λ s. stays_joined (g s).halt (g s).entries (in_turn fs (after_all s (g s).entries)) (each.0 s) (turn_inside fs each.1 (after_all s (g s).entries))
 
-  with_inside : (seen : List Observation) (v : Result ℤ Halt) (go : ℤ → Step) → ((z : ℤ) → Goes (go z).entry.effect) → Goes (with_value seen v go).entry.effect
+  with_inside : (seen : List Observation) (v : Result ℤ Halt) (go : ℤ → Transition) → ((z : ℤ) → Goes (go z).entry.effect) → Goes (with_value seen v go).entry.effect
   with_inside seen (Ok z) go more = more z
   with_inside seen (Err halt) go more = tt
 

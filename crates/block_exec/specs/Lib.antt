@@ -1,4 +1,7 @@
 pub mod Ports
 pub mod Watches
-pub mod Ends
+pub mod Sites
+pub mod Moments
+pub mod Halts
+pub mod Runs
 pub mod Laws

@@ -1,73 +1,61 @@
 //! Evaluation of expressions.
 
-ghost use Rattle.std.specs.Prelude.{◌≡◌, false, IfErr};
+ghost use Rattle.std.specs.Prelude.{◌≡◌};
 ghost use Rattle.nest_lang.specs.Lookups.{look_load};
-ghost use Rattle.nest_lang.specs.Expressions.{told_by, or_stopped};
-ghost use Rattle.nest_lang.specs.declared.observe.Seen.TheVariants.{Address};
-ghost use Rattle.block_exec.specs.Ends.{answered, IsTrap};
-ghost use Rattle.block_exec.specs.Watches.{Chain, observed, frame_at};
+ghost use Rattle.nest_lang.specs.Expressions.{told_by};
+ghost use Rattle.block_exec.specs.Watches.{Chain};
+ghost use Rattle.block_exec.specs.Halts.{answer_of};
+ghost use Rattle.block_exec.specs.Runs.{Looked, told_at};
 
-use crate::halt::{Halt, halt_of, or_trap};
+use crate::context::Run;
+use crate::halt::Halted;
 use crate::port::Port;
 use crate::site::Site;
 use crate::watch::Watch;
-use nest_lang::{Expr, Seen, apply, negate};
+use nest_lang::{Expr, apply, negate};
 
-/// The value of an expression. Each address is shown before the port is asked.
-#[tactic(auto, using(crate::proofs::Tells::evaluates))]
-pub fn evaluate<P: Port, W: Watch>(
-    expr: &Expr,
-    site: &Site<'_>,
-    scalars: &[i64],
-    locals: &[i64],
-    port: &mut P,
-    watch: &mut W,
-) -> Result<i64, Halt>
-    ensures value { answered result ≡ (told_by (frame_at site.now (P.expects port.old)) scalars.now locals.now (look_load (P.expects port.old) (P.memory port.old)) expr.now).value }
-    ensures watch { Chain W.may watch.old (told_by (frame_at site.now (P.expects port.old)) scalars.now locals.now (look_load (P.expects port.old) (P.memory port.old)) expr.now).seen watch.new }
-    ensures memory { P.memory port.new ≡ P.memory port.old }
-    ensures expects { P.expects port.new ≡ P.expects port.old }
-    ensures basis { P.basis port.new ≡ P.basis port.old }
-    ensures quiet { (P.expects port.old).verifies ≡ false → IfErr result IsTrap }
-{
-    match expr {
-        Expr::Number(number) => Ok(*number),
-        Expr::Var(place) => Ok(site.value(*place, scalars, locals)),
-        Expr::Load(access, address) => {
-            let address = evaluate(address.get(), site, scalars, locals, port, watch)?;
-            load(*access, address, site, port, watch)
-        }
-        Expr::Neg(operand) => {
-            let value = evaluate(operand.get(), site, scalars, locals, port, watch)?;
-            or_trap(negate(value))
-        }
-        Expr::Two(op, left, right) => {
-            let left = evaluate(left.get(), site, scalars, locals, port, watch)?;
-            let right = evaluate(right.get(), site, scalars, locals, port, watch)?;
-            or_trap(apply(*op, left, right))
+impl<P: Port, W: Watch> Run<'_, P, W> {
+    /// The value of an expression. Each address is shown before the port is asked.
+    #[cycle(evaluate)]
+    #[inline(always)]
+    #[tactic(auto, using(crate::proofs::ExpressionLaws::evaluates))]
+    pub(crate) fn evaluate(&mut self, site: &Site<'_>, expr: &Expr) -> Result<i64, Halted>
+        ensures value { answer_of result self.new.halt ≡ (told_at P.memory P.expects site.now self.old expr.now).value }
+        ensures watch { Chain W.may self.old.watch.now (told_at P.memory P.expects site.now self.old expr.now).seen self.new.watch.now }
+        ensures looked { Looked P.memory P.expects P.basis self.old self.new }
+    {
+        match expr {
+            Expr::Number(number) => Ok(*number),
+            Expr::Var(place) => Ok(self.value(site, *place)),
+            _ => self.evaluate_parts(site, expr),
         }
     }
-}
 
-/// Loads through a port, where the address is shown before.
-#[tactic(auto, using(crate::proofs::Quiet::quiet))]
-fn load<P: Port, W: Watch>(
-    access: u8,
-    address: i64,
-    site: &Site<'_>,
-    port: &mut P,
-    watch: &mut W,
-) -> Result<i64, Halt>
-    ensures value { answered result ≡ or_stopped access (look_load (P.expects port.old) (P.memory port.old) access address) }
-    ensures watch { W.may watch.old (observed site.now.block site.now.counters.now (Address access) address) watch.new }
-    ensures memory { P.memory port.new ≡ P.memory port.old }
-    ensures expects { P.expects port.new ≡ P.expects port.old }
-    ensures basis { P.basis port.new ≡ P.basis port.old }
-    ensures quiet { (P.expects port.old).verifies ≡ false → IfErr result IsTrap }
-{
-    site.show(Seen::Address(access), address, watch);
-    match port.load(access, address) {
-        Ok(word) => Ok(word),
-        Err(stop) => Err(halt_of(access, stop)),
+    /// The same, out of line: most operands are numbers and names, whose value needs no call.
+    #[cycle(evaluate)]
+    #[inline(never)]
+    #[tactic(auto, using(crate::proofs::ExpressionLaws::evaluates))]
+    fn evaluate_parts(&mut self, site: &Site<'_>, expr: &Expr) -> Result<i64, Halted>
+        ensures value { answer_of result self.new.halt ≡ (told_at P.memory P.expects site.now self.old expr.now).value }
+        ensures watch { Chain W.may self.old.watch.now (told_at P.memory P.expects site.now self.old expr.now).seen self.new.watch.now }
+        ensures looked { Looked P.memory P.expects P.basis self.old self.new }
+    {
+        match expr {
+            Expr::Number(number) => Ok(*number),
+            Expr::Var(place) => Ok(self.value(site, *place)),
+            Expr::Load(access, address) => {
+                let address = self.evaluate(site, address.get())?;
+                self.load(site, *access, address)
+            }
+            Expr::Neg(operand) => {
+                let value = self.evaluate(site, operand.get())?;
+                self.or_trap(negate(value))
+            }
+            Expr::Two(op, left, right) => {
+                let left = self.evaluate(site, left.get())?;
+                let right = self.evaluate(site, right.get())?;
+                self.or_trap(apply(*op, left, right))
+            }
+        }
     }
 }

@@ -1,15 +1,14 @@
-//! Why a step halts.
+//! Why runs are cut short.
 
-ghost use Rattle.std.specs.Prelude.{◌≡◌};
-ghost use Rattle.nest_lang.specs.Traces.{Halted};
-ghost use Rattle.nest_lang.specs.Expressions.{or_trapped, or_stopped};
-ghost use Rattle.block_exec.specs.Ends.{halt_by, answered, finish_by};
+ghost use Rattle.std.specs.Prelude.{◌≡◌, Err};
+ghost use Rattle.nest_lang.specs.Traces as trace;
+ghost use Rattle.nest_lang.specs.Expressions.{or_stopped};
+ghost use Rattle.block_exec.specs.Halts.{halt_by, IsTrap};
 
-use crate::block::BlockEnd;
 use nest_lang::{Stop, Trap};
 
 /// A trap, or an access (its number and its address) that the port does not expect, with the line of
-/// what is expected.
+/// what is expected, or None where nothing is.
 #[derive(Clone, Copy, Debug, PartialEq, Eq)]
 pub enum Halt {
     Trapped(Trap),
@@ -17,22 +16,42 @@ pub enum Halt {
 }
 
 impl Halt {
-    /// The end of a block whose step halts so.
-    pub fn end(self) -> BlockEnd
-        ensures { finish_by result ≡ Halted (halt_by self) }
+    /// What a run begins with, before a step of it halted. No call reads it.
+    pub const NONE: Halt = Halt::Trapped(Trap::Overflow);
+
+    /// The trap of a halt that is one, as each halt over a port that does not verify.
+    pub fn trap(self) -> Trap
+        requires { IsTrap self }
+        ensures { halt_by self ≡ trace.Trapped result }
     {
         match self {
-            Halt::Trapped(trap) => BlockEnd::Trapped(trap),
-            Halt::Stopped(access, seen, expected) => BlockEnd::Stopped(access, seen, expected),
+            Halt::Trapped(trap) => trap,
+            Halt::Stopped(_, _, _) => unreachable!(),
         }
     }
 }
 
-/// A trap halts.
-pub fn or_trap(value: Result<i64, Trap>) -> Result<i64, Halt>
-    ensures { answered result ≡ or_trapped value }
-{
-    value.map_err(Halt::Trapped)
+/// A step halted; the run keeps why.
+#[derive(Clone, Copy, Debug, PartialEq, Eq)]
+pub struct Halted;
+
+/// Why statements end early.
+#[derive(Clone, Copy, Debug, PartialEq, Eq)]
+pub enum Cut {
+    /// The last step taken halted; the run keeps why.
+    Halted,
+    /// A step is due, and none is left.
+    Limited,
+}
+
+impl From<Halted> for Cut {
+    ghost use Rattle.block_exec.specs.declared.halt.Cut.{Cut};
+
+    ghost from_gives = { λ _ cut. cut ≡ Cut.Halted };
+
+    fn from(_halted: Halted) -> Cut {
+        Cut::Halted
+    }
 }
 
 /// A refused look-up halts.

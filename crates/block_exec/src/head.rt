@@ -1,184 +1,138 @@
 //! Evaluation of loop heads.
 
-ghost use Rattle.std.specs.Prelude.{◌≡◌, ◌≢◌, ℕ, ◌<◌, FitsSigned, ◌∷◌, ◌+◌, ◌-◌, ◌≤◌, ◌^◌, ◌++◌, [], length, min, true, false, not, pos, IfOk, IfErr};
+ghost use Rattle.std.specs.Prelude.{◌≡◌, ◌≢◌, ◌≤◌, ◌+◌, ◌^◌, FitsSigned, IfOk, length, not, pos, ◌∷◌, []};
 ghost use Rattle.std.specs.Int.{w64};
 ghost use Rattle.nest_lang.specs.declared.observe.Seen.TheVariants.{Lower, Trip};
-ghost use Rattle.nest_lang.specs.Stores.{store_of};
-ghost use Rattle.nest_lang.specs.Statements.{announced};
+ghost use Rattle.nest_lang.specs.declared.tree.Head.TheVariants.{For, While};
+ghost use Rattle.nest_lang.specs.Values.{same, turn_value};
 ghost use Rattle.nest_lang.specs.Heads.{head_of, as_number};
-ghost use Rattle.nest_lang.specs.Rules.{strides};
-ghost use Rattle.nest_lang.specs.Values.{same, trip_count, turn_value};
-ghost use Rattle.block_exec.specs.Ends.{IsTrap, IsHeadUnstopped, TurnsFit, yielded, where_left, shown_where_left, head_answered};
-ghost use Rattle.block_exec.specs.Watches.{Chain, observed, frame_of, frame_at};
+ghost use Rattle.nest_lang.specs.Heads as heads;
+ghost use Rattle.block_exec.specs.Watches.{Chain, observed};
+ghost use Rattle.block_exec.specs.Sites.{frame_at};
+ghost use Rattle.block_exec.specs.Moments.{Evaluated};
+ghost use Rattle.block_exec.specs.Halts.{TurnsFit, bounds_yield, yield_of, yield_where_left};
+ghost use Rattle.block_exec.specs.Runs.{Looked, OnlyShown, Kept, within, outside};
 
-use crate::expression::evaluate;
-use crate::halt::Halt;
+use crate::context::Run;
+use crate::halt::{Cut, Halted};
 use crate::port::Port;
 use crate::site::Site;
 use crate::watch::Watch;
-use nest_lang::{BlockRef, Budget, Expr, Head, Seen, Trap, trip_of};
+use nest_lang::{Expr, Seen, trip_of};
 
-/// What a head yields, or why it doesn't.
+/// The turns of a `for` that was entered: the value of its name in the first, what each adds to it, and
+/// their number.
 #[derive(Clone, Copy, Debug, PartialEq, Eq)]
-pub enum HeadEnd {
-    /// The lower bound of a `for`, and the number of its turns.
-    For(i64, u64),
-    /// Whether the condition of a `while` holds.
-    While(bool),
-    /// The step trapped.
-    Trapped(Trap),
-    /// The step made an access (its number and its address) that the port does not expect; last is the
-    /// line of what is expected of it, or None where nothing is.
-    Stopped(u8, i64, Option<i128>),
-    /// The step is due, and none is left.
-    Limited,
+pub struct Bounds {
+    pub lower: i64,
+    pub stride: i64,
+    pub trip: u64,
 }
 
-/// Evaluates the head of a loop, which is one step and changes nothing. `values`, `counters` and the up
-/// to 256 scalars are as for `exec_block`. It shows the watch `Start` and each scalar, also where no
-/// step is left, then each address before the port is asked, and last the lower bound and the number
-/// of turns, or the condition. `Limited` comes exactly where no step is left. The stride of a `for` is
-/// not 0 (docs/DEFINITIONS.md, Heads).
-pub fn exec_head<P: Port, W: Watch>(
-    at: BlockRef,
-    head: &Head,
-    scalars: &[i64],
-    values: &[i64],
-    counters: &[i64],
-    port: &mut P,
-    steps: &mut Budget,
-    watch: &mut W,
-) -> HeadEnd
-    requires steps { steps.old.left + steps.old.used ≤ 2 ^ 32 }
-    requires scalars { length scalars.now ≤ 256 }
-    requires strides { strides head.now ≡ true }
-    ensures value { let start = store_of (P.memory port.old) scalars.now [] in
-        let f = frame_of at counters.now values.now (P.expects port.old) in
-        yielded result ≡ where_left steps.old.left (head_of f head.now start).value }
-    ensures watch { let start = store_of (P.memory port.old) scalars.now [] in
-        let f = frame_of at counters.now values.now (P.expects port.old) in
-        Chain W.may watch.old (announced f start ++ shown_where_left steps.old.left (head_of f head.now start).seen) watch.new }
-    ensures left { steps.new.left ≡ steps.old.left - 1 }
-    ensures used { steps.new.used ≡ steps.old.used + min 1 steps.old.left }
-    ensures memory { P.memory port.new ≡ P.memory port.old }
-    ensures expects { P.expects port.new ≡ P.expects port.old }
-    ensures basis { P.basis port.new ≡ P.basis port.old }
-    ensures quiet { (P.expects port.old).verifies ≡ false → IsHeadUnstopped result }
-    ensures turns { TurnsFit head.now result }
+/// The value of a `for`'s name in a turn, where it is an i64, as it is in each of its turns.
+pub fn value_of_turn(lower: i64, stride: i64, turn: u64) -> i64
+    requires { FitsSigned w64 (turn_value lower stride turn) }
+    ensures { result ≡ turn_value lower stride turn }
 {
-    let site = &Site {
-        block: at,
-        counters,
-        values,
-    };
-    site.announce(scalars, watch);
-    if !steps.take() {
-        return HeadEnd::Limited;
+    (i128::from(lower) + i128::from(stride) * i128::from(turn)) as i64
+}
+
+impl<P: Port, W: Watch> Run<'_, P, W> {
+    /// Evaluates the head of a `for`, which is one step and changes nothing: the lower bound, then the
+    /// upper one. The stride is not 0, and there are at most 256 scalars. It shows the watch `Start` and
+    /// each scalar, also where no step is left, then each address before the port is asked, and last the
+    /// lower bound and the number of turns. `Limited` comes exactly where no step is left.
+    #[tactic(auto, using(crate::proofs::HeadLaws::heads))]
+    pub fn bounds(
+        &mut self,
+        site: &Site<'_>,
+        lower: &Expr,
+        upper: &Expr,
+        stride: i64,
+    ) -> Result<Bounds, Cut>
+        requires steps { self.old.steps.left + self.old.steps.used ≤ 2 ^ 32 }
+        requires scalars { length self.old.scalars.now ≤ 256 }
+        requires stride { stride ≢ pos 0 }
+        ensures evaluated { Evaluated W.may (frame_at site.now (P.expects self.old.port.now)) (For lower.now upper.now stride) (outside P.memory self.old) (outside P.memory self.new) (yield_where_left bounds_yield result self.new.halt) }
+        ensures kept { Kept P.expects P.basis self.old self.new }
+        ensures turns { IfOk result (λ b. (b.stride ≡ stride) × TurnsFit b) }
+    {
+        self.announce(site);
+        if !self.steps.take() {
+            return Err(Cut::Limited);
+        }
+        self.locals = [0; 16];
+        let bounds = self.bounds_here(site, lower, upper, stride)?;
+        Ok(bounds)
     }
-    match evaluate_head(head, site, scalars, port, watch) {
-        Ok(end) => end,
-        Err(Halt::Trapped(trap)) => HeadEnd::Trapped(trap),
-        Err(Halt::Stopped(access, seen, expected)) => HeadEnd::Stopped(access, seen, expected),
+
+    /// Evaluates the head of a `while`, which is one step and changes nothing: whether its condition
+    /// holds. It shows the watch as `bounds` does, and last the condition. There are at most 256 scalars.
+    /// `Limited` comes exactly where no step is left.
+    #[tactic(auto, using(crate::proofs::HeadLaws::heads))]
+    pub fn condition(&mut self, site: &Site<'_>, condition: &Expr) -> Result<bool, Cut>
+        requires steps { self.old.steps.left + self.old.steps.used ≤ 2 ^ 32 }
+        requires scalars { length self.old.scalars.now ≤ 256 }
+        ensures evaluated { Evaluated W.may (frame_at site.now (P.expects self.old.port.now)) (While condition.now) (outside P.memory self.old) (outside P.memory self.new) (yield_where_left heads.Tested result self.new.halt) }
+        ensures kept { Kept P.expects P.basis self.old self.new }
+    {
+        self.announce(site);
+        if !self.steps.take() {
+            return Err(Cut::Limited);
+        }
+        self.locals = [0; 16];
+        let holds = self.condition_here(site, condition)?;
+        Ok(holds)
     }
-}
 
-/// What a head yields where a step is taken for it.
-fn evaluate_head<P: Port, W: Watch>(
-    head: &Head,
-    site: &Site<'_>,
-    scalars: &[i64],
-    port: &mut P,
-    watch: &mut W,
-) -> Result<HeadEnd, Halt>
-    requires { strides head.now ≡ true }
-    ensures value { let start = store_of (P.memory port.old) scalars.now [] in
-        let f = frame_at site.now (P.expects port.old) in
-        head_answered result ≡ Some (head_of f head.now start).value }
-    ensures watch { let start = store_of (P.memory port.old) scalars.now [] in
-        let f = frame_at site.now (P.expects port.old) in
-        Chain W.may watch.old (head_of f head.now start).seen watch.new }
-    ensures memory { P.memory port.new ≡ P.memory port.old }
-    ensures expects { P.expects port.new ≡ P.expects port.old }
-    ensures basis { P.basis port.new ≡ P.basis port.old }
-    ensures quiet { (P.expects port.old).verifies ≡ false → IfErr result IsTrap }
-    ensures turns { IfOk result (λ end. TurnsFit head.now end × IsHeadUnstopped end) }
-{
-    match head {
-        Head::For(lower, upper, stride) => evaluate_for(
-            lower, upper, *stride, site, scalars, port, watch,
-        ),
-        Head::While(condition) => evaluate_while(condition, site, scalars, port, watch),
+    /// The bounds of a `for`, at the locals as they are.
+    #[tactic(auto, using(crate::proofs::ExpressionLaws::yields))]
+    fn bounds_here(
+        &mut self,
+        site: &Site<'_>,
+        lower: &Expr,
+        upper: &Expr,
+        stride: i64,
+    ) -> Result<Bounds, Halted>
+        requires { stride ≢ pos 0 }
+        ensures value { yield_of bounds_yield result self.new.halt ≡ (head_of (frame_at site.now (P.expects self.old.port.now)) (For lower.now upper.now stride) (within P.memory self.old).store).value }
+        ensures watch { Chain W.may self.old.watch.now (head_of (frame_at site.now (P.expects self.old.port.now)) (For lower.now upper.now stride) (within P.memory self.old).store).seen self.new.watch.now }
+        ensures looked { Looked P.memory P.expects P.basis self.old self.new }
+        ensures turns { IfOk result (λ b. (b.stride ≡ stride) × TurnsFit b) }
+    {
+        let from = self.evaluate(site, lower)?;
+        let to = self.evaluate(site, upper)?;
+        let trip = trip_of(from, to, stride);
+        self.show_bounds(site, from, trip);
+        Ok(Bounds {
+            lower: from,
+            stride,
+            trip,
+        })
     }
-}
 
-/// The lower bound of a `for` and the number of its turns.
-#[tactic(auto, using(crate::proofs::Tells::yields))]
-fn evaluate_for<P: Port, W: Watch>(
-    lower: &Expr,
-    upper: &Expr,
-    stride: i64,
-    site: &Site<'_>,
-    scalars: &[i64],
-    port: &mut P,
-    watch: &mut W,
-) -> Result<HeadEnd, Halt>
-    requires { stride ≢ pos 0 }
-    ensures value { let start = store_of (P.memory port.old) scalars.now [] in
-        let f = frame_at site.now (P.expects port.old) in
-        head_answered result ≡ Some (head_of f (Head.For lower.now upper.now stride) start).value }
-    ensures watch { let start = store_of (P.memory port.old) scalars.now [] in
-        let f = frame_at site.now (P.expects port.old) in
-        Chain W.may watch.old (head_of f (Head.For lower.now upper.now stride) start).seen watch.new }
-    ensures memory { P.memory port.new ≡ P.memory port.old }
-    ensures expects { P.expects port.new ≡ P.expects port.old }
-    ensures basis { P.basis port.new ≡ P.basis port.old }
-    ensures quiet { (P.expects port.old).verifies ≡ false → IfErr result IsTrap }
-    ensures turns { IfOk result (λ end. TurnsFit (Head.For lower.now upper.now stride) end × IsHeadUnstopped end) }
-{
-    let from = evaluate(lower, site, scalars, &[], port, watch)?;
-    let to = evaluate(upper, site, scalars, &[], port, watch)?;
-    Ok(HeadEnd::For(from, show_bounds(from, to, stride, site, watch)))
-}
+    /// Whether a condition holds, at the locals as they are.
+    #[tactic(auto, using(crate::proofs::ExpressionLaws::yields))]
+    fn condition_here(&mut self, site: &Site<'_>, condition: &Expr) -> Result<bool, Halted>
+        ensures value { yield_of heads.Tested result self.new.halt ≡ (head_of (frame_at site.now (P.expects self.old.port.now)) (While condition.now) (within P.memory self.old).store).value }
+        ensures watch { Chain W.may self.old.watch.now (head_of (frame_at site.now (P.expects self.old.port.now)) (While condition.now) (within P.memory self.old).store).seen self.new.watch.now }
+        ensures looked { Looked P.memory P.expects P.basis self.old self.new }
+    {
+        let value = self.evaluate(site, condition)?;
+        let holds = is_not_zero(value);
+        self.show(site, Seen::Condition, number_of(holds));
+        Ok(holds)
+    }
 
-/// Whether the condition of a `while` holds.
-#[tactic(auto, using(crate::proofs::Tells::yields))]
-fn evaluate_while<P: Port, W: Watch>(
-    condition: &Expr,
-    site: &Site<'_>,
-    scalars: &[i64],
-    port: &mut P,
-    watch: &mut W,
-) -> Result<HeadEnd, Halt>
-    ensures value { let start = store_of (P.memory port.old) scalars.now [] in
-        let f = frame_at site.now (P.expects port.old) in
-        head_answered result ≡ Some (head_of f (Head.While condition.now) start).value }
-    ensures watch { let start = store_of (P.memory port.old) scalars.now [] in
-        let f = frame_at site.now (P.expects port.old) in
-        Chain W.may watch.old (head_of f (Head.While condition.now) start).seen watch.new }
-    ensures memory { P.memory port.new ≡ P.memory port.old }
-    ensures expects { P.expects port.new ≡ P.expects port.old }
-    ensures basis { P.basis port.new ≡ P.basis port.old }
-    ensures quiet { (P.expects port.old).verifies ≡ false → IfErr result IsTrap }
-    ensures turns { IfOk result (λ end. TurnsFit (Head.While condition.now) end × IsHeadUnstopped end) }
-{
-    let value = evaluate(condition, site, scalars, &[], port, watch)?;
-    let holds = is_not_zero(value);
-    site.show(Seen::Condition, number_of(holds), watch);
-    Ok(HeadEnd::While(holds))
-}
-
-/// The number of turns from one bound to the other, where the lower bound and that number are shown.
-fn show_bounds<W: Watch>(lower: i64, upper: i64, stride: i64, site: &Site<'_>, watch: &mut W) -> u64
-    requires { stride ≢ pos 0 }
-    ensures trip { result ≡ trip_count lower upper stride }
-    ensures watch { let trip = pos (trip_count lower upper stride) in
-        Chain W.may watch.old (observed site.now.block site.now.counters.now Lower lower ∷ observed site.now.block site.now.counters.now Trip trip ∷ []) watch.new }
-    ensures turns { (t : ℕ) → t < result → FitsSigned w64 (turn_value lower stride t) }
-{
-    let trip = trip_of(lower, upper, stride);
-    site.show(Seen::Lower, lower, watch);
-    site.show_count(Seen::Trip, trip, watch);
-    trip
+    /// Shows a lower bound and a number of turns.
+    #[tactic(auto, using(crate::proofs::ExpressionLaws::yields))]
+    fn show_bounds(&mut self, site: &Site<'_>, lower: i64, trip: u64)
+        ensures shown { Chain W.may self.old.watch.now (observed site.now.block site.now.counters.now Lower lower ∷ observed site.now.block site.now.counters.now Trip (pos trip) ∷ []) self.new.watch.now }
+        ensures rest { OnlyShown self.old self.new }
+    {
+        self.show(site, Seen::Lower, lower);
+        self.show_count(site, Seen::Trip, trip);
+    }
 }
 
 /// A condition holds where its value is not 0.

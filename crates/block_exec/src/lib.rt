@@ -1,15 +1,19 @@
-//! Blocks and loop heads, run over a port, under a watch and a budget of steps.
+//! Blocks and loop heads, run in one context.
 //!
-//! A port is the memory that a block works on, and may verify each address against what is expected of
-//! it. A watch is shown what an instance of a block does: that it is due, its scalars, each address
-//! before the port is asked, and what a head yields. The layer stands on `nest_lang` alone, whose
-//! traces say what a block does: over every port and under every watch, `exec_block` gives the trace
-//! of its block, cut where the steps that are left end, and `exec_head` what its head yields. The
-//! layers above run whole nests with them, each over a port of its own; `MemoryPort` and `Blind` are
-//! the plain port and the watch that keeps nothing.
+//! A `Run` has all that a run works on: the scalars, the locals of the block, the memory behind a port,
+//! the steps that are left, and a watch. A port may verify each address against what is expected of it; a
+//! watch is shown what an instance does: that it is due, its scalars, each address before the port is
+//! asked, and what a head yields. `Run::block` runs an instance of a block, `Run::bounds` and
+//! `Run::condition` evaluate the head of a `for` and of a `while`, each at a `Site`. Over every port and
+//! under every watch they give the trace that `nest_lang` defines, cut where the steps that are left end.
+//! Where one is cut short the run keeps why, so that a result is one word.
+//!
+//! The crate stands on `nest_lang` alone. The layers above run loops and whole nests with it, each over a
+//! port of its own; `MemoryPort` and `Blind` are the plain port and the watch that keeps nothing. `laws`
+//! has what the layers that verify addresses rest on.
 #![tactic(auto)]
 
-mod block;
+mod context;
 mod expression;
 mod halt;
 mod head;
@@ -17,13 +21,16 @@ pub mod laws;
 mod memory;
 mod port;
 mod site;
+mod statement;
 mod watch;
 
-pub use block::{BlockEnd, exec_block};
-pub use head::{HeadEnd, exec_head};
+pub use context::Run;
+pub use halt::{Cut, Halt, Halted};
+pub use head::{Bounds, value_of_turn};
 pub use memory::MemoryPort;
 pub use nest_lang::{Seen, Stop};
 pub use port::Port;
+pub use site::{Places, Site};
 pub use watch::{Blind, Watch};
 
 #[cfg(test)]

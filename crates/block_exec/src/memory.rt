@@ -32,7 +32,7 @@ impl Port for MemoryPort<'_> {
     // the reference that it was made of, so that a caller learns what was written through it
     ghost basis = { λ p. p.memory.ghost_name };
 
-    #[tactic(auto, using(crate::proofs::Plain::plain_looks))]
+    #[tactic(auto, using(crate::proofs::MemoryLaws::plain_looks))]
     fn load(&mut self, _access: u8, address: i64) -> Result<i64, Stop> {
         if !is_word(address, self.memory.len()) {
             return Err(Stop::Outside(address));
@@ -40,7 +40,7 @@ impl Port for MemoryPort<'_> {
         Ok(self.memory[address as usize])
     }
 
-    #[tactic(auto, using(crate::proofs::Plain::plain_looks))]
+    #[tactic(auto, using(crate::proofs::MemoryLaws::plain_looks))]
     fn store(&mut self, _access: u8, address: i64, value: i64) -> Result<(), Stop> {
         if !is_word(address, self.memory.len()) {
             return Err(Stop::Outside(address));

@@ -1,17 +1,14 @@
-//! Where a block runs, and what is shown of it.
+//! Where instances run.
 
-ghost use Rattle.std.specs.Prelude.{◌≡◌, ◌≤◌, [], length, pos};
-ghost use Rattle.nest_lang.specs.Lookups.{plain};
-ghost use Rattle.nest_lang.specs.Stores.{store_of};
-ghost use Rattle.nest_lang.specs.Expressions.{place_value};
-ghost use Rattle.nest_lang.specs.Statements.{announced};
-ghost use Rattle.block_exec.specs.Watches.{Chain, observed, frame_at};
+ghost use Rattle.std.specs.Prelude.{◌≡◌, ◌+◌, ◌<◌, ◌≤◌, ◌^◌};
+ghost use Rattle.nest_lang.specs.Lookups.{Expectation};
+ghost use Rattle.nest_lang.specs.Loops.{inward, frame_of};
+ghost use Rattle.block_exec.specs.Sites.{frame_at, around_at};
 
-use crate::watch::Watch;
-use nest_lang::{BlockRef, Place, Seen};
+use nest_lang::BlockRef;
 
 /// An instance of a block: the block, the turn numbers of the loops around it, and the values of their
-/// names.
+/// names, the outermost first.
 #[derive(Clone, Copy, Debug)]
 pub struct Site<'a> {
     pub block: BlockRef,
@@ -19,41 +16,44 @@ pub struct Site<'a> {
     pub values: &'a [i64],
 }
 
-impl Site<'_> {
-    /// Shows one thing of the instance.
-    pub fn show<W: Watch>(&self, what: Seen, value: i64, watch: &mut W)
-        ensures { W.may watch.old (observed self.now.block self.now.counters.now what value) watch.new }
-    {
-        watch.see(self.block, self.counters, what, i128::from(value));
-    }
+/// The turn numbers of the loops of a nest and the values of their names, the outermost first. Those of
+/// loops that have not begun are no matter.
+#[derive(Clone, Copy, Debug)]
+pub struct Places {
+    pub counters: [i64; 6],
+    pub values: [i64; 6],
+}
 
-    /// Shows a number of turns.
-    pub fn show_count<W: Watch>(&self, what: Seen, count: u64, watch: &mut W)
-        ensures { W.may watch.old (observed self.now.block self.now.counters.now what (pos count)) watch.new }
-    {
-        watch.see(self.block, self.counters, what, i128::from(count));
-    }
-
-    /// Shows that the instance is due, and then the scalars.
-    #[tactic(auto, using(crate::proofs::Announcements::announces))]
-    pub fn announce<W: Watch>(&self, scalars: &[i64], watch: &mut W)
-        requires { length scalars.now ≤ 256 }
-        ensures { Chain W.may watch.old (announced (frame_at self.now plain) (store_of [] scalars.now [])) watch.new }
-    {
-        self.show(Seen::Start, 0, watch);
-        for (number, scalar) in scalars.iter().enumerate() {
-            self.show(Seen::Scalar(number as u8), *scalar, watch);
+impl Places {
+    /// Before any loop has begun.
+    pub fn new() -> Places {
+        Places {
+            counters: [0; 6],
+            values: [0; 6],
         }
     }
 
-    /// The value of a name; 0 where there is none.
-    pub fn value(&self, place: Place, scalars: &[i64], locals: &[i64]) -> i64
-        ensures { result ≡ place_value self.now.values.now scalars.now locals.now place }
+    /// The instance of a block inside of so many loops (at most 6).
+    pub fn site(&self, block: BlockRef, depth: usize) -> Site<'_>
+        requires { depth ≤ 6 }
+        ensures { (x : Expectation) → frame_at result x ≡ frame_of x block.part block.level (around_at depth self.now) }
     {
-        match place {
-            Place::Scalar(number) => scalars.get(number as usize).copied().unwrap_or(0),
-            Place::Counter(number) => self.values.get(number as usize).copied().unwrap_or(0),
-            Place::Local(number) => locals.get(number as usize).copied().unwrap_or(0),
+        Site {
+            block,
+            counters: &self.counters[..depth],
+            values: &self.values[..depth],
         }
+    }
+
+    /// Begins a turn of the loop inside of so many loops (at most 5), in which its name has this value.
+    #[tactic(auto, using(crate::proofs::PlaceLaws::begins))]
+    pub fn begin(&mut self, depth: usize, turn: u64, value: i64)
+        requires depth { depth < 6 }
+        requires turn { turn < 2 ^ 63 }
+        ensures inner { around_at (depth + 1) self.new ≡ inward (around_at depth self.old) turn value }
+        ensures outer { around_at depth self.new ≡ around_at depth self.old }
+    {
+        self.counters[depth] = turn as i64;
+        self.values[depth] = value;
     }
 }

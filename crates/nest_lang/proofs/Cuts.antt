@@ -1,7 +1,7 @@
 -- How a cut trace goes on, and what it shows.
 use Rattle.std.proofs.Common.{◌≡◌, append_assoc, append-nil, refl, ap, ◌∙◌, sym, ℕ, zero, suc, ◌<◌, ◌+◌, ◌-◌, ◌≤◌, min, List, [], ◌∷◌, ◌++◌, Option, Some, None, arith}
 use Rattle.nest_lang.specs.Stores.{Store, effect_on}
-use Rattle.nest_lang.specs.Traces.{Observation, Entry, Halt, Trace, ends, joined, and_then, in_turn, Step, traced, Finish, Done, Halted, Limited, finish_of, Cut, cut_of, cut, after_all, seen_in}
+use Rattle.nest_lang.specs.Traces.{Observation, Entry, Halt, Trace, ends, joined, and_then, in_turn, Transition, traced, Finish, Done, Halted, Limited, finish_of, Cut, cut_of, cut, after_all, seen_in}
 
 abbrev pub trace_of : List Entry → Option Halt → Trace
 trace_of entries halt = record { entries = entries; halt = halt }
@@ -29,7 +29,7 @@ abbrev pub goes_on : Option Halt → Trace → Store → ℕ → ℕ → Cut
 goes_on (Some halt) more s left used = cut_of s left used (Halted halt)
 goes_on None more s left used = cut more s left used
 
-abbrev pub stepped : Step → Store → ℕ → ℕ → Cut
+abbrev pub stepped : Transition → Store → ℕ → ℕ → Cut
 stepped st s zero used = cut_of s 0 used Limited
 stepped st s (suc n) used = goes_on st.halt (in_turn st.rest (effect_on s st.entry.effect)) (effect_on s st.entry.effect) n (used + 1)
 
@@ -41,12 +41,12 @@ cut-joined_stop : (halt : Option Halt) (e : Entry) (more : Trace) (s : Store) (u
 cut-joined_stop (Some halt) e more s used = cut-stop e [] (Some halt) s used
 cut-joined_stop None e more s used = cut-stop e more.entries more.halt s used
 
-pub cut-traced : (st : Step) (s : Store) (left used : ℕ) → cut (traced st s) s left used ≡ stepped st s left used
+pub cut-traced : (st : Transition) (s : Store) (left used : ℕ) → cut (traced st s) s left used ≡ stepped st s left used
 cut-traced st s zero used = cut-joined_stop st.halt st.entry _ s used
 cut-traced st s (suc n) used = cut-joined_one st.halt st.entry _ s n used
 
 -- a step that is due is taken where one is left
-pub cut-step : (st : Step) (s : Store) (left used left' used' : ℕ) → 0 < left → left' ≡ left - 1 → used' ≡ used + min 1 left → cut (traced st s) s left used ≡ goes_on st.halt (in_turn st.rest (effect_on s st.entry.effect)) (effect_on s st.entry.effect) left' used'
+pub cut-step : (st : Transition) (s : Store) (left used left' used' : ℕ) → 0 < left → left' ≡ left - 1 → used' ≡ used + min 1 left → cut (traced st s) s left used ≡ goes_on st.halt (in_turn st.rest (effect_on s st.entry.effect)) (effect_on s st.entry.effect) left' used'
 cut-step st s zero used left' used' h e f = absurd (omega arith)
 cut-step st s (suc n) used left' used' h e f =
     let a : left' ≡ n = omega arith in
@@ -54,7 +54,7 @@ cut-step st s (suc n) used left' used' h e f =
     rw (a, b) (cut-traced st s (suc n) used)
 
 -- a step is due, and none is left
-pub cut-due : (st : Step) (s : Store) (left used : ℕ) → left ≡ 0 → cut (traced st s) s left used ≡ cut_of s left used Limited
+pub cut-due : (st : Transition) (s : Store) (left used : ℕ) → left ≡ 0 → cut (traced st s) s left used ≡ cut_of s left used Limited
 cut-due st s left used e = rw e (cut-traced st s 0 used)
 
 -- what a run of more gives where a part was done, and else what the part gave
@@ -136,14 +136,14 @@ unfolding seen_in
 seen-joined_none (Some halt) e more = refl
 seen-joined_none None e more = refl
 
-pub seen-step : (st : Step) (s : Store) (left left' : ℕ) → 0 < left → left' ≡ left - 1 → seen_in (traced st s) left ≡ st.entry.before ++ st.entry.seen ++ goes_seen st.halt (in_turn st.rest (effect_on s st.entry.effect)) left'
+pub seen-step : (st : Transition) (s : Store) (left left' : ℕ) → 0 < left → left' ≡ left - 1 → seen_in (traced st s) left ≡ st.entry.before ++ st.entry.seen ++ goes_seen st.halt (in_turn st.rest (effect_on s st.entry.effect)) left'
 seen-step st s zero left' h e = absurd (omega arith)
 seen-step st s (suc n) left' h e =
     let a : left' ≡ n = omega arith in
     rw a (seen-joined_one st.halt st.entry (in_turn st.rest (effect_on s st.entry.effect)) n)
 
 -- a step that is due shows what is shown before it
-pub seen-due : (st : Step) (s : Store) (left : ℕ) → left ≡ 0 → seen_in (traced st s) left ≡ st.entry.before
+pub seen-due : (st : Transition) (s : Store) (left : ℕ) → left ≡ 0 → seen_in (traced st s) left ≡ st.entry.before
 seen-due st s left e = rw e (seen-joined_none st.halt st.entry (in_turn st.rest (effect_on s st.entry.effect)))
 
 pub seen-ends : (left : ℕ) → seen_in ends left ≡ []

@@ -8,13 +8,13 @@ use Rattle.nest_lang.specs.declared.tree.Stmt.TheVariants.{Let, Set, If}
 use Rattle.nest_lang.specs.declared.tree.Stmt.TheVariants as stmt
 use Rattle.nest_lang.specs.declared.tree.Stmt.TheFolds.{fold_out-Stmt}
 use Rattle.nest_lang.specs.Stores.{Store}
-use Rattle.nest_lang.specs.Traces.{Observation, Halt, Trace, in_turn, Step, traced, Finish, Done, Limited, Cut, cut_of, cut, seen_in}
+use Rattle.nest_lang.specs.Traces.{Observation, Halt, Trace, in_turn, Transition, traced, Finish, Done, Limited, Cut, cut_of, cut, seen_in}
 use Rattle.nest_lang.specs.Expressions.{Frame, told}
 use Rattle.nest_lang.specs.Statements.{with_value, stored, statement_level, statement_trace, block_trace}
 use Rattle.nest_lang.proofs.Cuts.{cut-due, cut-end, cut-turn, resumed, resumed-not, seen-due, seen-turn, rest_seen}
 
 -- a statement shows nothing before its step is due
-with-before : (seen : List Observation) (r : Result ℤ Halt) (go : ℤ → Step) → ((v : ℤ) → (go v).entry.before ≡ []) → (with_value seen r go).entry.before ≡ []
+with-before : (seen : List Observation) (r : Result ℤ Halt) (go : ℤ → Transition) → ((v : ℤ) → (go v).entry.before ≡ []) → (with_value seen r go).entry.before ≡ []
 with-before seen (Ok v) go h = h v
 with-before seen (Err halt) go h = refl
 

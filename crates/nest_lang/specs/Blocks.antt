@@ -1,5 +1,7 @@
--- Blocks: the present blocks of a nest, in the order of the text.
-use Rattle.std.specs.Prelude.{ℕ, ◌+◌, List, [], ◌∷◌, ◌++◌}
+-- Blocks: the present blocks of a nest, in the order of the text, and what stands in each.
+use Rattle.std.specs.Prelude.{ℕ, zero, suc, ◌+◌, ◌-◌, nat_eq, List, [], ◌∷◌, ◌++◌, slice_get, Option, Some, None, option_map, Bool, true, false, ◌&&◌}
+use Rattle.std.specs.Option.{option_and_then}
+use Rattle.std.specs.List.{position}
 use Rattle.nest_lang.specs.declared.tree.Head.{Head}
 use Rattle.nest_lang.specs.declared.tree.Head.TheVariants.{For, While}
 use Rattle.nest_lang.specs.declared.tree.Loop.{Loop}
@@ -36,3 +38,47 @@ outermost (While condition) = block_ref part.Head 1 ∷ []
 unfoldable pub present_blocks : List Loop → List BlockRef
 present_blocks [] = []
 present_blocks (l ∷ ls) = outermost l.head ++ block_if_any part.Pre 1 l.pre ++ opening 2 ls ++ closing 1 (l ∷ ls)
+
+-- the two blocks are one
+abbrev pub same_part : Part → Part → Bool
+same_part part.Head part.Head = true
+same_part part.Pre part.Pre = true
+same_part part.Post part.Post = true
+same_part p q = false
+
+abbrev pub same_block : BlockRef → BlockRef → Bool
+same_block a b = same_part a.part b.part && nat_eq a.level b.level
+
+-- the rank of a block: its number among the present ones, from 0, where it is one of them
+abbrev pub rank_of : List Loop → BlockRef → Option ℕ
+rank_of loops block = position (λ b. same_block b block) (present_blocks loops)
+
+-- the loop at a level, from 1 for the outermost
+abbrev pub loop_at : List Loop → ℕ → Option Loop
+loop_at loops zero = None
+loop_at loops (suc n) = slice_get loops n
+
+-- the head of the loop at a level
+abbrev pub head_at : List Loop → ℕ → Option Head
+head_at loops level = option_map (λ (l : Loop). l.head) (loop_at loops level)
+
+-- the statements of a part of a loop; its head has none
+abbrev pub statements_by : Part → Loop → Option (List Stmt)
+statements_by part.Head l = None
+statements_by part.Pre l = Some l.pre
+statements_by part.Post l = Some l.post
+
+-- the statements of a block of a nest
+abbrev pub statements_of : List Loop → BlockRef → Option (List Stmt)
+statements_of loops block = option_and_then (statements_by block.part) (loop_at loops block.level)
+
+-- how many turn numbers an occurrence of a block has: those of the loops around it and that of its own
+-- loop, but for the head of a `for`, which runs before the turns of its loop
+abbrev pub counters_by : Part → Head → ℕ → ℕ
+counters_by part.Head (For lower upper stride) level = level - 1
+counters_by part.Head (While condition) level = level
+counters_by part.Pre h level = level
+counters_by part.Post h level = level
+
+abbrev pub counters_of : List Loop → BlockRef → Option ℕ
+counters_of loops block = option_map (λ (h : Head). counters_by block.part h block.level) (head_at loops block.level)

@@ -1,5 +1,5 @@
--- Examples of values and of plain runs, each worked by hand and proved by computing it.
-use Rattle.std.specs.Prelude.{◌≡◌, ℕ, ℤ, pos, negsuc, List, [], ◌∷◌, ◌++◌, Ok, Err}
+-- Examples of values, of plain runs and of blocks, each worked by hand and proved by computing it.
+use Rattle.std.specs.Prelude.{◌≡◌, ℕ, ℤ, pos, negsuc, List, [], ◌∷◌, ◌++◌, Some, None, Ok, Err}
 use Rattle.nest_lang.specs.declared.tree.Op.TheVariants.{Add, Sub, Div, Rem}
 use Rattle.nest_lang.specs.declared.tree.Trap.TheVariants.{Overflow, ZeroDivisor, Outside}
 use Rattle.nest_lang.specs.declared.tree.Place.TheVariants.{Scalar, Counter, Local}
@@ -14,6 +14,11 @@ use Rattle.nest_lang.specs.Values.{apply_of, negate_of, trip_count}
 use Rattle.nest_lang.specs.Stores.{store_of}
 use Rattle.nest_lang.specs.Traces.{Finish, Done, Halted, Limited, Trapped}
 use Rattle.nest_lang.specs.Runs.{Run, plain_run}
+use Rattle.nest_lang.specs.declared.tree.Part.TheVariants as part
+use Rattle.nest_lang.specs.Blocks.{block_ref, present_blocks, rank_of, counters_of}
+use Rattle.nest_lang.specs.Accesses.{load, store, block_accesses, head_accesses}
+use Rattle.nest_lang.specs.Places.{block_places, block_size}
+use Rattle.nest_lang.specs.Rules.{NestKeeps}
 
 -- values
 pub record ValueExamples : Type 0 where
@@ -67,3 +72,34 @@ pub record RunExamples : Type 0 where
   pub both_branches : plain_run choosing (store_of (pos 0 ∷ pos 0 ∷ pos 0 ∷ []) (pos 0 ∷ []) []) 100 ≡ run_gives (negsuc 0 ∷ pos 0 ∷ pos 1 ∷ []) (negsuc 0 ∷ []) Done 10
   pub inner_loop : plain_run summing (store_of (pos 0 ∷ pos 0 ∷ []) (pos 0 ∷ []) []) 100 ≡ run_gives (pos 3 ∷ pos 3 ∷ []) (pos 3 ∷ []) Done 13
   pub two_nests : plain_run (falling ++ filling) (store_of (pos 0 ∷ pos 0 ∷ []) (pos 0 ∷ []) []) 100 ≡ run_gives (pos 5 ∷ pos 5 ∷ []) (pos 9 ∷ []) (Halted (Trapped (Outside (pos 2)))) 8
+
+-- [[5]] = [7] + [8]
+abbrev pub adding : Stmt
+adding = statement.Store 4 (Load 1 (Number (pos 5))) (Two Add (Load 2 (Number (pos 7))) (Load 3 (Number (pos 8))))
+
+-- if [t] { [i] = 0 } else { s = [3] }
+abbrev pub branching : Stmt
+branching = statement.If (Load 1 (Var (Local 0))) (statement.Store 2 (Var (Counter 0)) (Number (pos 0)) ∷ []) (statement.Set 0 (Load 3 (Number (pos 3))) ∷ [])
+
+-- while s { for i = [0] below -[1] { [i] = 5 }  s = 0 }
+abbrev pub guarded : List Loop
+guarded = loop_of (While (Var (Scalar 0))) [] (statement.Set 0 (Number (pos 0)) ∷ []) ∷ loop_of (For (Load 1 (Number (pos 0))) (Neg (Load 2 (Number (pos 1)))) (pos 1)) (statement.Store 1 (Var (Counter 1)) (Number (pos 5)) ∷ []) [] ∷ []
+
+-- accesses stand in the order of evaluation: a store after the loads of its address and its value, the
+-- branches of an `if` as in the text, and the lower bound before the upper
+pub record AccessExamples : Type 0 where
+  pub store_is_last : block_accesses (adding ∷ []) ≡ load 1 ∷ load 2 ∷ load 3 ∷ store 4 ∷ []
+  pub both_branches : block_accesses (branching ∷ []) ≡ load 1 ∷ store 2 ∷ load 3 ∷ []
+  pub both_bounds : head_accesses (For (Load 1 (Number (pos 0))) (Neg (Load 2 (Number (pos 1)))) (pos 1)) ≡ load 1 ∷ load 2 ∷ []
+  pub places : block_places (branching ∷ []) ≡ Local 0 ∷ Counter 0 ∷ Scalar 0 ∷ []
+  pub size : block_size (branching ∷ adding ∷ []) ≡ 4
+
+-- the blocks of a `while` around a `for`, with their ranks and the number of their turn numbers
+pub record BlockExamples : Type 0 where
+  pub present : present_blocks guarded ≡ block_ref part.Head 1 ∷ block_ref part.Head 2 ∷ block_ref part.Pre 2 ∷ block_ref part.Post 1 ∷ []
+  pub rank : rank_of guarded (block_ref part.Pre 2) ≡ Some 2
+  pub no_rank : rank_of guarded (block_ref part.Pre 1) ≡ None
+  pub while_head : counters_of guarded (block_ref part.Head 1) ≡ Some 1
+  pub for_head : counters_of guarded (block_ref part.Head 2) ≡ Some 1
+  pub body : counters_of guarded (block_ref part.Pre 2) ≡ Some 2
+  pub keeps : NestKeeps 1 guarded

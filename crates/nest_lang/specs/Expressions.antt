@@ -14,12 +14,12 @@ use Rattle.nest_lang.specs.declared.observe.Seen.TheVariants.{Address}
 use Rattle.nest_lang.specs.Values.{apply_of, negate_of}
 use Rattle.nest_lang.specs.Stores.{Store}
 use Rattle.nest_lang.specs.Lookups.{Expectation, look_load}
-use Rattle.nest_lang.specs.Traces.{Instance, Observation, Halt, Trapped, Stopped}
+use Rattle.nest_lang.specs.Traces.{Occurrence, Observation, Halt, Trapped, Stopped}
 
--- where a block runs: its instance, the values of the names of the loops around it, and what is
+-- where a block runs: its occurrence, the values of the names of the loops around it, and what is
 -- expected of its addresses
 pub record Frame : Type 0 where
-  pub at : Instance
+  pub at : Occurrence
   pub values : List ℤ
   pub expects : Expectation
 

@@ -5,7 +5,7 @@ use Rattle.nest_lang.specs.declared.tree.Head.TheVariants.{For, While}
 use Rattle.nest_lang.specs.declared.observe.Seen.TheVariants.{Lower, Trip, Condition}
 use Rattle.nest_lang.specs.Values.{same, trip_count}
 use Rattle.nest_lang.specs.Stores.{Store, Nothing}
-use Rattle.nest_lang.specs.Traces.{Observation, Halt, Trace, Step, step_of}
+use Rattle.nest_lang.specs.Traces.{Observation, Halt, Trace, Transition, step_of}
 use Rattle.nest_lang.specs.Expressions.{Frame, shown, told}
 use Rattle.nest_lang.specs.Statements.{announced}
 
@@ -41,11 +41,11 @@ head_of f (While condition) s =
     then_head (told f s condition).seen (told f s condition).value (λ v.
     heading (shown f Condition (as_number (not (same v (pos 0)))) ∷ []) (Ok (Tested (not (same v (pos 0))))))
 
--- the step of a head, and what follows from what it yields
-abbrev pub head_step : List Observation → List Observation → Result Yield Halt → (Yield → List (Store → Trace)) → Step
+-- the transition of a head, and what follows from what it yields
+abbrev pub head_step : List Observation → List Observation → Result Yield Halt → (Yield → List (Store → Trace)) → Transition
 head_step before seen (Ok yield) go = step_of before seen Nothing None (go yield)
 head_step before seen (Err halt) go = step_of before seen Nothing (Some halt) []
 
 -- an instance of a head is one step
-abbrev pub headed : Frame → Head → (Yield → List (Store → Trace)) → Store → Step
+abbrev pub headed : Frame → Head → (Yield → List (Store → Trace)) → Store → Transition
 headed f head go s = head_step (announced f s) (head_of f head s).seen (head_of f head s).value go

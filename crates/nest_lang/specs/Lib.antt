@@ -7,7 +7,12 @@ pub mod Statements
 pub mod Heads
 pub mod Loops
 pub mod Blocks
+pub mod Accesses
+pub mod Places
+pub mod Turns
 pub mod Rules
 pub mod Runs
 pub mod Laws
+pub mod TurnLaws
+pub mod BlockLaws
 pub mod Examples

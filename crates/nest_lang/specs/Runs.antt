@@ -33,7 +33,7 @@ unfoldable pub plain_run : List Nest → Store → ℕ → Run
 plain_run nests s n = run_of (cut (nests_trace (n + 1) nests s) s n 0)
 
 -- how a plain run finishes, as the code says it
-abbrev pub finish_by : Ending → Finish
-finish_by ending.Ended = Done
-finish_by (ending.Trapped trap) = Halted (Trapped trap)
-finish_by ending.Limited = Limited
+abbrev pub finish_of_ending : Ending → Finish
+finish_of_ending ending.Ended = Done
+finish_of_ending (ending.Trapped trap) = Halted (Trapped trap)
+finish_of_ending ending.Limited = Limited

@@ -8,22 +8,22 @@ use Rattle.nest_lang.specs.declared.observe.Seen.TheVariants as see
 use Rattle.nest_lang.specs.Values.{same}
 use Rattle.nest_lang.specs.Stores.{Store, Nothing, Local, Scalar, Word}
 use Rattle.nest_lang.specs.Lookups.{look_store}
-use Rattle.nest_lang.specs.Traces.{Observation, Entry, Halt, Trace, in_turn, Step, step_of, traced}
+use Rattle.nest_lang.specs.Traces.{Observation, Entry, Halt, Trace, in_turn, Transition, step_of, traced}
 use Rattle.nest_lang.specs.Expressions.{Frame, shown, told, or_stopped}
 
 -- goes on with a value, or halts with what was shown for it
-abbrev pub with_value : List Observation → Result ℤ Halt → (ℤ → Step) → Step
+abbrev pub with_value : List Observation → Result ℤ Halt → (ℤ → Transition) → Transition
 with_value seen (Ok v) go = go v
 with_value seen (Err halt) go = step_of [] seen Nothing (Some halt) []
 
 -- a word is stored, unless its look-up halts
-abbrev pub stored : List Observation → ℤ → ℤ → Result ℤ Halt → Step
+abbrev pub stored : List Observation → ℤ → ℤ → Result ℤ Halt → Transition
 stored seen address v (Ok old) = step_of [] seen (Word (unsigned_abs address) v) None []
 stored seen address v (Err halt) = step_of [] seen Nothing (Some halt) []
 
--- the step of a statement, from the traces of the statements in it. A store evaluates its address, then
+-- the transition of a statement, from the traces of the statements in it. A store evaluates its address, then
 -- its value, and then stores.
-abbrev pub statement_level : Frame → Stmt-F (Store → Trace) → Store → Step
+abbrev pub statement_level : Frame → Stmt-F (Store → Trace) → Store → Transition
 statement_level f (Stmt-F.Let number e) s =
     with_value (told f s e).seen (told f s e).value (λ v. step_of [] (told f s e).seen (Local number v) None [])
 statement_level f (Stmt-F.Set number e) s =

@@ -5,14 +5,14 @@ use Rattle.nest_lang.specs.declared.tree.BlockRef.{BlockRef}
 use Rattle.nest_lang.specs.declared.observe.Seen.{Seen}
 use Rattle.nest_lang.specs.Stores.{Store, Effect, effect_on}
 
--- an instance of a block: the block, and the turn numbers of the loops around it
-pub record Instance : Type 0 where
+-- an occurrence of a block in a run: the block, and the turn numbers of the loops around it
+pub record Occurrence : Type 0 where
   pub block : BlockRef
   pub counters : List ℤ
 
--- an observation: of which instance, of what kind, and its value
+-- an observation: of which occurrence, of what kind, and its value
 pub record Observation : Type 0 where
-  pub at : Instance
+  pub at : Occurrence
   pub what : Seen
   pub value : ℤ
 
@@ -59,17 +59,17 @@ abbrev pub in_turn : List (Store → Trace) → Store → Trace
 in_turn [] s = ends
 in_turn (f ∷ fs) s = and_then s (f s) (in_turn fs)
 
--- a step, and what runs after it: its entry, the halt where it halts, and the traces that follow it
-pub record Step : Type 0 where
+-- a transition: the entry of a step, the halt where it halts, and the traces that follow it
+pub record Transition : Type 0 where
   pub entry : Entry
   pub halt : Option Halt
   pub rest : List (Store → Trace)
 
-abbrev pub step_of : List Observation → List Observation → Effect → Option Halt → List (Store → Trace) → Step
+abbrev pub step_of : List Observation → List Observation → Effect → Option Halt → List (Store → Trace) → Transition
 step_of before seen effect halt rest = record { entry = record { before = before; seen = seen; effect = effect }; halt = halt; rest = rest }
 
--- the trace of a step: its entry, and then the traces that follow it
-abbrev pub traced : Step → Store → Trace
+-- the trace of a transition: its entry, and then the traces that follow it
+abbrev pub traced : Transition → Store → Trace
 traced st s = joined st.halt (st.entry ∷ []) (in_turn st.rest (effect_on s st.entry.effect))
 
 -- how a run of a trace finishes: with all of it done, with its halt, or limited

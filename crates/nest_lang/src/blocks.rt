@@ -1,8 +1,9 @@
 //! The present blocks of a nest, in the order of the text (docs/DEFINITIONS.md, Blocks).
 
-ghost use Rattle.std.specs.Prelude.{◌≡◌, ◌+◌, ◌*◌, ◌≤◌, ◌++◌, length, slice_get};
+ghost use Rattle.std.specs.Prelude.{◌≡◌, ◌+◌, ◌*◌, ◌≤◌, ◌++◌, length, slice_get, option_map};
+ghost use Rattle.std.specs.List.{position};
 ghost use Rattle.arrayvec.specs.ArrayVec.{array_vec_len};
-ghost use Rattle.nest_lang.specs.Blocks.{present_blocks, outermost, opening, closing, block_if_any};
+ghost use Rattle.nest_lang.specs.Blocks.{present_blocks, outermost, opening, closing, block_if_any, rank_of, same_block, loop_at, head_at, statements_of, counters_of};
 
 use crate::tree::{BlockRef, Head, Loop, Nest, Part, Stmt};
 use arrayvec::ArrayVec;
@@ -32,6 +33,66 @@ impl Nest {
     {
         self.blocks().get(number as usize).copied()
     }
+
+    /// The rank of a block: its number among the present ones, from 0. None exactly where it is none
+    /// of them.
+    pub fn rank(&self, block: BlockRef) -> Option<u8>
+        requires { length self.now.loops ≤ 6 }
+        ensures { result ≡ rank_of self.now.loops block }
+    {
+        let blocks = self.blocks();
+        let rank = rank_in(blocks.as_slice(), block)?;
+        Some(rank as u8)
+    }
+
+    /// The loop at a level, from 1 for the outermost. None exactly where there is none.
+    pub fn level(&self, level: u8) -> Option<&Loop>
+        ensures { option_map (λ one. one.now) result ≡ loop_at self.now.loops level }
+    {
+        if level == 0 {
+            return None;
+        }
+        self.loops.get((level - 1) as usize)
+    }
+
+    /// The head of the loop at a level. None exactly where there is none.
+    pub fn head(&self, level: u8) -> Option<&Head>
+        ensures { option_map (λ head. head.now) result ≡ head_at self.now.loops level }
+    {
+        let at = self.level(level)?;
+        Some(&at.head)
+    }
+
+    /// How many turn numbers an occurrence of a block has: those of the loops around it and of its own
+    /// loop, but for the head of a `for`, which runs before the turns of its loop. None exactly where
+    /// the nest has no such level.
+    pub fn counters(&self, block: BlockRef) -> Option<u8>
+        ensures { result ≡ counters_of self.now.loops block }
+    {
+        match (block.part, self.head(block.level)?) {
+            (Part::Head, Head::For(_, _, _)) => Some(block.level - 1),
+            _ => Some(block.level),
+        }
+    }
+
+    /// The statements of a block. None exactly for a head, and where the nest has no such level.
+    pub fn statements(&self, block: BlockRef) -> Option<&[Stmt]>
+        ensures { option_map (λ block. block.now) result ≡ statements_of self.now.loops block }
+    {
+        let at = self.level(block.level)?;
+        match block.part {
+            Part::Head => None,
+            Part::Pre => Some(at.pre.as_slice()),
+            Part::Post => Some(at.post.as_slice()),
+        }
+    }
+}
+
+/// The place of a block in a list.
+fn rank_in(blocks: &[BlockRef], block: BlockRef) -> Option<usize>
+    ensures { result ≡ position (λ b. same_block b block) blocks.now }
+{
+    blocks.iter().position(|b| *b == block)
 }
 
 /// The head of the outermost loop, where it is a `while`.

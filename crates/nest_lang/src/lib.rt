@@ -11,6 +11,7 @@
 //! they give these definitions. `laws` has what holds of the definitions themselves.
 #![tactic(auto)]
 
+mod accesses;
 mod blocks;
 mod budget;
 mod command;
@@ -24,7 +25,9 @@ pub use budget::{Budget, Ending, Turned};
 pub use command::Command;
 pub use observe::{Seen, Stop};
 pub use state::{Outer, State};
-pub use tree::{AccessRef, BlockRef, Expr, Head, Loop, Nest, Op, Part, Place, Stmt, Trap};
+pub use tree::{
+    Access, AccessKind, AccessRef, BlockRef, Expr, Head, Loop, Nest, Op, Part, Place, Stmt, Trap,
+};
 pub use value::{apply, negate, trip_of};
 
 #[cfg(test)]

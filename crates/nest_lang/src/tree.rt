@@ -101,6 +101,21 @@ pub struct BlockRef {
     pub level: u8,
 }
 
+/// What an access does with its word.
+#[derive(Clone, Copy, Debug, Default, PartialEq, Eq)]
+pub enum AccessKind {
+    #[default]
+    Load,
+    Store,
+}
+
+/// An access of a block: its number in the block, from 1, and what it does.
+#[derive(Clone, Copy, Debug, Default, PartialEq, Eq)]
+pub struct Access {
+    pub number: u8,
+    pub kind: AccessKind,
+}
+
 /// An access of a nest: the number of its block among the present ones, from 0, and its own number in
 /// that block, from 1.
 #[derive(Clone, Copy, Debug, PartialEq, Eq)]

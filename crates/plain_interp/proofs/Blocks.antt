@@ -1,4 +1,4 @@
--- Instances of blocks, as runs.
+-- The steps of instances.
 use Rattle.std.proofs.Common.{◌≡◌, refl, ap, ◌∙◌, sym, subst, ℕ, ◌<◌, ◌-◌, ◌≤◌, List, [], ◌∷◌, ◌++◌, length, Option, Some, None, Bool, true, false, if◌then◌else◌, nat_le, arith}
 use Rattle.nest_lang.specs.declared.tree.Stmt.{Stmt}
 use Rattle.nest_lang.specs.Stores.{Store}
@@ -8,11 +8,8 @@ use Rattle.nest_lang.specs.Statements.{instance_trace, block_trace, started, ann
 use Rattle.nest_lang.proofs.StatementLemmas.{block-cons, statement-due}
 use Rattle.nest_lang.proofs.Cuts.{trace_of, cut-end, resumed}
 use Rattle.block_exec.specs.Watches.{Chain}
-use Rattle.block_exec.specs.declared.block.BlockEnd.{BlockEnd}
-use Rattle.block_exec.specs.declared.block.BlockEnd.TheVariants as block
-use Rattle.block_exec.specs.Ends.{finish_by}
-use Rattle.block_exec.proofs.Instances.{cut-instance, cut-no_instance, seen-instance, seen-no_instance}
-use Rattle.plain_interp.specs.Moments.{Moment, Ran}
+use Rattle.block_exec.proofs.InstanceLaws.{cut-instance}
+use Rattle.block_exec.specs.Moments.{Moment, Ran}
 
 -- what a trace that was done took
 done-steps : (t : Trace) (s s' : Store) (left used left' used' : ℕ) → 0 < length t.entries → cut_of s' left' used' Done ≡ cut t s left used → left' < left
@@ -41,33 +38,8 @@ instance-some f (x ∷ xs) s some =
     (cut-instance f (x ∷ xs) s (started s) 0 0 ∙ block-cons f x xs (started s) 0 0 ∙ ap (λ (c : Cut). resumed c (block_trace f xs)) (statement-due f x (started s) 0 0 refl))
 
 module _ {W : Type 0} (may : W → Observation → W → Type 0) where
-  -- an instance of a block with statements, and none of a block without
-  pub ran-instance : (f : Frame) (block : List Stmt) (a b : Moment W) (e : Finish) → (length block ≡ 0 → ⊥)
-      → cut_of b.store b.left b.used e ≡ cut (block_trace f block (started a.store)) a.store a.left a.used
-      → Chain may a.watch (announced f a.store ++ seen_in (block_trace f block (started a.store)) a.left) b.watch → Ran may (instance_trace f block) a b e
-  ran-instance f [] a b e some run shown = absurd (some refl)
-  ran-instance f (x ∷ xs) a b e some run shown =
-      record {
-        cut = run ∙ sym (cut-instance f (x ∷ xs) a.store a.store a.left a.used);
-        shown = subst (λ (os : List Observation). Chain may a.watch os b.watch) (sym (seen-instance f x xs a.store a.left)) shown;
-      }
-
-  pub ran-no_instance : (f : Frame) (block : List Stmt) (a : Moment W) → length block ≡ 0 → Ran may (instance_trace f block) a a Done
-  ran-no_instance f [] a none =
-      record {
-        cut = sym (cut-no_instance f a.store a.store a.left a.used);
-        shown = subst (λ (os : List Observation). Chain may a.watch os a.watch) (sym (seen-no_instance f a.store a.left)) refl;
-      }
-  ran-no_instance f (x ∷ xs) a none = absurd (omega (arith, none))
-
   -- an instance that was done took a step
   pub instance-steps : (f : Frame) (block : List Stmt) (a b : Moment W) (e : Finish) → Ran may (instance_trace f block) a b e → 0 < length block → e ≡ Done → b.left < a.left
   instance-steps f block a b e r some done =
       done-steps (instance_trace f block a.store) a.store b.store a.left a.used b.left b.used (instance-some f block a.store some)
       (ap (λ (z : Finish). cut_of b.store b.left b.used z) (sym done) ∙ r.cut)
-
-pub finish_by-done : (e : BlockEnd) → finish_by e ≡ Done → e ≡ block.Ended
-finish_by-done block.Ended h = refl
-finish_by-done (block.Trapped trap) h = absurd (cc)
-finish_by-done (block.Stopped access seen expected) h = absurd (cc)
-finish_by-done block.Limited h = absurd (cc)

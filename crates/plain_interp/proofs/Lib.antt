@@ -1,5 +1,6 @@
 pub mod Blocks
 pub mod Keeps
+pub mod LevelLaws
 pub mod Nests
 pub mod OuterTurns
 pub mod Positions

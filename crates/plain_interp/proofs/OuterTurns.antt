@@ -16,11 +16,12 @@ use Rattle.nest_lang.specs.Statements.{announced}
 use Rattle.nest_lang.specs.Heads.{Yield, Bounds, Tested, head_of, head_step, headed}
 use Rattle.nest_lang.specs.Loops.{Around, inward, outside, frame_of, turn_trace, loops_trace}
 use Rattle.nest_lang.proofs.Cuts.{cut-end}
-use Rattle.plain_interp.specs.Moments.{Moment, moment, Ran, IsWhile}
+use Rattle.block_exec.specs.Moments.{Moment, Ran, Evaluated}
+use Rattle.plain_interp.specs.Levels.{IsWhile}
 use Rattle.nest_lang.specs.declared.budget.Turned.{Turned}
 use Rattle.nest_lang.specs.declared.budget.Turned.TheVariants as turned
-use Rattle.plain_interp.specs.Outermost.{over, finish_by, AreWhole, IsPosition, counted_turns, turn_or_over, tested_turns, number_left, turns_by, turns_trace, left_after, turns_later}
-use Rattle.plain_interp.proofs.Rans.{Evaluated, ran-ends, ran-then, ran-out, ran-only, ran-same, ran-head-yields, ran-head-halts, ran-head-limited}
+use Rattle.nest_lang.specs.Turns.{over, finish_of_turned, AreWhole, IsPosition, counted_turns, turn_or_over, tested_turns, number_left, turns_by, turns_trace, left_after, turns_later}
+use Rattle.plain_interp.proofs.Rans.{ran-ends, ran-then, ran-out, ran-only, ran-same, ran-head-yields, ran-head-halts, ran-head-limited}
 
 -- traces one after another, grouped either way
 after_all-append : (s : Store) (es fs : List Entry) → after_all s (es ++ fs) ≡ after_all (after_all s es) fs
@@ -182,35 +183,35 @@ module _ {W : Type 0} (may : W → Observation → W → Type 0) where
       ran-same may (λ s. traced (headed (frame_of x part.Head 1 (inward outside t (pos t))) l.head (turn_or_over (turn_of x k l ls t (pos t)) (in_turn [])) s) s) (turns_trace x k (l ∷ ls) o 1) a b e
       (turns_by-while l.head x l.head (turn_trace x 1 l (loops_trace x k 2 ls)) o t a.store is next) r
 
-  pub ran-while-turn : (x : Expectation) (k : ℕ) (l : Loop) (ls : List Loop) (o : Outer) (t : ℕ) (a b : Moment W) (left used : ℕ) (w : W) (e : Finish) → IsWhile l.head → o.next ≡ pos t
-      → Evaluated may (frame_of x part.Head 1 (inward outside t (pos t))) l.head a left used w (Some (Ok (Tested true)))
-      → Ran may (turn_of x k l ls t (pos t)) (moment a.store left used w) b e → Ran may (turns_trace x k (l ∷ ls) o 1) a b e
-  ran-while-turn x k l ls o t a b left used w e is next ev r =
+  pub ran-while-turn : (x : Expectation) (k : ℕ) (l : Loop) (ls : List Loop) (o : Outer) (t : ℕ) (a m b : Moment W) (e : Finish) → IsWhile l.head → o.next ≡ pos t
+      → Evaluated may (frame_of x part.Head 1 (inward outside t (pos t))) l.head a m (Some (Ok (Tested true)))
+      → Ran may (turn_of x k l ls t (pos t)) m b e → Ran may (turns_trace x k (l ∷ ls) o 1) a b e
+  ran-while-turn x k l ls o t a m b e is next ev r =
       while-ran x k l ls o t a b e is next
-      (ran-head-yields may (frame_of x part.Head 1 (inward outside t (pos t))) l.head (turn_or_over (turn_of x k l ls t (pos t)) (in_turn [])) (Tested true) a b left used w e ev
-      (ran-first (turn_of x k l ls t (pos t)) (moment a.store left used w) b e r))
+      (ran-head-yields may (frame_of x part.Head 1 (inward outside t (pos t))) l.head (turn_or_over (turn_of x k l ls t (pos t)) (in_turn [])) (Tested true) a m b e ev
+      (ran-first (turn_of x k l ls t (pos t)) m b e r))
 
-  pub ran-while-over : (x : Expectation) (k : ℕ) (l : Loop) (ls : List Loop) (o : Outer) (t : ℕ) (a : Moment W) (left used : ℕ) (w : W) → IsWhile l.head → o.next ≡ pos t
-      → Evaluated may (frame_of x part.Head 1 (inward outside t (pos t))) l.head a left used w (Some (Ok (Tested false)))
-      → Ran may (turns_trace x k (l ∷ ls) o 1) a (moment a.store left used w) (Halted Over)
-  ran-while-over x k l ls o t a left used w is next ev =
-      while-ran x k l ls o t a (moment a.store left used w) (Halted Over) is next
-      (ran-head-yields may (frame_of x part.Head 1 (inward outside t (pos t))) l.head (turn_or_over (turn_of x k l ls t (pos t)) (in_turn [])) (Tested false) a (moment a.store left used w) left used w (Halted Over) ev
-      (ran-only may (λ s. over) (moment a.store left used w) (moment a.store left used w) (Halted Over) (ran-over (moment a.store left used w))))
+  pub ran-while-over : (x : Expectation) (k : ℕ) (l : Loop) (ls : List Loop) (o : Outer) (t : ℕ) (a m : Moment W) → IsWhile l.head → o.next ≡ pos t
+      → Evaluated may (frame_of x part.Head 1 (inward outside t (pos t))) l.head a m (Some (Ok (Tested false)))
+      → Ran may (turns_trace x k (l ∷ ls) o 1) a m (Halted Over)
+  ran-while-over x k l ls o t a m is next ev =
+      while-ran x k l ls o t a m (Halted Over) is next
+      (ran-head-yields may (frame_of x part.Head 1 (inward outside t (pos t))) l.head (turn_or_over (turn_of x k l ls t (pos t)) (in_turn [])) (Tested false) a m m (Halted Over) ev
+      (ran-only may (λ s. over) m m (Halted Over) (ran-over m)))
 
-  pub ran-while-halts : (x : Expectation) (k : ℕ) (l : Loop) (ls : List Loop) (o : Outer) (t : ℕ) (a : Moment W) (left used : ℕ) (w : W) (h : Halt) → IsWhile l.head → o.next ≡ pos t
-      → Evaluated may (frame_of x part.Head 1 (inward outside t (pos t))) l.head a left used w (Some (Err h))
-      → Ran may (turns_trace x k (l ∷ ls) o 1) a (moment a.store left used w) (Halted h)
-  ran-while-halts x k l ls o t a left used w h is next ev =
-      while-ran x k l ls o t a (moment a.store left used w) (Halted h) is next
-      (ran-head-halts may (frame_of x part.Head 1 (inward outside t (pos t))) l.head (turn_or_over (turn_of x k l ls t (pos t)) (in_turn [])) h a left used w ev)
+  pub ran-while-halts : (x : Expectation) (k : ℕ) (l : Loop) (ls : List Loop) (o : Outer) (t : ℕ) (a m : Moment W) (h : Halt) → IsWhile l.head → o.next ≡ pos t
+      → Evaluated may (frame_of x part.Head 1 (inward outside t (pos t))) l.head a m (Some (Err h))
+      → Ran may (turns_trace x k (l ∷ ls) o 1) a m (Halted h)
+  ran-while-halts x k l ls o t a m h is next ev =
+      while-ran x k l ls o t a m (Halted h) is next
+      (ran-head-halts may (frame_of x part.Head 1 (inward outside t (pos t))) l.head (turn_or_over (turn_of x k l ls t (pos t)) (in_turn [])) h a m ev)
 
-  pub ran-while-limited : (x : Expectation) (k : ℕ) (l : Loop) (ls : List Loop) (o : Outer) (t : ℕ) (a : Moment W) (left used : ℕ) (w : W) → IsWhile l.head → o.next ≡ pos t
-      → Evaluated may (frame_of x part.Head 1 (inward outside t (pos t))) l.head a left used w None
-      → Ran may (turns_trace x k (l ∷ ls) o 1) a (moment a.store left used w) Limited
-  ran-while-limited x k l ls o t a left used w is next ev =
-      while-ran x k l ls o t a (moment a.store left used w) Limited is next
-      (ran-head-limited may (frame_of x part.Head 1 (inward outside t (pos t))) l.head (turn_or_over (turn_of x k l ls t (pos t)) (in_turn [])) a left used w ev)
+  pub ran-while-limited : (x : Expectation) (k : ℕ) (l : Loop) (ls : List Loop) (o : Outer) (t : ℕ) (a m : Moment W) → IsWhile l.head → o.next ≡ pos t
+      → Evaluated may (frame_of x part.Head 1 (inward outside t (pos t))) l.head a m None
+      → Ran may (turns_trace x k (l ∷ ls) o 1) a m Limited
+  ran-while-limited x k l ls o t a m is next ev =
+      while-ran x k l ls o t a m Limited is next
+      (ran-head-limited may (frame_of x part.Head 1 (inward outside t (pos t))) l.head (turn_or_over (turn_of x k l ls t (pos t)) (in_turn [])) a m ev)
 
   -- the turn that is next, run from its number and its value
   pub ran-turn-of : (x x0 : Expectation) (k : ℕ) (l : Loop) (ls : List Loop) (t : ℕ) (next value v : ℤ) (a b : Moment W) (e : Finish) → x ≡ x0 → next ≡ pos t → value ≡ v
@@ -255,11 +256,11 @@ position-kept h old new (turned.Trapped trap) went others p = subst (λ (o : Out
 position-kept h old new turned.Limited went others p = subst (λ (o : Outer). IsPosition h o) (sym (others (λ e. cc))) p
 
 -- how some turns finish, as the code says it
-pub finish_by-not : (r : Turned) → (r ≡ turned.Went → ⊥) → finish_by r ≡ Done → ⊥
-finish_by-not turned.Went other done = other refl
-finish_by-not turned.Ended other done = cc
-finish_by-not (turned.Trapped trap) other done = cc
-finish_by-not turned.Limited other done = cc
+pub finish_of_turned-not : (r : Turned) → (r ≡ turned.Went → ⊥) → finish_of_turned r ≡ Done → ⊥
+finish_of_turned-not turned.Went other done = other refl
+finish_of_turned-not turned.Ended other done = cc
+finish_of_turned-not (turned.Trapped trap) other done = cc
+finish_of_turned-not turned.Limited other done = cc
 
 -- turns one after another
 module _ {W : Type 0} (may : W → Observation → W → Type 0) (x : Expectation) (k : ℕ) (loops : List Loop) (o : Outer) (t : ℕ) (next : o.next ≡ pos t) where

@@ -2,16 +2,15 @@
 use Rattle.std.proofs.Common.{◌≡◌, refl, ap, ◌∙◌, sym, subst, ℕ, zero, suc, ◌<◌, ◌+◌, ◌-◌, ◌≤◌, min, true, false, List, [], ◌∷◌, ◌++◌, Option, Some, None, Result, Ok, Err, append-nil, arith}
 use Rattle.nest_lang.specs.declared.tree.Head.{Head}
 use Rattle.nest_lang.specs.Stores.{Store, Nothing}
-use Rattle.nest_lang.specs.Traces.{Observation, Halt, Trace, ends, and_then, in_turn, Step, step_of, traced, Finish, Done, Halted, Limited, Cut, cut, seen_in}
+use Rattle.nest_lang.specs.Traces.{Observation, Halt, Trace, ends, and_then, in_turn, Transition, step_of, traced, Finish, Done, Halted, Limited, Cut, cut, seen_in}
 use Rattle.nest_lang.specs.Expressions.{Frame}
 use Rattle.nest_lang.specs.Statements.{announced}
 use Rattle.nest_lang.specs.Heads.{Yield, Tested, head_of, head_step, headed}
 use Rattle.nest_lang.specs.Loops.{turns_from, turn_if, whiles_from}
 use Rattle.nest_lang.proofs.Cuts.{cut-and_then, cut-ends, cut-step, cut-due, resumed, resumed-not, seen-and_then, rest_seen, rest_seen-not, seen-step, seen-due, seen-ends}
 use Rattle.block_exec.specs.Watches.{Chain}
-use Rattle.block_exec.specs.Ends.{where_left, shown_where_left}
-use Rattle.block_exec.proofs.Chained.{chain-append}
-use Rattle.plain_interp.specs.Moments.{Moment, moment, Ran}
+use Rattle.block_exec.specs.Moments.{Moment, moment, Ran, Evaluated, where_left, shown_where_left}
+use Rattle.block_exec.proofs.ChainLaws.{chain-append}
 
 module _ {W : Type 0} (may : W → Observation → W → Type 0) where
   -- nothing is run
@@ -64,7 +63,7 @@ module _ {W : Type 0} (may : W → Observation → W → Type 0) where
   step-yields before seen r go y s zero used left' used' w w' c e is fewer more shown rest = absurd (cc)
   step-yields before seen r go y s (suc n) used left' used' w w' c e is fewer more shown rest =
       let value : r ≡ Ok y = cc in
-      let step : Step = step_of before seen Nothing None (go y) in
+      let step : Transition = step_of before seen Nothing None (go y) in
       let P : Result Yield Halt → Type 0 = λ z. Ran may (λ t. traced (head_step before seen z go) s) (moment s (suc n) used w) c e in
       subst P (sym value)
       (record {
@@ -78,7 +77,7 @@ module _ {W : Type 0} (may : W → Observation → W → Type 0) where
   step-halts before seen r go h s zero used left' used' w w' is fewer more shown = absurd (cc)
   step-halts before seen r go h s (suc n) used left' used' w w' is fewer more shown =
       let value : r ≡ Err h = cc in
-      let step : Step = step_of before seen Nothing (Some h) [] in
+      let step : Transition = step_of before seen Nothing (Some h) [] in
       let P : Result Yield Halt → Type 0 = λ z. Ran may (λ t. traced (head_step before seen z go) s) (moment s (suc n) used w) (moment s left' used' w') (Halted h) in
       subst P (sym value)
       (record {
@@ -95,7 +94,7 @@ module _ {W : Type 0} (may : W → Observation → W → Type 0) where
       → Ran may (λ t. traced (head_step before seen r go) s) (moment s left used w) (moment s left' used' w') Limited
   step-limited before seen r go s (suc n) used left' used' w w' is fewer more shown = absurd (cc)
   step-limited before seen r go s zero used left' used' w w' is fewer more shown =
-      let step : Step = head_step before seen r go in
+      let step : Transition = head_step before seen r go in
       let a : left' ≡ 0 = omega arith in
       let b : used' ≡ used = omega arith in
       record {
@@ -103,35 +102,31 @@ module _ {W : Type 0} (may : W → Observation → W → Type 0) where
         shown = subst (λ (os : List Observation). Chain may w os w') (append-nil before ∙ sym (seen-due step s 0 refl ∙ head-due before seen r go)) shown;
       }
 
-  -- a head was evaluated, or was due: what it yields, the steps, and what was shown
-  pub record Evaluated (f : Frame) (head : Head) (a : Moment W) (left used : ℕ) (watch : W) (yields : Option (Result Yield Halt)) : Type 0 where
-    pub value : yields ≡ where_left a.left (head_of f head a.store).value
-    pub fewer : left ≡ a.left - 1
-    pub more : used ≡ a.used + min 1 a.left
-    pub shown : Chain may a.watch (announced f a.store ++ shown_where_left a.left (head_of f head a.store).seen) watch
-
   -- a head was evaluated, and what follows from what it yields was run
-  pub ran-head-yields : (f : Frame) (head : Head) (go : Yield → List (Store → Trace)) (y : Yield) (a c : Moment W) (left' used' : ℕ) (w' : W) (e : Finish)
-      → Evaluated f head a left' used' w' (Some (Ok y)) → Ran may (in_turn (go y)) (moment a.store left' used' w') c e → Ran may (λ s. traced (headed f head go s) s) a c e
-  ran-head-yields f head go y a c left' used' w' e ev rest =
+  pub ran-head-yields : (f : Frame) (head : Head) (go : Yield → List (Store → Trace)) (y : Yield) (a m c : Moment W) (e : Finish)
+      → Evaluated may f head a m (Some (Ok y)) → Ran may (in_turn (go y)) m c e → Ran may (λ s. traced (headed f head go s) s) a c e
+  ran-head-yields f head go y a m c e ev rest =
+      let from : Ran may (in_turn (go y)) (moment a.store m.left m.used m.watch) c e = subst (λ (s : Store). Ran may (in_turn (go y)) (moment s m.left m.used m.watch) c e) ev.store rest in
       ran-same (λ s. traced (headed f head go a.store) a.store) (λ s. traced (headed f head go s) s) a c e refl
-      (step-yields (announced f a.store) (head_of f head a.store).seen (head_of f head a.store).value go y a.store a.left a.used left' used' a.watch w' c e ev.value ev.fewer ev.more ev.shown rest)
+      (step-yields (announced f a.store) (head_of f head a.store).seen (head_of f head a.store).value go y a.store a.left a.used m.left m.used a.watch m.watch c e ev.value ev.left ev.used ev.shown from)
 
   -- a head halted
-  pub ran-head-halts : (f : Frame) (head : Head) (go : Yield → List (Store → Trace)) (h : Halt) (a : Moment W) (left' used' : ℕ) (w' : W)
-      → Evaluated f head a left' used' w' (Some (Err h))
-      → Ran may (λ s. traced (headed f head go s) s) a (moment a.store left' used' w') (Halted h)
-  ran-head-halts f head go h a left' used' w' ev =
-      ran-same (λ s. traced (headed f head go a.store) a.store) (λ s. traced (headed f head go s) s) a _ _ refl
-      (step-halts (announced f a.store) (head_of f head a.store).seen (head_of f head a.store).value go h a.store a.left a.used left' used' a.watch w' ev.value ev.fewer ev.more ev.shown)
+  pub ran-head-halts : (f : Frame) (head : Head) (go : Yield → List (Store → Trace)) (h : Halt) (a m : Moment W)
+      → Evaluated may f head a m (Some (Err h))
+      → Ran may (λ s. traced (headed f head go s) s) a m (Halted h)
+  ran-head-halts f head go h a m ev =
+      subst (λ (s : Store). Ran may (λ u. traced (headed f head go u) u) a (moment s m.left m.used m.watch) (Halted h)) (sym ev.store)
+      (ran-same (λ s. traced (headed f head go a.store) a.store) (λ s. traced (headed f head go s) s) a _ _ refl
+      (step-halts (announced f a.store) (head_of f head a.store).seen (head_of f head a.store).value go h a.store a.left a.used m.left m.used a.watch m.watch ev.value ev.left ev.used ev.shown))
 
   -- no step was left for a head
-  pub ran-head-limited : (f : Frame) (head : Head) (go : Yield → List (Store → Trace)) (a : Moment W) (left' used' : ℕ) (w' : W)
-      → Evaluated f head a left' used' w' None
-      → Ran may (λ s. traced (headed f head go s) s) a (moment a.store left' used' w') Limited
-  ran-head-limited f head go a left' used' w' ev =
-      ran-same (λ s. traced (headed f head go a.store) a.store) (λ s. traced (headed f head go s) s) a _ _ refl
-      (step-limited (announced f a.store) (head_of f head a.store).seen (head_of f head a.store).value go a.store a.left a.used left' used' a.watch w' ev.value ev.fewer ev.more ev.shown)
+  pub ran-head-limited : (f : Frame) (head : Head) (go : Yield → List (Store → Trace)) (a m : Moment W)
+      → Evaluated may f head a m None
+      → Ran may (λ s. traced (headed f head go s) s) a m Limited
+  ran-head-limited f head go a m ev =
+      subst (λ (s : Store). Ran may (λ u. traced (headed f head go u) u) a (moment s m.left m.used m.watch) Limited) (sym ev.store)
+      (ran-same (λ s. traced (headed f head go a.store) a.store) (λ s. traced (headed f head go s) s) a _ _ refl
+      (step-limited (announced f a.store) (head_of f head a.store).seen (head_of f head a.store).value go a.store a.left a.used m.left m.used a.watch m.watch ev.value ev.left ev.used ev.shown))
 
   -- where a run of what is left of a loop leads, so does one of the loop
   abbrev pub Leads : (Store → Trace) → Moment W → (Moment W → Finish → Type 0) → Type 0
@@ -167,40 +162,40 @@ module _ {W : Type 0} (may : W → Observation → W → Type 0) where
       let P : ℕ → Type 0 = λ m. Ran may (whiles_from m t frame head turn) a c e in
       leads c e (subst P (sym n) r)
 
-  pub while-next : (frame : ℕ → Frame) (head : Head) (turn : ℕ → Store → Trace) (k t : ℕ) (a b : Moment W) (left' used' : ℕ) (w' : W) (Whole : Moment W → Finish → Type 0) → t < k
-      → Evaluated (frame t) head a left' used' w' (Some (Ok (Tested true)))
-      → Ran may (turn t) (moment a.store left' used' w') b Done
+  pub while-next : (frame : ℕ → Frame) (head : Head) (turn : ℕ → Store → Trace) (k t : ℕ) (a m b : Moment W) (Whole : Moment W → Finish → Type 0) → t < k
+      → Evaluated may (frame t) head a m (Some (Ok (Tested true)))
+      → Ran may (turn t) m b Done
       → Leads (whiles_from (k - t) t frame head turn) a Whole → Leads (whiles_from (k - (t + 1)) (t + 1) frame head turn) b Whole
-  while-next frame head turn k t a b left' used' w' Whole more ev first leads c e rest =
+  while-next frame head turn k t a m b Whole more ev first leads c e rest =
       while-step frame head turn k t a c e Whole more leads
-      (ran-head-yields (frame t) head _ (Tested true) a c left' used' w' e ev
-      (ran-then (turn t) (in_turn (whiles_from (k - (t + 1)) (t + 1) frame head turn ∷ [])) (moment a.store left' used' w') b c e first
+      (ran-head-yields (frame t) head _ (Tested true) a m c e ev
+      (ran-then (turn t) (in_turn (whiles_from (k - (t + 1)) (t + 1) frame head turn ∷ [])) m b c e first
       (ran-only (whiles_from (k - (t + 1)) (t + 1) frame head turn) b c e rest)))
 
-  pub while-out : (frame : ℕ → Frame) (head : Head) (turn : ℕ → Store → Trace) (k t : ℕ) (a b : Moment W) (left' used' : ℕ) (w' : W) (e : Finish) (Whole : Moment W → Finish → Type 0) → t < k
-      → Evaluated (frame t) head a left' used' w' (Some (Ok (Tested true)))
-      → Ran may (turn t) (moment a.store left' used' w') b e → (e ≡ Done → ⊥)
+  pub while-out : (frame : ℕ → Frame) (head : Head) (turn : ℕ → Store → Trace) (k t : ℕ) (a m b : Moment W) (e : Finish) (Whole : Moment W → Finish → Type 0) → t < k
+      → Evaluated may (frame t) head a m (Some (Ok (Tested true)))
+      → Ran may (turn t) m b e → (e ≡ Done → ⊥)
       → Leads (whiles_from (k - t) t frame head turn) a Whole → Whole b e
-  while-out frame head turn k t a b left' used' w' e Whole more ev first other leads =
+  while-out frame head turn k t a m b e Whole more ev first other leads =
       while-step frame head turn k t a b e Whole more leads
-      (ran-head-yields (frame t) head _ (Tested true) a b left' used' w' e ev
-      (ran-out (turn t) (in_turn (whiles_from (k - (t + 1)) (t + 1) frame head turn ∷ [])) (moment a.store left' used' w') b e first other))
+      (ran-head-yields (frame t) head _ (Tested true) a m b e ev
+      (ran-out (turn t) (in_turn (whiles_from (k - (t + 1)) (t + 1) frame head turn ∷ [])) m b e first other))
 
-  pub while-end : (frame : ℕ → Frame) (head : Head) (turn : ℕ → Store → Trace) (k t : ℕ) (a : Moment W) (left' used' : ℕ) (w' : W) (Whole : Moment W → Finish → Type 0) → t < k
-      → Evaluated (frame t) head a left' used' w' (Some (Ok (Tested false)))
-      → Leads (whiles_from (k - t) t frame head turn) a Whole → Whole (moment a.store left' used' w') Done
-  while-end frame head turn k t a left' used' w' Whole more ev leads =
-      while-step frame head turn k t a (moment a.store left' used' w') Done Whole more leads
-      (ran-head-yields (frame t) head _ (Tested false) a (moment a.store left' used' w') left' used' w' Done ev (ran-ends (moment a.store left' used' w')))
+  pub while-end : (frame : ℕ → Frame) (head : Head) (turn : ℕ → Store → Trace) (k t : ℕ) (a m : Moment W) (Whole : Moment W → Finish → Type 0) → t < k
+      → Evaluated may (frame t) head a m (Some (Ok (Tested false)))
+      → Leads (whiles_from (k - t) t frame head turn) a Whole → Whole m Done
+  while-end frame head turn k t a m Whole more ev leads =
+      while-step frame head turn k t a m Done Whole more leads
+      (ran-head-yields (frame t) head _ (Tested false) a m m Done ev (ran-ends m))
 
-  pub while-halts : (frame : ℕ → Frame) (head : Head) (turn : ℕ → Store → Trace) (k t : ℕ) (a : Moment W) (left' used' : ℕ) (w' : W) (h : Halt) (Whole : Moment W → Finish → Type 0) → t < k
-      → Evaluated (frame t) head a left' used' w' (Some (Err h))
-      → Leads (whiles_from (k - t) t frame head turn) a Whole → Whole (moment a.store left' used' w') (Halted h)
-  while-halts frame head turn k t a left' used' w' h Whole more ev leads =
-      while-step frame head turn k t a _ _ Whole more leads (ran-head-halts (frame t) head _ h a left' used' w' ev)
+  pub while-halts : (frame : ℕ → Frame) (head : Head) (turn : ℕ → Store → Trace) (k t : ℕ) (a m : Moment W) (h : Halt) (Whole : Moment W → Finish → Type 0) → t < k
+      → Evaluated may (frame t) head a m (Some (Err h))
+      → Leads (whiles_from (k - t) t frame head turn) a Whole → Whole m (Halted h)
+  while-halts frame head turn k t a m h Whole more ev leads =
+      while-step frame head turn k t a _ _ Whole more leads (ran-head-halts (frame t) head _ h a m ev)
 
-  pub while-limited : (frame : ℕ → Frame) (head : Head) (turn : ℕ → Store → Trace) (k t : ℕ) (a : Moment W) (left' used' : ℕ) (w' : W) (Whole : Moment W → Finish → Type 0) → t < k
-      → Evaluated (frame t) head a left' used' w' None
-      → Leads (whiles_from (k - t) t frame head turn) a Whole → Whole (moment a.store left' used' w') Limited
-  while-limited frame head turn k t a left' used' w' Whole more ev leads =
-      while-step frame head turn k t a _ _ Whole more leads (ran-head-limited (frame t) head _ a left' used' w' ev)
+  pub while-limited : (frame : ℕ → Frame) (head : Head) (turn : ℕ → Store → Trace) (k t : ℕ) (a m : Moment W) (Whole : Moment W → Finish → Type 0) → t < k
+      → Evaluated may (frame t) head a m None
+      → Leads (whiles_from (k - t) t frame head turn) a Whole → Whole m Limited
+  while-limited frame head turn k t a m Whole more ev leads =
+      while-step frame head turn k t a _ _ Whole more leads (ran-head-limited (frame t) head _ a m ev)

@@ -1,7 +1,7 @@
 -- Traces of which one stops where the other goes on.
 use Rattle.std.proofs.Common.{◌≡◌, refl, ap, ◌∙◌, sym, subst, ℕ, ℤ, zero, suc, ◌<◌, ◌+◌, ◌≤◌, ◌⊎◌, inl, inr, Bool, true, false, nat_le, List, [], ◌∷◌, ◌++◌, length, append_assoc, Option, Some, None, arith}
 use Rattle.nest_lang.specs.Stores.{Store, effect_on}
-use Rattle.nest_lang.specs.Traces.{Observation, Entry, Halt, Stopped, Trace, joined, and_then, in_turn, Step, traced, after_all, Halted, Cut, cut, seen_of, seen_in}
+use Rattle.nest_lang.specs.Traces.{Observation, Entry, Halt, Stopped, Trace, joined, and_then, in_turn, Transition, traced, after_all, Halted, Cut, cut, seen_of, seen_in}
 use Rattle.nest_lang.proofs.Cuts.{trace_of, cut-stop, cut-cons, cut-end}
 use Rattle.plain_interp.specs.Laws.{IsStopped}
 
@@ -74,7 +74,7 @@ pub up-two : (f g f' g' : Store → Trace) → UpToOn f g → UpToOn f' g' → U
 up-two f g f' g' on on' s = up-and_then s (f s) (g s) (in_turn (f' ∷ [])) (in_turn (g' ∷ [])) (on s) (up-only f' g' on')
 
 -- a step that stops
-pub up-stops : (a b : Step) (s : Store) (access : ℕ) (seen : ℤ) (expected : Option ℤ) → a.halt ≡ Some (Stopped access seen expected) → a.entry.before ≡ b.entry.before → UpTo (traced a s) (traced b s)
+pub up-stops : (a b : Transition) (s : Store) (access : ℕ) (seen : ℤ) (expected : Option ℤ) → a.halt ≡ Some (Stopped access seen expected) → a.entry.before ≡ b.entry.before → UpTo (traced a s) (traced b s)
 up-stops a b s access seen expected stops due =
     let front = joined-front b.halt (b.entry ∷ []) [] b.entry [] (in_turn b.rest (effect_on s b.entry.effect)) refl in
     inr (record {

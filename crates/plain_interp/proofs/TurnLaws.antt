@@ -3,7 +3,7 @@ use Rattle.std.proofs.Common.{◌≡◌, ap, ◌∙◌, sym, ℕ, ◌+◌, ◌-�
 use Rattle.nest_lang.specs.Stores.{Store}
 use Rattle.nest_lang.specs.Traces.{Trace, cut, seen_in}
 use Rattle.nest_lang.proofs.Cuts.{rest_seen, seen-and_then}
-use Rattle.plain_interp.specs.Outermost.{turns_trace, turns_later}
+use Rattle.nest_lang.specs.Turns.{turns_trace, turns_later}
 use Rattle.plain_interp.specs.Laws.{TurnsJoin, FewerTurnsBegin}
 use Rattle.plain_interp.proofs.OuterTurns.{turns_trace-split}
 

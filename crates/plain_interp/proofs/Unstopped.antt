@@ -19,12 +19,12 @@ use Rattle.nest_lang.specs.declared.state.Outer.{Outer}
 use Rattle.nest_lang.specs.Values.{same, turn_value}
 use Rattle.nest_lang.specs.Stores.{Store, word_at, Nothing, Local, Scalar}
 use Rattle.nest_lang.specs.Lookups.{Interval, Expectation, plain, lies_in, line_of, look, look_load, look_store, word_or_outside}
-use Rattle.nest_lang.specs.Traces.{Instance, Observation, Entry, Halt, Stopped, Trace, in_turn, Step, step_of, traced}
+use Rattle.nest_lang.specs.Traces.{Occurrence, Observation, Entry, Halt, Stopped, Trace, in_turn, Transition, step_of, traced}
 use Rattle.nest_lang.specs.Expressions.{Frame, shown, Told, telling, then_tell, or_stopped, expression_level, told_by, told}
 use Rattle.nest_lang.specs.Statements.{with_value, stored, statement_level, statement_trace, block_trace, started, announced, shown_before, instance_trace}
 use Rattle.nest_lang.specs.Heads.{Yield, Bounds, Tested, Headed, heading, then_head, head_of, head_step, headed}
 use Rattle.nest_lang.specs.Loops.{Around, inward, outside, frame_of, turn_trace, turns_from, turns_of, turn_if, whiles_from, loop_by, loops_trace}
-use Rattle.plain_interp.specs.Outermost.{counted_turns, turn_or_over, tested_turns, turns_by, turns_trace}
+use Rattle.nest_lang.specs.Turns.{counted_turns, turn_or_over, tested_turns, turns_by, turns_trace}
 use Rattle.plain_interp.specs.Laws.{UnstoppedTurnsArePlain}
 use Rattle.plain_interp.proofs.StopsShort.{UpTo, UpToOn, up-joined, up-and_then, up-ends, up-only, up-two, up-stops, up-same}
 
@@ -78,7 +78,7 @@ then_head-up p q go go' (inl e) each = subst (λ (r : Told). HeadedUpTo (then_he
 then_head-up p q go go' (inr stop) each = inr (stop.0, stop.1, stop.2, ap (λ (v : Result ℤ Halt). (then_head p.seen v go).value) stop.3)
 
 -- a step that follows from a value
-with_value-before : (seen : List Observation) (v : Result ℤ Halt) (go : ℤ → Step) → ((z : ℤ) → (go z).entry.before ≡ []) → (with_value seen v go).entry.before ≡ []
+with_value-before : (seen : List Observation) (v : Result ℤ Halt) (go : ℤ → Transition) → ((z : ℤ) → (go z).entry.before ≡ []) → (with_value seen v go).entry.before ≡ []
 with_value-before seen (Ok z) go each = each z
 with_value-before seen (Err halt) go each = refl
 
@@ -86,12 +86,12 @@ stored-before : (seen : List Observation) (z v : ℤ) (r : Result ℤ Halt) → 
 stored-before seen z v (Ok old) = refl
 stored-before seen z v (Err halt) = refl
 
-with_value-stops : (seen : List Observation) (v : Result ℤ Halt) (go : ℤ → Step) (b : Step) (s : Store) → Stops v → b.entry.before ≡ [] → UpTo (traced (with_value seen v go) s) (traced b s)
+with_value-stops : (seen : List Observation) (v : Result ℤ Halt) (go : ℤ → Transition) (b : Transition) (s : Store) → Stops v → b.entry.before ≡ [] → UpTo (traced (with_value seen v go) s) (traced b s)
 with_value-stops seen v go b s stop none =
     up-stops (with_value seen v go) b s stop.0 stop.1 stop.2 (ap (λ (r : Result ℤ Halt). (with_value seen r go).halt) stop.3)
     (ap (λ (r : Result ℤ Halt). (with_value seen r go).entry.before) stop.3 ∙ sym none)
 
-with_value-same : (seen : List Observation) (v : Result ℤ Halt) (go go' : ℤ → Step) (s : Store) → ((z : ℤ) → UpTo (traced (go z) s) (traced (go' z) s)) → UpTo (traced (with_value seen v go) s) (traced (with_value seen v go') s)
+with_value-same : (seen : List Observation) (v : Result ℤ Halt) (go go' : ℤ → Transition) (s : Store) → ((z : ℤ) → UpTo (traced (go z) s) (traced (go' z) s)) → UpTo (traced (with_value seen v go) s) (traced (with_value seen v go') s)
 with_value-same seen (Ok z) go go' s each = each z
 with_value-same seen (Err halt) go go' s each = inl refl
 
@@ -106,7 +106,7 @@ head_step-before before seen (Ok yield) go = refl
 head_step-before before seen (Err halt) go = refl
 
 -- an instance, where its addresses are verified and where not
-module _ (at : Instance) (values : List ℤ) (x : Expectation) where
+module _ (at : Occurrence) (values : List ℤ) (x : Expectation) where
   f : Frame
   f = record { at = at; values = values; expects = x }
 
@@ -153,7 +153,7 @@ module _ (at : Instance) (values : List ℤ) (x : Expectation) where
   chosen-up true p q p' q' first second = first
   chosen-up false p q p' q' first second = second
 
-  set-up : (go : ℤ → List Observation → Step) (p q : Told) (s : Store) → ((z : ℤ) (os : List Observation) → (go z os).entry.before ≡ []) → ToldUpTo p q
+  set-up : (go : ℤ → List Observation → Transition) (p q : Told) (s : Store) → ((z : ℤ) (os : List Observation) → (go z os).entry.before ≡ []) → ToldUpTo p q
       → UpTo (traced (with_value p.seen p.value (λ v. go v p.seen)) s) (traced (with_value q.seen q.value (λ v. go v q.seen)) s)
   set-up go p q s none (inl e) = inl (ap (λ (r : Told). traced (with_value r.seen r.value (λ v. go v r.seen)) s) e)
   set-up go p q s none (inr stop) = with_value-stops p.seen p.value (λ v. go v p.seen) (with_value q.seen q.value (λ v. go v q.seen)) s stop (with_value-before q.seen q.value (λ v. go v q.seen) (λ z. none z q.seen))
@@ -171,10 +171,10 @@ module _ (at : Instance) (values : List ℤ) (x : Expectation) where
       (with_value q.seen q.value (λ v. step_of [] q.seen Nothing None (if same v (pos 0) then second' else first'))) s stop
       (with_value-before q.seen q.value (λ v. step_of [] q.seen Nothing None (if same v (pos 0) then second' else first')) (λ z. refl))
 
-  abbrev value_step : ℕ → Told → Told → (ℤ → Result ℤ Halt) → ℤ → Step
+  abbrev value_step : ℕ → Told → Told → (ℤ → Result ℤ Halt) → ℤ → Transition
   value_step access a e found address = with_value (a.seen ++ e.seen) e.value (λ v. stored (a.seen ++ e.seen ++ shown f (Address access) address ∷ []) address v (found address))
 
-  abbrev store_step : ℕ → Told → Told → (ℤ → Result ℤ Halt) → Step
+  abbrev store_step : ℕ → Told → Told → (ℤ → Result ℤ Halt) → Transition
   store_step access a e found = with_value a.seen a.value (value_step access a e found)
 
   value-before : (access : ℕ) (a e : Told) (found : ℤ → Result ℤ Halt) (z : ℤ) → (value_step access a e found z).entry.before ≡ []

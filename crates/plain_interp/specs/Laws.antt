@@ -5,7 +5,7 @@ use Rattle.nest_lang.specs.declared.state.Outer.{Outer}
 use Rattle.nest_lang.specs.Stores.{Store}
 use Rattle.nest_lang.specs.Lookups.{Expectation, plain}
 use Rattle.nest_lang.specs.Traces.{Observation, Stopped, and_then, Finish, Halted, cut, seen_in}
-use Rattle.plain_interp.specs.Outermost.{turns_trace, turns_later}
+use Rattle.nest_lang.specs.Turns.{turns_trace, turns_later}
 
 -- c turns, and then d turns from the position c turns later, are c + d turns
 abbrev pub TurnsJoin : Type 0

@@ -1,3 +1,3 @@
 pub mod Laws
-pub mod Moments
-pub mod Outermost
+pub mod Levels
+pub mod Entries

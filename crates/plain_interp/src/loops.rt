@@ -1,345 +1,151 @@
 //! Loops inside one another.
-//!
-//! `counters` and `values` have a place for each level of the nest. A loop at a level, from 0, reads the
-//! places before its own, which belong to the loops around it, and writes its own and those behind it;
-//! what these hold as a loop begins is no matter.
 
-ghost use Rattle.std.specs.Prelude.{◌≡◌, ◌+◌, ◌<◌, ◌≤◌, ◌^◌, ℕ, pos, ◌∷◌, [], length, take, true, false, FitsSigned};
-ghost use Rattle.std.specs.Int.{w64};
+ghost use Rattle.std.specs.Prelude.{◌≡◌, ◌+◌, ◌<◌, ◌≤◌, ◌^◌, length, IsOk};
+ghost use Rattle.nest_lang.specs.declared.tree.Head.TheVariants.{While};
 ghost use Rattle.nest_lang.specs.Values.{turn_value};
-ghost use Rattle.nest_lang.specs.Stores.{store_of};
-ghost use Rattle.nest_lang.specs.Statements.{instance_trace};
-ghost use Rattle.nest_lang.specs.Rules.{loop_keeps};
-ghost use Rattle.nest_lang.specs.Loops.{loops_trace, turn_trace, turns_from, inward, frame_of};
-ghost use Rattle.block_exec.specs.Ends.{finish_by, IsUnstopped};
-ghost use Rattle.plain_interp.specs.Moments.{moment, Ran, RanWithin, around_of, IsWhile};
+ghost use Rattle.nest_lang.specs.Loops.{turns_from, inward};
+ghost use Rattle.block_exec.specs.Sites.{around_at};
+ghost use Rattle.block_exec.specs.Moments.{RanWithin};
+ghost use Rattle.block_exec.specs.Halts.{TurnsFit, finish_of};
+ghost use Rattle.block_exec.specs.Runs.{Kept, outside};
+ghost use Rattle.plain_interp.specs.Levels.{IsLevel, level_trace, level_turn};
 
-use block_exec::{BlockEnd, HeadEnd, Port, Watch, exec_block, exec_head};
-use nest_lang::{BlockRef, Budget, Head, Loop, Part, Stmt};
+use block_exec::{Bounds, Cut, Places, Port, Run, Watch, value_of_turn};
+use nest_lang::{BlockRef, Expr, Head, Loop, Part};
 
-/// Runs a loop at a level, with the loops `rest` inside of it.
+/// A level of a nest: a loop, the loops inside of it, the outermost first, and the number of those around
+/// it.
+#[derive(Clone, Copy, Debug)]
+pub struct Level<'a> {
+    pub first: &'a Loop,
+    pub rest: &'a [Loop],
+    pub depth: usize,
+}
+
+impl Level<'_> {
+    /// A block of this level's loop.
+    pub fn block(&self, part: Part) -> BlockRef
+        requires { self.now.depth < 6 }
+        ensures { result ≡ record { part = part; level = self.now.depth + 1 } }
+    {
+        BlockRef {
+            part,
+            level: self.depth as u8 + 1,
+        }
+    }
+}
+
+/// Runs the loop of a level. Of the places it reads those of the loops around it, and leaves them as they
+/// are.
 #[cycle(loops)]
 pub fn run_loop<P: Port, W: Watch>(
-    first: &Loop,
-    rest: &[Loop],
-    level: usize,
-    counters: &mut [i64],
-    values: &mut [i64],
-    scalars: &mut [i64],
-    port: &mut P,
-    steps: &mut Budget,
-    watch: &mut W,
-) -> BlockEnd
-    requires steps { steps.old.left + steps.old.used ≤ 2 ^ 32 }
-    requires scalars { length scalars.old ≤ 256 }
-    requires counters { level + length rest.now < length counters.old }
-    requires values { level + length rest.now < length values.old }
-    requires levels { level + length rest.now < 6 }
-    requires rules { loop_keeps first.now rest.now ≡ true }
-    ensures ran { RanWithin W.may
-        (λ k. loops_trace (P.expects port.old) k (level + 1) (first.now ∷ rest.now) (around_of level counters.old values.old))
-        (moment (store_of (P.memory port.old) scalars.old []) steps.old.left steps.old.used watch.old)
-        (moment (store_of (P.memory port.new) scalars.new []) steps.new.left steps.new.used watch.new)
-        (finish_by result) }
-    ensures stepped { result ≡ BlockEnd.Ended → steps.new.left < steps.old.left }
-    ensures fewer { steps.new.left ≤ steps.old.left }
-    ensures kept { steps.new.left + steps.new.used ≡ steps.old.left + steps.old.used }
-    ensures scalars { length scalars.new ≡ length scalars.old }
-    ensures counters { take level counters.new ≡ take level counters.old }
-    ensures values { take level values.new ≡ take level values.old }
-    ensures quiet { (P.expects port.old).verifies ≡ false → IsUnstopped result }
-    ensures expects { P.expects port.new ≡ P.expects port.old }
-    ensures basis { P.basis port.new ≡ P.basis port.old }
+    run: &mut Run<'_, P, W>,
+    at: &Level<'_>,
+    places: &mut Places,
+) -> Result<(), Cut>
+    requires steps { run.old.steps.left + run.old.steps.used ≤ 2 ^ 32 }
+    requires scalars { length run.old.scalars.now ≤ 256 }
+    requires level { IsLevel at.now }
+    ensures ran { RanWithin W.may (level_trace (P.expects run.old.port.now) at.now (around_at at.now.depth places.old)) (outside P.memory run.old) (outside P.memory run.new) (finish_of result run.new.halt) }
+    ensures kept { Kept P.expects P.basis run.old run.new }
+    ensures places { around_at at.now.depth places.new ≡ around_at at.now.depth places.old }
+    ensures stepped { IsOk result → run.new.steps.left < run.old.steps.left }
 {
-    match first.head {
-        Head::For(_, _, stride) => {
-            let at = BlockRef {
-                part: Part::Head,
-                level: level as u8 + 1,
-            };
-            match exec_head(
-                at,
-                &first.head,
-                scalars,
-                &values[..level],
-                &counters[..level],
-                port,
-                steps,
-                watch,
-            ) {
-                HeadEnd::For(lower, trip) => {
-                    run_for(
-                        lower, stride, trip, first, rest, level, counters, values, scalars, port,
-                        steps, watch,
-                    )
-                }
-                HeadEnd::While(_) => unreachable!(),
-                HeadEnd::Trapped(trap) => BlockEnd::Trapped(trap),
-                HeadEnd::Stopped(access, seen, expected) => BlockEnd::Stopped(
-                    access, seen, expected,
-                ),
-                HeadEnd::Limited => BlockEnd::Limited,
-            }
+    match &at.first.head {
+        Head::For(lower, upper, stride) => {
+            let site = places.site(at.block(Part::Head), at.depth);
+            let bounds = run.bounds(&site, lower, upper, *stride)?;
+            run_for(run, bounds, at, places)
         }
-        Head::While(_) => run_while(
-            first, rest, level, counters, values, scalars, port, steps, watch,
-        ),
+        Head::While(condition) => run_while(run, condition, at, places),
     }
 }
 
 /// Runs the turns of a `for` that was entered.
 #[cycle(loops)]
 fn run_for<P: Port, W: Watch>(
-    lower: i64,
-    stride: i64,
-    trip: u64,
-    first: &Loop,
-    rest: &[Loop],
-    level: usize,
-    counters: &mut [i64],
-    values: &mut [i64],
-    scalars: &mut [i64],
-    port: &mut P,
-    steps: &mut Budget,
-    watch: &mut W,
-) -> BlockEnd
-    requires steps { steps.old.left + steps.old.used ≤ 2 ^ 32 }
-    requires scalars { length scalars.old ≤ 256 }
-    requires counters { level + length rest.now < length counters.old }
-    requires values { level + length rest.now < length values.old }
-    requires levels { level + length rest.now < 6 }
-    requires rules { loop_keeps first.now rest.now ≡ true }
-    requires turns { (t : ℕ) → t < trip → FitsSigned w64 (turn_value lower stride t) }
+    run: &mut Run<'_, P, W>,
+    bounds: Bounds,
+    at: &Level<'_>,
+    places: &mut Places,
+) -> Result<(), Cut>
+    requires steps { run.old.steps.left + run.old.steps.used ≤ 2 ^ 32 }
+    requires scalars { length run.old.scalars.now ≤ 256 }
+    requires level { IsLevel at.now }
+    requires turns { TurnsFit bounds }
     ensures ran { RanWithin W.may
-        (λ k. turns_from trip 0 (λ t. turn_trace (P.expects port.old) (level + 1) first.now (loops_trace (P.expects port.old) k (level + 1 + 1) rest.now) (inward (around_of level counters.old values.old) t (turn_value lower stride t))))
-        (moment (store_of (P.memory port.old) scalars.old []) steps.old.left steps.old.used watch.old)
-        (moment (store_of (P.memory port.new) scalars.new []) steps.new.left steps.new.used watch.new)
-        (finish_by result) }
-    ensures fewer { steps.new.left ≤ steps.old.left }
-    ensures kept { steps.new.left + steps.new.used ≡ steps.old.left + steps.old.used }
-    ensures scalars { length scalars.new ≡ length scalars.old }
-    ensures counters { take level counters.new ≡ take level counters.old }
-    ensures values { take level values.new ≡ take level values.old }
-    ensures quiet { (P.expects port.old).verifies ≡ false → IsUnstopped result }
-    ensures expects { P.expects port.new ≡ P.expects port.old }
-    ensures basis { P.basis port.new ≡ P.basis port.old }
+        (λ k. turns_from bounds.trip 0 (λ t. level_turn (P.expects run.old.port.now) at.now (inward (around_at at.now.depth places.old) t (turn_value bounds.lower bounds.stride t)) k))
+        (outside P.memory run.old) (outside P.memory run.new) (finish_of result run.new.halt) }
+    ensures kept { Kept P.expects P.basis run.old run.new }
+    ensures places { around_at at.now.depth places.new ≡ around_at at.now.depth places.old }
 {
-    for turn in 0..trip {
-        counters[level] = turn as i64;
-        values[level] = value_of_turn(lower, stride, turn);
-        match run_turn(
-            first, rest, level, counters, values, scalars, port, steps, watch,
-        ) {
-            BlockEnd::Ended => {}
-            end => return end,
-        }
+    for turn in 0..bounds.trip {
+        let value = value_of_turn(bounds.lower, bounds.stride, turn);
+        places.begin(at.depth, turn, value);
+        run_turn(run, at, places)?;
     }
-    BlockEnd::Ended
+    Ok(())
 }
 
-/// Runs a `while`.
+/// Runs a `while` with this condition.
 #[cycle(loops)]
 fn run_while<P: Port, W: Watch>(
-    first: &Loop,
-    rest: &[Loop],
-    level: usize,
-    counters: &mut [i64],
-    values: &mut [i64],
-    scalars: &mut [i64],
-    port: &mut P,
-    steps: &mut Budget,
-    watch: &mut W,
-) -> BlockEnd
-    requires steps { steps.old.left + steps.old.used ≤ 2 ^ 32 }
-    requires scalars { length scalars.old ≤ 256 }
-    requires counters { level + length rest.now < length counters.old }
-    requires values { level + length rest.now < length values.old }
-    requires levels { level + length rest.now < 6 }
-    requires rules { loop_keeps first.now rest.now ≡ true }
-    requires head { IsWhile first.now.head }
-    ensures ran { RanWithin W.may
-        (λ k. loops_trace (P.expects port.old) k (level + 1) (first.now ∷ rest.now) (around_of level counters.old values.old))
-        (moment (store_of (P.memory port.old) scalars.old []) steps.old.left steps.old.used watch.old)
-        (moment (store_of (P.memory port.new) scalars.new []) steps.new.left steps.new.used watch.new)
-        (finish_by result) }
-    ensures stepped { result ≡ BlockEnd.Ended → steps.new.left < steps.old.left }
-    ensures fewer { steps.new.left ≤ steps.old.left }
-    ensures kept { steps.new.left + steps.new.used ≡ steps.old.left + steps.old.used }
-    ensures scalars { length scalars.new ≡ length scalars.old }
-    ensures counters { take level counters.new ≡ take level counters.old }
-    ensures values { take level values.new ≡ take level values.old }
-    ensures quiet { (P.expects port.old).verifies ≡ false → IsUnstopped result }
-    ensures expects { P.expects port.new ≡ P.expects port.old }
-    ensures basis { P.basis port.new ≡ P.basis port.old }
+    run: &mut Run<'_, P, W>,
+    condition: &Expr,
+    at: &Level<'_>,
+    places: &mut Places,
+) -> Result<(), Cut>
+    requires steps { run.old.steps.left + run.old.steps.used ≤ 2 ^ 32 }
+    requires scalars { length run.old.scalars.now ≤ 256 }
+    requires level { IsLevel at.now }
+    requires head { at.now.first.now.head ≡ While condition.now }
+    ensures ran { RanWithin W.may (level_trace (P.expects run.old.port.now) at.now (around_at at.now.depth places.old)) (outside P.memory run.old) (outside P.memory run.new) (finish_of result run.new.halt) }
+    ensures kept { Kept P.expects P.basis run.old run.new }
+    ensures places { around_at at.now.depth places.new ≡ around_at at.now.depth places.old }
+    ensures stepped { IsOk result → run.new.steps.left < run.old.steps.left }
 {
-    let at = BlockRef {
-        part: Part::Head,
-        level: level as u8 + 1,
-    };
     let mut turn = 0u64;
     'turns: loop {
-        counters[level] = turn as i64;
-        values[level] = turn as i64;
-        match exec_head(
-            at,
-            &first.head,
-            scalars,
-            &values[..level + 1],
-            &counters[..level + 1],
-            port,
-            steps,
-            watch,
-        ) {
-            HeadEnd::While(true) => {}
-            HeadEnd::While(false) => return BlockEnd::Ended,
-            HeadEnd::For(_, _) => unreachable!(),
-            HeadEnd::Trapped(trap) => return BlockEnd::Trapped(trap),
-            HeadEnd::Stopped(access, seen, expected) => return BlockEnd::Stopped(
-                access, seen, expected,
-            ),
-            HeadEnd::Limited => return BlockEnd::Limited,
+        places.begin(at.depth, turn, turn as i64);
+        let site = places.site(at.block(Part::Head), at.depth + 1);
+        if !run.condition(&site, condition)? {
+            return Ok(());
         }
-        match run_turn(
-            first, rest, level, counters, values, scalars, port, steps, watch,
-        ) {
-            BlockEnd::Ended => {}
-            end => return end,
-        }
+        run_turn(run, at, places)?;
         turn += 1;
     }
 }
 
-/// Runs one turn of a loop, whose turn number and value are set: the block before the inner loops,
-/// these, and the block after them.
+/// Runs one turn of a level's loop, whose turn number and value are set: the block before the inner
+/// loops, these, and the block after them.
 #[cycle(loops)]
 pub fn run_turn<P: Port, W: Watch>(
-    first: &Loop,
-    rest: &[Loop],
-    level: usize,
-    counters: &mut [i64],
-    values: &mut [i64],
-    scalars: &mut [i64],
-    port: &mut P,
-    steps: &mut Budget,
-    watch: &mut W,
-) -> BlockEnd
-    requires steps { steps.old.left + steps.old.used ≤ 2 ^ 32 }
-    requires scalars { length scalars.old ≤ 256 }
-    requires counters { level + length rest.now < length counters.old }
-    requires values { level + length rest.now < length values.old }
-    requires levels { level + length rest.now < 6 }
-    requires rules { loop_keeps first.now rest.now ≡ true }
-    ensures ran { RanWithin W.may
-        (λ k. turn_trace (P.expects port.old) (level + 1) first.now (loops_trace (P.expects port.old) k (level + 1 + 1) rest.now) (around_of (level + 1) counters.old values.old))
-        (moment (store_of (P.memory port.old) scalars.old []) steps.old.left steps.old.used watch.old)
-        (moment (store_of (P.memory port.new) scalars.new []) steps.new.left steps.new.used watch.new)
-        (finish_by result) }
-    ensures stepped { result ≡ BlockEnd.Ended → steps.new.left < steps.old.left }
-    ensures fewer { steps.new.left ≤ steps.old.left }
-    ensures kept { steps.new.left + steps.new.used ≡ steps.old.left + steps.old.used }
-    ensures scalars { length scalars.new ≡ length scalars.old }
-    ensures counters { take (level + 1) counters.new ≡ take (level + 1) counters.old }
-    ensures values { take (level + 1) values.new ≡ take (level + 1) values.old }
-    ensures quiet { (P.expects port.old).verifies ≡ false → IsUnstopped result }
-    ensures expects { P.expects port.new ≡ P.expects port.old }
-    ensures basis { P.basis port.new ≡ P.basis port.old }
+    run: &mut Run<'_, P, W>,
+    at: &Level<'_>,
+    places: &mut Places,
+) -> Result<(), Cut>
+    requires steps { run.old.steps.left + run.old.steps.used ≤ 2 ^ 32 }
+    requires scalars { length run.old.scalars.now ≤ 256 }
+    requires level { IsLevel at.now }
+    ensures ran { RanWithin W.may (level_turn (P.expects run.old.port.now) at.now (around_at (at.now.depth + 1) places.old)) (outside P.memory run.old) (outside P.memory run.new) (finish_of result run.new.halt) }
+    ensures kept { Kept P.expects P.basis run.old run.new }
+    ensures places { around_at (at.now.depth + 1) places.new ≡ around_at (at.now.depth + 1) places.old }
+    ensures stepped { IsOk result → run.new.steps.left < run.old.steps.left }
 {
-    match run_block(
-        Part::Pre,
-        first.pre.as_slice(),
-        level,
-        counters,
-        values,
-        scalars,
-        port,
-        steps,
-        watch,
-    ) {
-        BlockEnd::Ended => {}
-        end => return end,
+    run.block(
+        &places.site(at.block(Part::Pre), at.depth + 1),
+        at.first.pre.as_slice(),
+    )?;
+    if let Some((first, rest)) = at.rest.split_first() {
+        let inner = Level {
+            first,
+            rest,
+            depth: at.depth + 1,
+        };
+        run_loop(run, &inner, places)?;
     }
-    if let Some((inner, deeper)) = rest.split_first() {
-        match run_loop(
-            inner,
-            deeper,
-            level + 1,
-            counters,
-            values,
-            scalars,
-            port,
-            steps,
-            watch,
-        ) {
-            BlockEnd::Ended => {}
-            end => return end,
-        }
-    }
-    run_block(
-        Part::Post,
-        first.post.as_slice(),
-        level,
-        counters,
-        values,
-        scalars,
-        port,
-        steps,
-        watch,
+    run.block(
+        &places.site(at.block(Part::Post), at.depth + 1),
+        at.first.post.as_slice(),
     )
-}
-
-/// Runs an instance of a block of a loop, where it has statements.
-fn run_block<P: Port, W: Watch>(
-    part: Part,
-    block: &[Stmt],
-    level: usize,
-    counters: &[i64],
-    values: &[i64],
-    scalars: &mut [i64],
-    port: &mut P,
-    steps: &mut Budget,
-    watch: &mut W,
-) -> BlockEnd
-    requires steps { steps.old.left + steps.old.used ≤ 2 ^ 32 }
-    requires scalars { length scalars.old ≤ 256 }
-    requires counters { level < length counters.now }
-    requires values { level < length values.now }
-    requires levels { level < 6 }
-    ensures ran { Ran W.may
-        (instance_trace (frame_of (P.expects port.old) part (level + 1) (around_of (level + 1) counters.now values.now)) block.now)
-        (moment (store_of (P.memory port.old) scalars.old []) steps.old.left steps.old.used watch.old)
-        (moment (store_of (P.memory port.new) scalars.new []) steps.new.left steps.new.used watch.new)
-        (finish_by result) }
-    ensures fewer { steps.new.left ≤ steps.old.left }
-    ensures kept { steps.new.left + steps.new.used ≡ steps.old.left + steps.old.used }
-    ensures scalars { length scalars.new ≡ length scalars.old }
-    ensures quiet { (P.expects port.old).verifies ≡ false → IsUnstopped result }
-    ensures expects { P.expects port.new ≡ P.expects port.old }
-    ensures basis { P.basis port.new ≡ P.basis port.old }
-    ensures stepped { 0 < length block.now → result ≡ BlockEnd.Ended → steps.new.left < steps.old.left }
-{
-    if block.is_empty() {
-        return BlockEnd::Ended;
-    }
-    let at = BlockRef {
-        part,
-        level: level as u8 + 1,
-    };
-    exec_block(
-        at,
-        block,
-        scalars,
-        &values[..level + 1],
-        &counters[..level + 1],
-        port,
-        steps,
-        watch,
-    )
-}
-
-/// The value of a loop's name in a turn.
-pub fn value_of_turn(lower: i64, stride: i64, turn: u64) -> i64
-    requires { FitsSigned w64 (turn_value lower stride turn) }
-    ensures { result ≡ turn_value lower stride turn }
-{
-    (i128::from(lower) + i128::from(stride) * i128::from(turn)) as i64
 }

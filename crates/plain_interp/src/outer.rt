@@ -1,16 +1,19 @@
 //! Some turns of the outermost loop.
 
-ghost use Rattle.std.specs.Prelude.{◌≡◌, ◌+◌, ◌-◌, ◌<◌, ◌≤◌, ◌^◌, ℕ, ◌+ℤ◌, FitsSigned, pos, ◌∷◌, [], length, min, true, false};
+ghost use Rattle.std.specs.Prelude.{◌≡◌, ◌+◌, ◌<◌, ◌≤◌, ◌^◌, ℕ, ◌+ℤ◌, FitsSigned, pos, ◌∷◌, [], length, true, false, ◌≤ℤ◌, Err};
 ghost use Rattle.std.specs.Int.{w64};
-ghost use Rattle.nest_lang.specs.Rules.{keeps_rules, loop_keeps};
-ghost use Rattle.nest_lang.specs.Stores.{store_of};
-ghost use Rattle.nest_lang.specs.Loops.{Around, turn_trace, loops_trace};
-ghost use Rattle.plain_interp.specs.Moments.{moment, RanWithin};
-ghost use Rattle.plain_interp.specs.Outermost.{turns_trace, finish_by, turns_later, AreWhole, IsPosition, IsPositionIn, IsEntry, entry_steps};
+ghost use Rattle.nest_lang.specs.Rules.{loops_keep};
+ghost use Rattle.nest_lang.specs.Loops.{Around};
+ghost use Rattle.nest_lang.specs.Turns.{turns_trace, finish_of_turned, turns_later, AreWhole, IsPosition, IsPositionIn};
+ghost use Rattle.block_exec.specs.Moments.{RanWithin};
+ghost use Rattle.block_exec.specs.Halts.{IsTrap, finish_of};
+ghost use Rattle.block_exec.specs.Runs.{Kept, outside};
+ghost use Rattle.plain_interp.specs.Levels.{IsLevel, level_turn};
+ghost use Rattle.plain_interp.specs.Entries.{IsEntry};
 
-use crate::loops::{run_turn, value_of_turn};
-use block_exec::{Blind, BlockEnd, HeadEnd, Port, Watch, exec_head};
-use nest_lang::{BlockRef, Budget, Head, Loop, Nest, Outer, Part, Trap, Turned};
+use crate::loops::{Level, run_turn};
+use block_exec::{Cut, Halt, Places, Port, Run, Watch, value_of_turn};
+use nest_lang::{BlockRef, Head, Nest, Outer, Part, Trap, Turned};
 
 /// The head of the outermost loop.
 const HEAD: BlockRef = BlockRef {
@@ -30,45 +33,33 @@ pub enum Entered {
 }
 
 /// Enters the outermost loop: evaluates the head of a `for`, which is one step, and takes no step for a
-/// `while` (docs/DEFINITIONS.md, Turns). The port does not verify, and is left as it was; there are at
-/// most 256 scalars. `Limited` comes exactly where the step is due and none is left.
-pub fn enter<P: Port>(nest: &Nest, scalars: &[i64], port: &mut P, steps: &mut Budget) -> Entered
-    requires steps { steps.old.left + steps.old.used ≤ 2 ^ 32 }
-    requires scalars { length scalars.now ≤ 256 }
-    requires rules { keeps_rules nest.now.loops ≡ true }
-    requires plain { (P.expects port.old).verifies ≡ false }
-    ensures entry { IsEntry nest.now.loops (P.expects port.old) (store_of (P.memory port.old) scalars.now []) steps.old.left result }
+/// `while` (docs/DEFINITIONS.md, Turns). The watch is shown what that head shows. The port does not verify,
+/// and is left as it was; there are at most 256 scalars. `Limited` comes exactly where the step is due and
+/// none is left.
+pub fn enter<P: Port, W: Watch>(run: &mut Run<'_, P, W>, nest: &Nest) -> Entered
+    requires steps { run.old.steps.left + run.old.steps.used ≤ 2 ^ 32 }
+    requires scalars { length run.old.scalars.now ≤ 256 }
+    requires rules { loops_keep nest.now.loops ≡ true }
+    requires plain { (P.expects run.old.port.now).verifies ≡ false }
+    ensures entry { IsEntry W.may nest.now.loops (P.expects run.old.port.now) (outside P.memory run.old) (outside P.memory run.new) result }
     ensures position { (outer : _) → result ≡ Entered.At outer → IsPositionIn nest.now.loops outer }
-    ensures left { steps.new.left ≡ steps.old.left - entry_steps nest.now.loops }
-    ensures used { steps.new.used ≡ steps.old.used + min (entry_steps nest.now.loops) steps.old.left }
-    ensures memory { P.memory port.new ≡ P.memory port.old }
-    ensures expects { P.expects port.new ≡ P.expects port.old }
-    ensures basis { P.basis port.new ≡ P.basis port.old }
+    ensures kept { Kept P.expects P.basis run.old run.new }
 {
     let Some(first) = nest.loops.get(0) else {
         unreachable!()
     };
-    match first.head {
-        Head::For(_, _, _) => {
-            match exec_head(
-                HEAD,
-                &first.head,
-                scalars,
-                &[],
-                &[],
-                port,
-                steps,
-                &mut Blind,
-            ) {
-                HeadEnd::For(lower, trip) => Entered::At(Outer {
-                    lower,
+    run.halt = Halt::NONE;
+    match &first.head {
+        Head::For(lower, upper, stride) => {
+            let places = Places::new();
+            match run.bounds(&places.site(HEAD, 0), lower, upper, *stride) {
+                Ok(bounds) => Entered::At(Outer {
+                    lower: bounds.lower,
                     next: 0,
-                    left: Some(trip),
+                    left: Some(bounds.trip),
                 }),
-                HeadEnd::While(_) => unreachable!(),
-                HeadEnd::Trapped(trap) => Entered::Trapped(trap),
-                HeadEnd::Stopped(_, _, _) => unreachable!(),
-                HeadEnd::Limited => Entered::Limited,
+                Err(Cut::Halted) => Entered::Trapped(run.halt.trap()),
+                Err(Cut::Limited) => Entered::Limited,
             }
         }
         Head::While(_) => Entered::At(Outer {
@@ -84,41 +75,36 @@ pub fn enter<P: Port>(nest: &Nest, scalars: &[i64], port: &mut P, steps: &mut Bu
 /// ended earlier, and `outer.next` rises by the whole turns done. `Limited` comes exactly where a step is
 /// due and none is left. The port does not verify; there are at most 256 scalars.
 pub fn run_turns<P: Port, W: Watch>(
+    run: &mut Run<'_, P, W>,
     nest: &Nest,
     outer: &mut Outer,
-    scalars: &mut [i64],
-    port: &mut P,
     turns: u64,
-    steps: &mut Budget,
-    watch: &mut W,
 ) -> Turned
-    requires steps { steps.old.left + steps.old.used ≤ 2 ^ 32 }
-    requires scalars { length scalars.old ≤ 256 }
-    requires rules { keeps_rules nest.now.loops ≡ true }
-    requires plain { (P.expects port.old).verifies ≡ false }
+    requires steps { run.old.steps.left + run.old.steps.used ≤ 2 ^ 32 }
+    requires scalars { length run.old.scalars.now ≤ 256 }
+    requires rules { loops_keep nest.now.loops ≡ true }
+    requires plain { (P.expects run.old.port.now).verifies ≡ false }
     requires position { IsPositionIn nest.now.loops outer.old }
-    requires number { FitsSigned w64 (outer.old.next +ℤ pos steps.old.left) }
-    ensures ran { RanWithin W.may
-        (λ k. turns_trace (P.expects port.old) k nest.now.loops outer.old turns)
-        (moment (store_of (P.memory port.old) scalars.old []) steps.old.left steps.old.used watch.old)
-        (moment (store_of (P.memory port.new) scalars.new []) steps.new.left steps.new.used watch.new)
-        (finish_by result) }
+    requires number { FitsSigned w64 (outer.old.next +ℤ pos run.old.steps.left) }
+    ensures ran { RanWithin W.may (λ k. turns_trace (P.expects run.old.port.now) k nest.now.loops outer.old turns) (outside P.memory run.old) (outside P.memory run.new) (finish_of_turned result) }
     ensures outer { (j : ℕ) × (outer.new ≡ turns_later outer.old j)
-        × ((k : ℕ) → steps.old.left < k →
-        AreWhole (turns_trace (P.expects port.old) k nest.now.loops outer.old) (store_of (P.memory port.old) scalars.old []) steps.old.left turns j) }
+        × ((k : ℕ) → run.old.steps.left < k →
+        AreWhole (turns_trace (P.expects run.old.port.now) k nest.now.loops outer.old) (outside P.memory run.old).store run.old.steps.left turns j) }
     ensures position { IsPositionIn nest.now.loops outer.new }
-    ensures number { FitsSigned w64 (outer.new.next +ℤ pos steps.new.left) }
-    ensures fewer { steps.new.left ≤ steps.old.left }
-    ensures kept { steps.new.left + steps.new.used ≡ steps.old.left + steps.old.used }
-    ensures scalars { length scalars.new ≡ length scalars.old }
-    ensures expects { P.expects port.new ≡ P.expects port.old }
-    ensures basis { P.basis port.new ≡ P.basis port.old }
+    ensures number { FitsSigned w64 (outer.new.next +ℤ pos run.new.steps.left) }
+    ensures kept { Kept P.expects P.basis run.old run.new }
 {
     let Some((first, rest)) = nest.loops.as_slice().split_first() else {
         unreachable!()
     };
+    run.halt = Halt::NONE;
+    let outermost = Level {
+        first,
+        rest,
+        depth: 0,
+    };
     for _done in 0..turns {
-        match run_next(first, rest, outer, scalars, port, steps, watch) {
+        match run_next(run, &outermost, outer) {
             Turned::Went => {}
             end => return end,
         }
@@ -126,65 +112,42 @@ pub fn run_turns<P: Port, W: Watch>(
     Turned::Went
 }
 
-/// Runs one more turn.
+/// Runs one more turn of the outermost loop.
 fn run_next<P: Port, W: Watch>(
-    first: &Loop,
-    rest: &[Loop],
+    run: &mut Run<'_, P, W>,
+    at: &Level<'_>,
     outer: &mut Outer,
-    scalars: &mut [i64],
-    port: &mut P,
-    steps: &mut Budget,
-    watch: &mut W,
 ) -> Turned
-    requires steps { steps.old.left + steps.old.used ≤ 2 ^ 32 }
-    requires scalars { length scalars.old ≤ 256 }
-    requires rules { loop_keeps first.now rest.now ≡ true }
-    requires levels { length rest.now < 6 }
-    requires plain { (P.expects port.old).verifies ≡ false }
-    requires position { IsPosition first.now.head outer.old }
-    requires number { FitsSigned w64 (outer.old.next +ℤ pos steps.old.left) }
-    ensures ran { RanWithin W.may
-        (λ k. turns_trace (P.expects port.old) k (first.now ∷ rest.now) outer.old 1)
-        (moment (store_of (P.memory port.old) scalars.old []) steps.old.left steps.old.used watch.old)
-        (moment (store_of (P.memory port.new) scalars.new []) steps.new.left steps.new.used watch.new)
-        (finish_by result) }
-    ensures went { result ≡ Turned.Went → (outer.new ≡ turns_later outer.old 1) × (steps.new.left < steps.old.left) }
+    requires steps { run.old.steps.left + run.old.steps.used ≤ 2 ^ 32 }
+    requires scalars { length run.old.scalars.now ≤ 256 }
+    requires level { IsLevel at.now }
+    requires outermost { at.now.depth ≡ 0 }
+    requires plain { (P.expects run.old.port.now).verifies ≡ false }
+    requires halt { IsTrap run.old.halt }
+    requires position { IsPosition at.now.first.now.head outer.old }
+    requires number { FitsSigned w64 (outer.old.next +ℤ pos run.old.steps.left) }
+    ensures ran { RanWithin W.may (λ k. turns_trace (P.expects run.old.port.now) k (at.now.first.now ∷ at.now.rest.now) outer.old 1) (outside P.memory run.old) (outside P.memory run.new) (finish_of_turned result) }
+    ensures went { result ≡ Turned.Went → (outer.new ≡ turns_later outer.old 1) × (run.new.steps.left < run.old.steps.left) }
     ensures others { (result ≡ Turned.Went → ⊥) → outer.new ≡ outer.old }
-    ensures position { IsPosition first.now.head outer.new }
-    ensures fewer { steps.new.left ≤ steps.old.left }
-    ensures kept { steps.new.left + steps.new.used ≡ steps.old.left + steps.old.used }
-    ensures scalars { length scalars.new ≡ length scalars.old }
-    ensures expects { P.expects port.new ≡ P.expects port.old }
-    ensures basis { P.basis port.new ≡ P.basis port.old }
+    ensures position { IsPosition at.now.first.now.head outer.new }
+    ensures kept { Kept P.expects P.basis run.old run.new }
 {
-    match first.head {
+    let turn = outer.next;
+    match &at.first.head {
         Head::For(_, _, stride) => {
             if outer.left == Some(0) {
                 return Turned::Ended;
             }
-            let value = value_of_turn(outer.lower, stride, outer.next as u64);
-            run_from(value, first, rest, outer, scalars, port, steps, watch)
+            let value = value_of_turn(outer.lower, *stride, turn as u64);
+            run_from(run, value, at, outer)
         }
-        Head::While(_) => {
-            let turn = outer.next;
-            match exec_head(
-                HEAD,
-                &first.head,
-                scalars,
-                &[turn],
-                &[turn],
-                port,
-                steps,
-                watch,
-            ) {
-                HeadEnd::While(true) => run_from(
-                    turn, first, rest, outer, scalars, port, steps, watch,
-                ),
-                HeadEnd::While(false) => Turned::Ended,
-                HeadEnd::For(_, _) => unreachable!(),
-                HeadEnd::Trapped(trap) => Turned::Trapped(trap),
-                HeadEnd::Stopped(_, _, _) => unreachable!(),
-                HeadEnd::Limited => Turned::Limited,
+        Head::While(condition) => {
+            let mut places = Places::new();
+            places.begin(0, turn as u64, turn);
+            match run.condition(&places.site(HEAD, 1), condition) {
+                Ok(true) => run_from(run, turn, at, outer),
+                Ok(false) => Turned::Ended,
+                Err(cut) => turned_of(cut, run.halt),
             }
         }
     }
@@ -192,55 +155,45 @@ fn run_next<P: Port, W: Watch>(
 
 /// Runs the turn that is next, in which the loop's name has this value.
 fn run_from<P: Port, W: Watch>(
+    run: &mut Run<'_, P, W>,
     value: i64,
-    first: &Loop,
-    rest: &[Loop],
+    at: &Level<'_>,
     outer: &mut Outer,
-    scalars: &mut [i64],
-    port: &mut P,
-    steps: &mut Budget,
-    watch: &mut W,
 ) -> Turned
-    requires steps { steps.old.left + steps.old.used ≤ 2 ^ 32 }
-    requires scalars { length scalars.old ≤ 256 }
-    requires rules { loop_keeps first.now rest.now ≡ true }
-    requires levels { length rest.now < 6 }
-    requires plain { (P.expects port.old).verifies ≡ false }
-    requires number { FitsSigned w64 (outer.old.next +ℤ pos steps.old.left) }
-    ensures ran { let at : Around = record { counters = outer.old.next ∷ []; values = value ∷ [] } in
-        RanWithin W.may
-        (λ k. turn_trace (P.expects port.old) 1 first.now (loops_trace (P.expects port.old) k 2 rest.now) at)
-        (moment (store_of (P.memory port.old) scalars.old []) steps.old.left steps.old.used watch.old)
-        (moment (store_of (P.memory port.new) scalars.new []) steps.new.left steps.new.used watch.new)
-        (finish_by result) }
-    ensures went { result ≡ Turned.Went → (outer.new ≡ turns_later outer.old 1) × (steps.new.left < steps.old.left) }
+    requires steps { run.old.steps.left + run.old.steps.used ≤ 2 ^ 32 }
+    requires scalars { length run.old.scalars.now ≤ 256 }
+    requires level { IsLevel at.now }
+    requires outermost { at.now.depth ≡ 0 }
+    requires plain { (P.expects run.old.port.now).verifies ≡ false }
+    requires halt { IsTrap run.old.halt }
+    requires turn { pos 0 ≤ℤ outer.old.next }
+    requires number { FitsSigned w64 (outer.old.next +ℤ pos run.old.steps.left) }
+    ensures ran { let place : Around = record { counters = outer.old.next ∷ []; values = value ∷ [] } in
+        RanWithin W.may (level_turn (P.expects run.old.port.now) at.now place) (outside P.memory run.old) (outside P.memory run.new) (finish_of_turned result) }
+    ensures went { result ≡ Turned.Went → (outer.new ≡ turns_later outer.old 1) × (run.new.steps.left < run.old.steps.left) }
     ensures others { (result ≡ Turned.Went → ⊥) → outer.new ≡ outer.old }
-    ensures fewer { steps.new.left ≤ steps.old.left }
-    ensures kept { steps.new.left + steps.new.used ≡ steps.old.left + steps.old.used }
-    ensures scalars { length scalars.new ≡ length scalars.old }
-    ensures expects { P.expects port.new ≡ P.expects port.old }
-    ensures basis { P.basis port.new ≡ P.basis port.old }
+    ensures kept { Kept P.expects P.basis run.old run.new }
 {
-    let mut counters = [outer.next, 0, 0, 0, 0, 0];
-    let mut values = [value, 0, 0, 0, 0, 0];
-    match run_turn(
-        first,
-        rest,
-        0,
-        &mut counters,
-        &mut values,
-        scalars,
-        port,
-        steps,
-        watch,
-    ) {
-        BlockEnd::Ended => {
+    let mut places = Places::new();
+    places.begin(0, outer.next as u64, value);
+    match run_turn(run, at, &mut places) {
+        Ok(()) => {
             advance(outer);
             Turned::Went
         }
-        BlockEnd::Trapped(trap) => Turned::Trapped(trap),
-        BlockEnd::Stopped(_, _, _) => unreachable!(),
-        BlockEnd::Limited => Turned::Limited,
+        Err(cut) => turned_of(cut, run.halt),
+    }
+}
+
+/// How turns end that were cut short, where no address is verified.
+fn turned_of(cut: Cut, halt: Halt) -> Turned
+    requires { IsTrap halt }
+    ensures finish { finish_of_turned result ≡ finish_of (Err cut) halt }
+    ensures other { result ≡ Turned.Went → ⊥ }
+{
+    match cut {
+        Cut::Halted => Turned::Trapped(halt.trap()),
+        Cut::Limited => Turned::Limited,
     }
 }
 

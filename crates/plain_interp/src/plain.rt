@@ -1,14 +1,14 @@
 //! Whole plain runs.
 
 ghost use Rattle.std.specs.Prelude.{◌≡◌, ◌+◌, ◌<◌, ◌≤◌, ◌^◌, ℕ, ◌∷◌, [], length, true};
-ghost use Rattle.nest_lang.specs.Rules.{keeps_rules};
-ghost use Rattle.nest_lang.specs.Runs.{plain_run, nest_trace, finish_by};
+ghost use Rattle.nest_lang.specs.Rules.{loops_keep};
+ghost use Rattle.nest_lang.specs.Runs.{plain_run, nest_trace, finish_of_ending};
 ghost use Rattle.nest_lang.specs.Traces.{cut, cut_of};
 ghost use Rattle.nest_lang.specs.Stores.{store_of};
-ghost use Rattle.block_exec.specs.Ends as block;
+ghost use Rattle.block_exec.specs.Halts.{IsTrap, finish_of};
 
-use crate::loops::run_loop;
-use block_exec::{Blind, BlockEnd, MemoryPort};
+use crate::loops::{Level, run_loop};
+use block_exec::{Blind, Cut, Halt, MemoryPort, Places, Run};
 use nest_lang::{Budget, Ending, Nest, State};
 
 /// Runs a nest from a state within so many steps, and gives how it ended and its steps: the *plain run*
@@ -16,8 +16,8 @@ use nest_lang::{Budget, Ending, Nest, State};
 pub fn run_plain(nest: &Nest, state: &mut State, limit: u64) -> (Ending, u64)
     requires limit { limit ≤ 2 ^ 32 }
     requires scalars { length state.old.scalars ≤ 256 }
-    requires rules { keeps_rules nest.now.loops ≡ true }
-    ensures { record { store = state.new; ending = finish_by result.0; steps = result.1 } ≡ plain_run (nest.now ∷ []) state.old limit }
+    requires rules { loops_keep nest.now.loops ≡ true }
+    ensures { record { store = state.new; ending = finish_of_ending result.0; steps = result.1 } ≡ plain_run (nest.now ∷ []) state.old limit }
 {
     let mut steps = Budget {
         left: limit,
@@ -32,8 +32,8 @@ pub fn run_plain(nest: &Nest, state: &mut State, limit: u64) -> (Ending, u64)
 pub fn run_nest(nest: &Nest, state: &mut State, steps: &mut Budget) -> Ending
     requires steps { steps.old.left + steps.old.used ≤ 2 ^ 32 }
     requires scalars { length state.old.scalars ≤ 256 }
-    requires rules { keeps_rules nest.now.loops ≡ true }
-    ensures ran { (k : ℕ) → steps.old.left < k → cut_of state.new steps.new.left steps.new.used (finish_by result)
+    requires rules { loops_keep nest.now.loops ≡ true }
+    ensures ran { (k : ℕ) → steps.old.left < k → cut_of state.new steps.new.left steps.new.used (finish_of_ending result)
         ≡ cut (nest_trace k nest.now.loops state.old) state.old steps.old.left steps.old.used }
     ensures kept { steps.new.left + steps.new.used ≡ steps.old.left + steps.old.used }
     ensures fewer { steps.new.left ≤ steps.old.left }
@@ -47,8 +47,8 @@ pub fn run_nest(nest: &Nest, state: &mut State, steps: &mut Budget) -> Ending
 fn run_words(nest: &Nest, memory: &mut [i64], scalars: &mut [i64], steps: &mut Budget) -> Ending
     requires steps { steps.old.left + steps.old.used ≤ 2 ^ 32 }
     requires scalars { length scalars.old ≤ 256 }
-    requires rules { keeps_rules nest.now.loops ≡ true }
-    ensures ran { (k : ℕ) → steps.old.left < k → cut_of (store_of memory.new scalars.new []) steps.new.left steps.new.used (finish_by result)
+    requires rules { loops_keep nest.now.loops ≡ true }
+    ensures ran { (k : ℕ) → steps.old.left < k → cut_of (store_of memory.new scalars.new []) steps.new.left steps.new.used (finish_of_ending result)
         ≡ cut (nest_trace k nest.now.loops (store_of memory.old scalars.old [])) (store_of memory.old scalars.old []) steps.old.left steps.old.used }
     ensures kept { steps.new.left + steps.new.used ≡ steps.old.left + steps.old.used }
     ensures fewer { steps.new.left ≤ steps.old.left }
@@ -56,30 +56,34 @@ fn run_words(nest: &Nest, memory: &mut [i64], scalars: &mut [i64], steps: &mut B
     let Some((first, rest)) = nest.loops.as_slice().split_first() else {
         unreachable!()
     };
-    let mut port = MemoryPort::new(memory);
-    let end = run_loop(
+    let outermost = Level {
         first,
         rest,
-        0,
-        &mut [0; 6],
-        &mut [0; 6],
+        depth: 0,
+    };
+    let mut port = MemoryPort::new(memory);
+    let mut watch = Blind;
+    let mut run = Run {
         scalars,
-        &mut port,
-        steps,
-        &mut Blind,
-    );
-    ending_of(end)
+        locals: [0; 16],
+        port: &mut port,
+        steps: *steps,
+        watch: &mut watch,
+        halt: Halt::NONE,
+    };
+    let end = run_loop(&mut run, &outermost, &mut Places::new());
+    *steps = run.steps;
+    ending_of(end, run.halt)
 }
 
 /// How a plain run ends, where no address is verified.
-fn ending_of(end: BlockEnd) -> Ending
-    requires { block.IsUnstopped end }
-    ensures { finish_by result ≡ block.finish_by end }
+fn ending_of(end: Result<(), Cut>, halt: Halt) -> Ending
+    requires { IsTrap halt }
+    ensures { finish_of_ending result ≡ finish_of end halt }
 {
     match end {
-        BlockEnd::Ended => Ending::Ended,
-        BlockEnd::Trapped(trap) => Ending::Trapped(trap),
-        BlockEnd::Stopped(_, _, _) => unreachable!(),
-        BlockEnd::Limited => Ending::Limited,
+        Ok(()) => Ending::Ended,
+        Err(Cut::Halted) => Ending::Trapped(halt.trap()),
+        Err(Cut::Limited) => Ending::Limited,
     }
 }

@@ -1,5 +1,5 @@
 ghost use Rattle.std.specs.Prelude.{◌≡◌, ◌≤◌, ◌^◌, ◌≤ℤ◌, [], pos, length, true, IfOk};
-ghost use Rattle.nest_lang.specs.Rules.{strides, has_statements, keeps_rules};
+ghost use Rattle.nest_lang.specs.Rules.{strides, has_statements, loops_keep};
 
 use super::*;
 use block_exec::{Blind, MemoryPort, Watch};
@@ -42,11 +42,11 @@ fn one(alloc: Global, statement: Stmt) -> Result<Items<Stmt>, AllocError>
 }
 
 /// A nest of one loop.
-#[tactic(auto, unfolding(nest_lang::specs::Rules::keeps_rules))]
+#[tactic(auto, unfolding(nest_lang::specs::Rules::loops_keep))]
 fn one_loop(alloc: Global, head: Head, body: Items<Stmt>) -> Result<Nest, AllocError>
     requires head { strides head ≡ true }
     requires body { has_statements body ≡ true }
-    ensures { IfOk result (λ nest. keeps_rules nest.loops ≡ true) }
+    ensures { IfOk result (λ nest. loops_keep nest.loops ≡ true) }
 {
     let mut loops = Items::new(alloc);
     loops.push(Loop {
@@ -84,7 +84,7 @@ fn a_falling_for(rt: HostRuntime) -> Result<(), Fail> {
 
 /// `for i = 0 below 100 { [200 + i] = [i] + 1 }`
 fn copying(alloc: Global) -> Result<Nest, AllocError>
-    ensures { IfOk result (λ nest. keeps_rules nest.loops ≡ true) }
+    ensures { IfOk result (λ nest. loops_keep nest.loops ≡ true) }
 {
     let address = two(alloc, Op::Add, number(200), name(0))?;
     let value = two(alloc, Op::Add, load(alloc, 1, name(0))?, number(1))?;
@@ -97,7 +97,7 @@ fn copying(alloc: Global) -> Result<Nest, AllocError>
 
 /// `for i = 0 below 60 { [i] = 7 + 0 / (41 - i) }`
 fn dividing(alloc: Global) -> Result<Nest, AllocError>
-    ensures { IfOk result (λ nest. keeps_rules nest.loops ≡ true) }
+    ensures { IfOk result (λ nest. loops_keep nest.loops ≡ true) }
 {
     let divisor = two(alloc, Op::Sub, number(41), name(0))?;
     let value = two(
@@ -115,7 +115,7 @@ fn dividing(alloc: Global) -> Result<Nest, AllocError>
 
 /// `while [p] { [p + 1] = [p + 1] + 1 p = [p] }`
 fn following(alloc: Global) -> Result<Nest, AllocError>
-    ensures { IfOk result (λ nest. keeps_rules nest.loops ≡ true) }
+    ensures { IfOk result (λ nest. loops_keep nest.loops ≡ true) }
 {
     let behind = load(alloc, 1, two(alloc, Op::Add, scalar(0), number(1))?)?;
     let address = two(alloc, Op::Add, scalar(0), number(1))?;
@@ -220,9 +220,9 @@ fn upto(alloc: Global, upper: i64, body: Items<Stmt>) -> Loop
 }
 
 /// Loops of 6, 1, 1, 1, 2 and 1 turns inside one another, and `[2 * a + e] = 1` in the innermost.
-#[tactic(auto, unfolding(nest_lang::specs::Rules::keeps_rules))]
+#[tactic(auto, unfolding(nest_lang::specs::Rules::loops_keep))]
 fn six_deep(alloc: Global) -> Result<Nest, AllocError>
-    ensures { IfOk result (λ nest. keeps_rules nest.loops ≡ true) }
+    ensures { IfOk result (λ nest. loops_keep nest.loops ≡ true) }
 {
     let address = two(
         alloc,
@@ -287,7 +287,7 @@ fn in_two(
     first: u64,
     second: u64,
 ) -> Option<(Turned, i64, u64)>
-    requires rules { keeps_rules nest.now.loops ≡ true }
+    requires rules { loops_keep nest.now.loops ≡ true }
     requires limit { limit ≤ 2 ^ 32 }
     requires scalars { length state.old.scalars ≤ 256 }
 {

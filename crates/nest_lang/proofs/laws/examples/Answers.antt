@@ -1,6 +1,7 @@
+use Rattle.nest_lang.proofs.BlocksComputed.{accesses-computed, blocks-computed}
 use Rattle.nest_lang.proofs.ValuesComputed.{values-computed}
 use Rattle.nest_lang.proofs.RunsComputed.{runs-computed}
 use Rattle.nest_lang.proofs.laws.examples.Goals as goal
 
 pub returns : goal.returns
-returns c = record { values = values-computed; runs = runs-computed }
+returns c = record { values = values-computed; runs = runs-computed; accesses = accesses-computed; blocks = blocks-computed }

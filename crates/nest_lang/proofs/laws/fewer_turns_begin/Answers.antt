@@ -1,0 +1,5 @@
+use Rattle.nest_lang.proofs.TurnLaws.{fewer_turns-begin}
+use Rattle.nest_lang.proofs.laws.fewer_turns_begin.Goals as goal
+
+pub returns : goal.returns
+returns c = fewer_turns-begin
