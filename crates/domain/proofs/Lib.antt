@@ -1,0 +1,10 @@
+pub mod GapLaws
+pub mod LeadLaws
+pub mod PlaceLaws
+pub mod PointLaws
+pub mod RankLaws
+pub mod SpotLaws
+pub mod StepLaws
+pub mod TableLaws
+pub mod WalkLaws
+pub mod WithinLaws
