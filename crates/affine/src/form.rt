@@ -1,6 +1,6 @@
 //! Affine forms over the counters of a nest.
 
-ghost use Rattle.std.specs.Prelude.{◌≡◌, ◌+◌, ◌≤◌, ◌<◌, ◌↔◌, ◌^◌, ◌+ℤ◌, ◌*ℤ◌, FitsSigned, IsSome, IfSome};
+ghost use Rattle.std.specs.Prelude.{◌≡◌, ◌+◌, ◌≤◌, ◌<◌, ◌↔◌, ◌^◌, ◌+ℤ◌, ◌-ℤ◌, ◌*ℤ◌, FitsSigned, IsSome, IfSome, unsigned_abs};
 ghost use Rattle.std.specs.Int.{w128};
 ghost use Rattle.affine.specs.Forms.{AllWithinSize, value_at};
 ghost use Rattle.affine.specs.Sums.{dot};
@@ -57,6 +57,18 @@ impl<const D: usize> Form<D> {
     {
         plus(dot(&self.coef, point), self.cst)
     }
+
+    /// The residual of a value at a point: the value less the form's value there. The value is at most 2^64 in
+    /// size, and D is at most 6.
+    pub fn residual(&self, point: &[i64; D], value: i128) -> i128
+        requires few { D < 7 }
+        requires small { unsigned_abs value ≤ 2 ^ 64 }
+        ensures value { result ≡ value -ℤ value_at self.now point.now }
+        ensures size { unsigned_abs result < 2 ^ 107 }
+    {
+        let products = dot(&self.coef, point);
+        minus(value, plus(products, self.cst))
+    }
 }
 
 /// A sum.
@@ -65,4 +77,12 @@ fn plus(sum: i128, number: i64) -> i128
     ensures { result ≡ sum +ℤ number }
 {
     sum + i128::from(number)
+}
+
+/// A difference.
+fn minus(value: i128, sum: i128) -> i128
+    requires { FitsSigned w128 (value -ℤ sum) }
+    ensures { result ≡ value -ℤ sum }
+{
+    value - sum
 }

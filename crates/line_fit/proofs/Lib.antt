@@ -1,0 +1,7 @@
+pub mod CoefficientLaws
+pub mod ExampleLaws
+pub mod FitLaws
+pub mod IndexLaws
+pub mod LineLaws
+pub mod StepLaws
+pub mod TubeLaws

@@ -1,0 +1,6 @@
+pub mod Answers
+pub mod Examples
+pub mod Firsts
+pub mod Laws
+pub mod Lines
+pub mod Samples

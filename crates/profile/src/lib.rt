@@ -1,0 +1,18 @@
+//! What is observed in some turns of a nest, and the forms of its data.
+//!
+//! A `Sampler` is a watch that keeps the observations of the turns that it watched, in order, in about four words
+//! each. What it kept is a `Samples`, which contracts see as the list of these observations. `Samples::fit_of` is
+//! the fit of one datum of a block: of the samples that this list has of the datum, by `line_fit`. The crate stands
+//! on `block_exec` for the watch, on `nest_lang` for blocks and observations, and on `line_fit` and `affine` for
+//! lines. The layer above fits every datum of a nest and predicts with their forms.
+#![tactic(auto)]
+
+mod gather;
+pub mod laws;
+mod log;
+mod sampler;
+
+pub use sampler::{Sampler, Samples};
+
+#[cfg(test)]
+mod tests;
