@@ -128,10 +128,16 @@ fn an_if_runs_one_branch_and_counts_it(rt: HostRuntime) -> Result<(), Fail> {
     block.push(Stmt::If(scalar(0), first, second))?;
     let after = run_block(block.as_slice(), [1, 0], 10, &mut Blind);
     assert_eq!(rt; after.end, Ok(()));
-    assert_eq!(rt; (after.memory, after.scalars, after.left), ([7, 9], [1, 0], 7));
+    assert_eq!(rt;
+        (after.memory, after.scalars, after.left),
+        ([7, 9], [1, 0], 7)
+    );
     let after = run_block(block.as_slice(), [0, 0], 10, &mut Blind);
     assert_eq!(rt; after.end, Ok(()));
-    assert_eq!(rt; (after.memory, after.scalars, after.left), ([8, 0], [0, 5], 7));
+    assert_eq!(rt;
+        (after.memory, after.scalars, after.left),
+        ([8, 0], [0, 5], 7)
+    );
     Ok(())
 }
 
@@ -144,7 +150,10 @@ fn a_trap_in_mid_block_keeps_the_effects_before_it(rt: HostRuntime) -> Result<()
     let after = run_block(block.as_slice(), [0, 0], 10, &mut Blind);
     assert_eq!(rt; after.end, Err(Cut::Halted));
     assert_eq!(rt; after.halt, Halt::Trapped(Trap::ZeroDivisor));
-    assert_eq!(rt; (after.memory, after.scalars, after.left), ([7, 0], [0, 0], 8));
+    assert_eq!(rt;
+        (after.memory, after.scalars, after.left),
+        ([7, 0], [0, 0], 8)
+    );
     Ok(())
 }
 

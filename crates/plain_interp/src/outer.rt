@@ -113,11 +113,7 @@ pub fn run_turns<P: Port, W: Watch>(
 }
 
 /// Runs one more turn of the outermost loop.
-fn run_next<P: Port, W: Watch>(
-    run: &mut Run<'_, P, W>,
-    at: &Level<'_>,
-    outer: &mut Outer,
-) -> Turned
+fn run_next<P: Port, W: Watch>(run: &mut Run<'_, P, W>, at: &Level<'_>, outer: &mut Outer) -> Turned
     requires steps { run.old.steps.left + run.old.steps.used ≤ 2 ^ 32 }
     requires scalars { length run.old.scalars.now ≤ 256 }
     requires level { IsLevel at.now }

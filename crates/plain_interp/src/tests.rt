@@ -1,11 +1,10 @@
-ghost use Rattle.std.specs.Prelude.{◌≡◌, ◌≤◌, ◌^◌, ◌≤ℤ◌, [], pos, length, true, IfOk};
+ghost use Rattle.std.specs.Prelude.{◌≡◌, ◌+◌, ◌≤◌, ◌^◌, ◌≤ℤ◌, [], pos, length, true, false, IfOk};
 ghost use Rattle.nest_lang.specs.Rules.{strides, has_statements, loops_keep};
 
 use super::*;
-use block_exec::{Blind, Halt, MemoryPort, Run, Watch};
+use block_exec::{Blind, Halt, MemoryPort, Port, Run, Watch};
 use nest_lang::{
-    BlockRef, Budget, Ending, Expr, Head, Loop, Nest, Op, Place, Seen, State, Stmt, Trap,
-    Turned,
+    BlockRef, Budget, Ending, Expr, Head, Loop, Nest, Op, Place, Seen, State, Stmt, Trap, Turned,
 };
 use sqlite_items::{Boxed, Items};
 use std::alloc::{AllocError, Global};
@@ -293,10 +292,27 @@ fn in_two<W: Watch>(
 {
     let State { memory, scalars } = state;
     let mut port = MemoryPort::new(memory);
+    in_two_over(nest, scalars, &mut port, watch, limit, lots)
+}
+
+/// The same over a port and scalars.
+fn in_two_over<P: Port, W: Watch>(
+    nest: &Nest,
+    scalars: &mut [i64],
+    port: &mut P,
+    watch: &mut W,
+    limit: u64,
+    lots: (u64, u64),
+) -> Option<(Turned, i64, u64)>
+    requires rules { loops_keep nest.now.loops ≡ true }
+    requires limit { limit ≤ 2 ^ 32 }
+    requires scalars { length scalars.old ≤ 256 }
+    requires plain { (P.expects port.old).verifies ≡ false }
+{
     let mut run = Run {
         scalars,
         locals: [0; 16],
-        port: &mut port,
+        port,
         steps: Budget {
             left: limit,
             used: 0,
@@ -304,16 +320,31 @@ fn in_two<W: Watch>(
         watch,
         halt: Halt::NONE,
     };
-    let mut outer = match enter(&mut run, nest) {
+    let (turned, next) = two_lots(&mut run, nest, lots)?;
+    Some((turned, next, run.steps.used))
+}
+
+/// The same in a run.
+fn two_lots<P: Port, W: Watch>(
+    run: &mut Run<'_, P, W>,
+    nest: &Nest,
+    lots: (u64, u64),
+) -> Option<(Turned, i64)>
+    requires rules { loops_keep nest.now.loops ≡ true }
+    requires steps { run.old.steps.left + run.old.steps.used ≤ 2 ^ 32 }
+    requires scalars { length run.old.scalars.now ≤ 256 }
+    requires plain { (P.expects run.old.port.now).verifies ≡ false }
+{
+    let mut outer = match enter(run, nest) {
         Entered::At(outer) => outer,
         Entered::Trapped(_) => return None,
         Entered::Limited => return None,
     };
-    if run_turns(&mut run, nest, &mut outer, lots.0) != Turned::Went {
+    if run_turns(run, nest, &mut outer, lots.0) != Turned::Went {
         return None;
     }
-    let turned = run_turns(&mut run, nest, &mut outer, lots.1);
-    Some((turned, outer.next, run.steps.used))
+    let turned = run_turns(run, nest, &mut outer, lots.1);
+    Some((turned, outer.next))
 }
 
 #[test]
@@ -322,26 +353,50 @@ fn some_turns_and_then_more(rt: HostRuntime) -> Result<(), Fail> {
     let mut state_of_trap = state(alloc, 100, 0)?;
     let trapped = Some((Turned::Trapped(Trap::ZeroDivisor), 41, 43));
     assert_eq!(rt;
-        in_two(&dividing(alloc)?, &mut state_of_trap, &mut Blind, 1000, (36, 24)),
+        in_two(
+            &dividing(alloc)?,
+            &mut state_of_trap,
+            &mut Blind,
+            1000,
+            (36, 24)
+        ),
         trapped
     );
     assert!(rt; are(&state_of_trap, 0, 41, 7, 0));
     let mut state_of_limit = state(alloc, 300, 0)?;
     let limited = Some((Turned::Limited, 49, 50));
     assert_eq!(rt;
-        in_two(&copying(alloc)?, &mut state_of_limit, &mut Blind, 50, (36, 32)),
+        in_two(
+            &copying(alloc)?,
+            &mut state_of_limit,
+            &mut Blind,
+            50,
+            (36, 32)
+        ),
         limited
     );
     let mut state_of_list = linked(alloc)?;
     let ended = Some((Turned::Ended, 69, 208));
     assert_eq!(rt;
-        in_two(&following(alloc)?, &mut state_of_list, &mut Blind, 1000, (68, 32)),
+        in_two(
+            &following(alloc)?,
+            &mut state_of_list,
+            &mut Blind,
+            1000,
+            (68, 32)
+        ),
         ended
     );
     let mut state_of_all = state(alloc, 300, 0)?;
     let went = Some((Turned::Went, 100, 101));
     assert_eq!(rt;
-        in_two(&copying(alloc)?, &mut state_of_all, &mut Blind, 1000, (36, 64)),
+        in_two(
+            &copying(alloc)?,
+            &mut state_of_all,
+            &mut Blind,
+            1000,
+            (36, 64)
+        ),
         went
     );
     Ok(())

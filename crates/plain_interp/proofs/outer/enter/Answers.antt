@@ -29,8 +29,7 @@ returns-in-Ok-clause-position g c = λ outer entered.
     let stride : FitsSigned w64 c.in-For.stride = search rules in
     let lower : FitsSigned w64 c.in-Ok.bounds.lower = search rules in
     let same : c.in-Ok.bounds.stride ≡ c.in-For.stride = simp to_z-of_z at c.in-Ok.ensures.turns.0 in
-    let at : record { lower = c.in-Ok.bounds.lower; next = pos 0; left = Some c.in-Ok.bounds.trip } ≡ outer = let h = simp to_z-of_z at entered in cc in
-    (
+    let at : record { lower = c.in-Ok.bounds.lower; next = pos 0; left = Some c.in-Ok.bounds.trip } ≡ outer = let h = simp to_z-of_z at entered in cc in (
       position-entered c.args.nest.now.loops c.in-Some.first.now _ _ c.in-For.stride c.in-Ok.bounds outer (rw c.in-Some.is at c.get.ensures.value) c.in-For.is same c.in-Ok.ensures.turns.1 at,
       ap (λ (o : Outer). o.next) (sym at),
     )
