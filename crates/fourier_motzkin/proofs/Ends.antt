@@ -2,13 +2,11 @@
 use Rattle.std.proofs.Common.{◌≡◌, zero, suc, ℤ, pos, negsuc, neg_ℤ, ◌+ℤ◌, ◌*ℤ◌, ◌≤ℤ◌, ◌<ℤ◌, Option, ap, ◌∙◌, arith}
 use Rattle.std.specs.Prelude.{◌↔◌}
 use Rattle.std.specs.Int.{int_div_euclid}
+use Rattle.std.proofs.Math.IntN.{*ℤ_comm}
 use Rattle.std.proofs.lemmas.Int.{ints}
 use Rattle.plain_lemmas.proofs.IntegerLaws.{*ℤ-neg_ℤ}
 use Rattle.affine.proofs.FloorLemmas.{non_negative-floor}
 use Rattle.fourier_motzkin.specs.Ranges.{Lies}
-
-mul_comm : (a b : ℤ) → a *ℤ b ≡ b *ℤ a
-mul_comm a b = omega (arith, ints)
 
 -- c x + rest >= 0 for c > 0: x is at least the quotient of -rest, rounded up
 pub bounded_below : (c rest x : ℤ) → pos 0 <ℤ c → (pos 0 ≤ℤ (rest +ℤ c *ℤ x)) ↔ (neg_ℤ (int_div_euclid rest c) ≤ℤ x)
@@ -26,7 +24,7 @@ bounded_above (pos n) rest x some = absurd (omega (arith, ints))
 bounded_above (negsuc n) rest x some =
     let both = non_negative-floor (neg_ℤ x) rest n in
     let turned = *ℤ-neg_ℤ (pos (suc n)) x in
-    let minus : negsuc n *ℤ x ≡ neg_ℤ (pos (suc n) *ℤ x) = mul_comm (negsuc n) x ∙ *ℤ-neg_ℤ x (pos (suc n)) ∙ ap neg_ℤ (mul_comm x (pos (suc n))) in (
+    let minus : negsuc n *ℤ x ≡ neg_ℤ (pos (suc n) *ℤ x) = *ℤ_comm (negsuc n) x ∙ *ℤ-neg_ℤ x (pos (suc n)) ∙ ap neg_ℤ (*ℤ_comm x (pos (suc n))) in (
       λ h. let k = both.0 (omega (arith, ints)) in omega (arith, ints, k),
       λ h. let k = both.1 (omega (arith, ints)) in omega (arith, ints, k),
     )

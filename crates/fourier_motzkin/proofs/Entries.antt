@@ -14,7 +14,7 @@ use Rattle.std.proofs.lemmas.Int.{ints}
 use Rattle.arrayvec.specs.ArrayVec.{ArrayVec}
 use Rattle.affine.specs.declared.row.Row.{Row}
 use Rattle.fourier_motzkin.specs.RowSets.{kept}
-use Rattle.fourier_motzkin.proofs.Sets.{tied_lists}
+use Rattle.plain_lemmas.proofs.OrderLaws.{slice_cmp-exact}
 
 -- coefficients by their places
 abbrev pub by_places : ArrayVec ℤ → ArrayVec ℤ → Ordering
@@ -50,7 +50,7 @@ kept_goes k cst (e ∷ es) above = at (by_places k e.0) refl above (λ m. kept_g
 
     at : (o : Ordering) → by_places k e.0 ≡ o → ((v : ℤ) → cond (is_eq o) (Some e.1) (lookup (is_at (by_places k)) es) ≡ Some v → cst <ℤ v) → (((v : ℤ) → lookup (is_at (by_places k)) es ≡ Some v → cst <ℤ v) → map row_at (insert_entry by_places es k cst) ≡ kept (row_at (k, cst)) (map row_at es)) → map row_at (match_ordering o ((k, cst) ∷ e ∷ es) ((e.0, cst) ∷ es) (e ∷ insert_entry by_places es k cst)) ≡ match_ordering o (row_at (k, cst) ∷ row_at e ∷ map row_at es) ((if int_lt cst e.1 then row_at (k, cst) else row_at e) ∷ map row_at es) (row_at e ∷ kept (row_at (k, cst)) (map row_at es))
     at Less o h more = refl
-    at Equal o h more = rw (goes (h e.1 refl)) (ap (λ xs. record { coef = record { items = xs }; cst = cst } ∷ map row_at es) (sym (tied_lists k.items e.0.items o)))
+    at Equal o h more = rw (goes (h e.1 refl)) (ap (λ xs. record { coef = record { items = xs }; cst = cst } ∷ map row_at es) (sym (slice_cmp-exact k.items e.0.items o)))
     at Greater o h more = ap (λ rows. row_at e ∷ rows) (more h)
 
 pub kept_inserted : (k : ArrayVec ℤ) (cst z : ℤ) (es fs gs : List (ArrayVec ℤ × ℤ)) (set : List Row) → gs ≡ insert_entry by_places fs k z → z ≡ cst → fs ≡ es → map row_at es ≡ set → ((v : ℤ) → lookup (is_at (by_places k)) es ≡ Some v → cst <ℤ v) → map row_at gs ≡ kept (row_at (k, cst)) set

@@ -3,6 +3,7 @@ use Rattle.std.proofs.Common.{◌≡◌, ℕ, zero, suc, ◌+◌, ◌<◌, ◌�
 use Rattle.std.specs.Prelude.{◌⊎◌}
 use Rattle.std.specs.List.{All}
 use Rattle.std.proofs.lemmas.Bool.Decides.{Decides-int_eq}
+use Rattle.std.proofs.Math.IntN.{*ℤ_comm}
 use Rattle.std.proofs.lemmas.Int.{ints}
 use Rattle.std.proofs.lemmas.List.{get_or_append_left, get_or_past, take_more}
 use Rattle.std.proofs.lemmas.List.Elements.{All-nil}
@@ -12,6 +13,7 @@ use Rattle.affine.specs.declared.row.Row.{Row}
 use Rattle.affine.specs.Sums.{dot, weighted}
 use Rattle.affine.specs.Rows.{Meets, coefficient, variables}
 use Rattle.affine.proofs.NormalLemmas.{coefficient-normal_zero}
+use Rattle.affine.proofs.SumLemmas.{dot-nil}
 use Rattle.fourier_motzkin.specs.RowSets.{tidied}
 use Rattle.fourier_motzkin.specs.Elimination.{AllOver, MeetsSaid, eliminated, judged, projected}
 use Rattle.fourier_motzkin.specs.declared.elimination.Eliminated.{Eliminated}
@@ -28,9 +30,6 @@ use Rattle.fourier_motzkin.proofs.Sets.{least_tidied}
 IsZeroAt : ℕ → List Row → Type 0
 IsZeroAt j rows = All (λ row. coefficient row j ≡ pos 0) rows
 
-mul_comm : (a b : ℤ) → a *ℤ b ≡ b *ℤ a
-mul_comm a b = omega (arith, ints)
-
 weighted-zero : (q : ℤ) (xs : List ℤ) (p : ℤ) (ys : List ℤ) (j : ℕ) → q *ℤ get_or xs j (pos 0) +ℤ p *ℤ get_or ys j (pos 0) ≡ pos 0 → get_or (weighted q xs p ys) j (pos 0) ≡ pos 0
 weighted-zero q [] p ys j h = refl
 weighted-zero q (x ∷ xs) p [] j h = refl
@@ -42,7 +41,7 @@ both_zero q x p y e f = rw (e, f) (omega (arith, ints))
 
 cancels : (a b : ℤ) → neg_ℤ b *ℤ a +ℤ a *ℤ b ≡ pos 0
 cancels a b =
-    let turned = mul_comm (neg_ℤ b) a in
+    let turned = *ℤ_comm (neg_ℤ b) a in
     let minus = *ℤ-neg_ℤ a b in
     omega (arith, ints, turned, minus)
 
@@ -102,6 +101,12 @@ start_reaches n rows over j above = standing_judged j (tidied rows) (All_from (�
 
 -- what holds of the rows that stand before each elimination holds of its level
 
+pub below_or_last : (k m : ℕ) → k < suc m → (k < m) ⊎ (k ≡ m)
+below_or_last zero zero h = inr refl
+below_or_last zero (suc m) h = inl (omega arith)
+below_or_last (suc k) zero h = absurd (omega arith)
+below_or_last (suc k) (suc m) h = ⊎_elim (λ less. inl (omega arith)) (λ e. inr (ap suc e)) (below_or_last k m (omega arith))
+
 level_at : (P : ℕ → List Row → Type 0) (Q : ℕ → Eliminated → Type 0) → ((m : ℕ) (said : Eliminated) → Q (suc m) said → Q m (next m said)) → ((m : ℕ) (said : Eliminated) → Q (suc m) said → P m (standing said))
     → (m : ℕ) (said : Eliminated) → Q m said → (k : ℕ) → k < m → P k (get_or (levels m said) k [])
 level_at P Q step holds zero said start k below = absurd (omega arith)
@@ -111,13 +116,7 @@ level_at P Q step holds (suc m) said start k below = ⊎_elim
     (λ last. subst (λ i. P i (get_or (levels m (next m said) ++ standing said ∷ []) i [])) (length-levels m (next m said) ∙ sym last)
     (subst (P (length (levels m (next m said)))) (sym (get_or-append_seam (levels m (next m said)) (standing said) [] []))
     (subst (λ i. P i (standing said)) (sym (length-levels m (next m said))) (holds m said start))))
-    (apart k m below)
-  where
-    apart : (k m : ℕ) → k < suc m → (k < m) ⊎ (k ≡ m)
-    apart zero zero h = inr refl
-    apart zero (suc m) h = inl (omega arith)
-    apart (suc k) zero h = absurd (omega arith)
-    apart (suc k) (suc m) h = ⊎_elim (λ less. inl (omega arith)) (λ e. inr (ap suc e)) (apart k m (omega arith))
+    (below_or_last k m below)
 
 reaches_next : (m : ℕ) (said : Eliminated) → ReachesBelow (suc m) said → ReachesBelow m (next m said)
 unfolding ReachesBelow
@@ -151,12 +150,8 @@ dot-front (x ∷ xs) [] (suc k) zeros = refl
 dot-front (x ∷ xs) (y ∷ point) zero zeros =
     let first : x ≡ pos 0 = zeros zero (omega arith) in
     let rest = dot-front xs point zero (λ j h. zeros (suc j) (omega arith)) in
-    rw first (nothing y (dot xs (take zero point)) (dot xs point) rest (dot-none xs))
+    rw first (nothing y (dot xs (take zero point)) (dot xs point) rest (dot-nil xs))
   where
-    dot-none : (xs : List ℤ) → dot xs [] ≡ pos 0
-    dot-none [] = refl
-    dot-none (x ∷ xs) = refl
-
     nothing : (y a b : ℤ) → a ≡ b → a ≡ pos 0 → pos 0 ≡ pos 0 *ℤ y +ℤ b
     nothing y a b e f = omega (arith, ints, e, f)
 dot-front (x ∷ xs) (y ∷ point) (suc k) zeros = ap (λ s. x *ℤ y +ℤ s) (dot-front xs point k (λ j h. zeros (suc j) (omega arith)))

@@ -6,6 +6,7 @@ use Rattle.std.specs.Int.{int_div_euclid, ◌∣◌}
 use Rattle.std.specs.Ordering.{int_eq}
 use Rattle.std.specs.List.{All, flat_map, list_all}
 use Rattle.std.proofs.Math.Seq.{get_or-append_seam}
+use Rattle.std.proofs.lemmas.Bool.{and_parts}
 use Rattle.std.proofs.lemmas.Bool.Decides.{Decides-int_eq}
 use Rattle.std.proofs.lemmas.Int.{ints}
 use Rattle.std.proofs.lemmas.List.{get_or_append_left, take_all, take_more}
@@ -25,6 +26,7 @@ use Rattle.fourier_motzkin.specs.declared.elimination.Eliminated.{Eliminated}
 use Rattle.fourier_motzkin.specs.declared.elimination.Eliminated.TheVariants as set
 use Rattle.fourier_motzkin.specs.declared.verdicts.Ruling.TheVariants.{Empty, Maybe, Wide}
 use Rattle.plain_lemmas.proofs.MembershipLaws.{Has, All_has, has_filter, has_from_contains, has_left}
+use Rattle.fourier_motzkin.proofs.Levels.{below_or_last}
 use Rattle.fourier_motzkin.proofs.Points.{has_told, judged_cases, met_tidied}
 use Rattle.fourier_motzkin.proofs.Runs.{length-levels}
 use Rattle.fourier_motzkin.proofs.Sets.{least_tidied, tied_coefficients}
@@ -82,16 +84,8 @@ module _ (S : ℤ → Type 0) (sign : IsSign S) (k : ℕ) where
 
   zero-at : (xs : List ℤ) (i : ℕ) → list_all (λ x. int_eq x (pos 0)) xs ≡ true → get_or xs i (pos 0) ≡ pos 0
   zero-at [] i all = refl
-  zero-at (x ∷ xs) zero all = (Decides-int_eq x (pos 0)).0 (first (int_eq x (pos 0)) (list_all (λ x. int_eq x (pos 0)) xs) all)
-    where
-      first : (a b : Bool) → (a && b) ≡ true → a ≡ true
-      first true b h = refl
-      first false b h = h
-  zero-at (x ∷ xs) (suc i) all = zero-at xs i (second (int_eq x (pos 0)) (list_all (λ x. int_eq x (pos 0)) xs) all)
-    where
-      second : (a b : Bool) → (a && b) ≡ true → b ≡ true
-      second true b h = h
-      second false b h = cc
+  zero-at (x ∷ xs) zero all = (Decides-int_eq x (pos 0)).0 (and_parts (int_eq x (pos 0)) (list_all (λ x. int_eq x (pos 0)) xs) all).0
+  zero-at (x ∷ xs) (suc i) all = zero-at xs i (and_parts (int_eq x (pos 0)) (list_all (λ x. int_eq x (pos 0)) xs) all).1
 
   tells : (row : Row) → S (coefficient row k) → says_nothing row ≡ false
   tells row side = at (is_constant row) (not (int_lt row.cst (pos 0))) refl
@@ -160,13 +154,7 @@ module _ (S : ℤ → Type 0) (sign : IsSign S) (k : ℕ) where
       (level_holds m (next m said) less is (next_keeps m said (λ e. omega arith) keeps)))
       (λ last. subst (λ (i : ℕ). Holds (get_or (levels m (next m said) ++ standing said ∷ []) i [])) (length-levels m (next m said) ∙ sym last)
       (subst Holds (sym (get_or-append_seam (levels m (next m said)) (standing said) [] [])) (standing_holds (suc m) said is keeps)))
-      (apart k m inside)
-    where
-      apart : (i j : ℕ) → i < suc j → (i < j) ⊎ (i ≡ j)
-      apart zero zero h = inr refl
-      apart zero (suc j) h = inl (omega arith)
-      apart (suc i) zero h = absurd (omega arith)
-      apart (suc i) (suc j) h = ⊎_elim (λ less. inl (omega arith)) (λ e. inr (ap suc e)) (apart i j (omega arith))
+      (below_or_last k m inside)
 
   pub rows_hold : (n : ℕ) (rows : List Row) → verdict_of n rows ≡ Maybe → k < n → Holds rows → Holds (get_or (bounds_of n rows).levels k [])
   unfolding bounds_of verdict_of

@@ -3,6 +3,7 @@ use Rattle.std.proofs.Common.{◌≡◌, ℕ, ℤ, pos, ◌≤ℤ◌, int_lt, Bo
 use Rattle.std.specs.Ordering.{int_eq}
 use Rattle.std.specs.List.{flat_map, list_all}
 use Rattle.std.proofs.lemmas.Int.{ints}
+use Rattle.std.proofs.lemmas.Bool.{and_parts}
 use Rattle.affine.specs.declared.row.Row.{Row}
 use Rattle.affine.specs.Rows.{normal}
 use Rattle.fourier_motzkin.specs.RowSets.{IsKept, IsTidied, is_constant, says_nothing, told, tidied}
@@ -11,7 +12,7 @@ use Rattle.fourier_motzkin.specs.Verdicts.{Bounds, bounds_of, levels, ruling, ve
 use Rattle.fourier_motzkin.specs.Laws.{OrderIsNoMatter, SameRows, TidiedIsKept}
 use Rattle.plain_lemmas.proofs.MembershipLaws.{Has, any_from_has, has_from_any, contains_from_has, has_from_contains, has_filter, filter_has, has_map, has_left, has_right, has_flat_map}
 use Rattle.fourier_motzkin.proofs.Sets.{LeastIn, has_tidied, least_tidied, least_unique, rising_unique, same_coefficients, tidied_has, tidied_rises, tied_coefficients}
-use Rattle.fourier_motzkin.proofs.Points.{both_first, both_second, has_told, projected_from, told_from}
+use Rattle.fourier_motzkin.proofs.Points.{has_told, projected_from, told_from}
 
 -- the tidied set
 
@@ -28,9 +29,9 @@ in_told rows given row h e tells = subst (Has (told rows)) e (has_told rows give
 -- a row that tells is below one with the same coefficients that tells nothing
 tells_below : (row other : Row) → other.coef ≡ row.coef → says_nothing row ≡ false → says_nothing other ≡ true → row.cst ≤ℤ other.cst
 tells_below row other e tells nothing =
-    let constant = both_first (is_constant other) (not (int_lt other.cst (pos 0))) nothing in
+    let constant = (and_parts (is_constant other) (not (int_lt other.cst (pos 0))) nothing).0 in
     let same : is_constant row ≡ is_constant other = ap (λ c. list_all (λ number. int_eq number (pos 0)) c.items) (sym e) in
-    at row.cst other.cst (is_constant row) (same ∙ constant) tells (both_second (is_constant other) (not (int_lt other.cst (pos 0))) nothing)
+    at row.cst other.cst (is_constant row) (same ∙ constant) tells ((and_parts (is_constant other) (not (int_lt other.cst (pos 0))) nothing).1)
   where
     at : (x y : ℤ) (b : Bool) → b ≡ true → (b && not (int_lt x (pos 0))) ≡ false → not (int_lt y (pos 0)) ≡ true → x ≤ℤ y
     at x y true e f g = grind (arith, ints)

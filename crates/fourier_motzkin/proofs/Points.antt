@@ -1,9 +1,10 @@
 -- The points that meet rows meet what tidying and eliminating make of them.
-use Rattle.std.proofs.Common.{◌≡◌, ℕ, zero, suc, ℤ, pos, neg_ℤ, ◌≤ℤ◌, ◌<ℤ◌, int_lt, Bool, true, false, not, ◌&&◌, ◌||◌, List, [], ◌∷◌, map, filter, length, refl, sym, ap, ◌∙◌, subst, ⊎_elim, Equal, arith}
+use Rattle.std.proofs.Common.{◌≡◌, ℕ, zero, suc, ℤ, pos, neg_ℤ, ◌≤ℤ◌, ◌<ℤ◌, int_lt, Bool, true, false, not, ◌||◌, List, [], ◌∷◌, map, filter, length, refl, sym, ap, ◌∙◌, subst, ⊎_elim, Equal, arith}
 use Rattle.std.specs.Prelude.{if◌then◌else◌, nat_lt}
 use Rattle.std.specs.Ordering.{int_eq}
 use Rattle.std.specs.List.{All, flat_map, list_all, list_any}
 use Rattle.std.proofs.lemmas.Int.{ints}
+use Rattle.std.proofs.lemmas.Bool.{and_parts}
 use Rattle.std.proofs.lemmas.Bool.Decides.{Decides-int_eq}
 use Rattle.affine.specs.declared.row.Row.{Row}
 use Rattle.affine.specs.Sums.{dot}
@@ -19,14 +20,6 @@ use Rattle.fourier_motzkin.specs.declared.verdicts.Ruling.TheVariants.{Empty}
 use Rattle.plain_lemmas.proofs.MembershipLaws.{Has, All_from, All_has, has_filter, filter_has, has_map, map_has, has_cases, flat_map_has, list_any_has}
 use Rattle.fourier_motzkin.proofs.Sets.{least_tidied, tied_coefficients}
 
-pub both_first : (a b : Bool) → (a && b) ≡ true → a ≡ true
-both_first true b h = refl
-both_first false b h = h
-
-pub both_second : (a b : Bool) → (a && b) ≡ true → b ≡ true
-both_second true b h = h
-both_second false b h = cc
-
 -- rows without variables
 
 zero_number : (x : ℤ) → int_eq x (pos 0) ≡ true → x ≡ pos 0
@@ -36,14 +29,14 @@ dot-zeros : (xs point : List ℤ) → list_all (λ x. int_eq x (pos 0)) xs ≡ t
 dot-zeros [] point h = refl
 dot-zeros (x ∷ xs) [] h = refl
 dot-zeros (x ∷ xs) (y ∷ ys) h =
-    let first = zero_number x (both_first (int_eq x (pos 0)) (list_all (λ x. int_eq x (pos 0)) xs) h) in
-    let rest = dot-zeros xs ys (both_second (int_eq x (pos 0)) (list_all (λ x. int_eq x (pos 0)) xs) h) in
+    let first = zero_number x ((and_parts (int_eq x (pos 0)) (list_all (λ x. int_eq x (pos 0)) xs) h).0) in
+    let rest = dot-zeros xs ys ((and_parts (int_eq x (pos 0)) (list_all (λ x. int_eq x (pos 0)) xs) h).1) in
     rw (first, rest) (omega (arith, ints))
 
 nothing_met : (row : Row) (point : List ℤ) → says_nothing row ≡ true → Meets point row
 nothing_met row point h =
-    let sum = dot-zeros row.coef.items point (both_first (is_constant row) (not (int_lt row.cst (pos 0))) h) in
-    let cst = not_negative row.cst (both_second (is_constant row) (not (int_lt row.cst (pos 0))) h) in
+    let sum = dot-zeros row.coef.items point ((and_parts (is_constant row) (not (int_lt row.cst (pos 0))) h).0) in
+    let cst = not_negative row.cst ((and_parts (is_constant row) (not (int_lt row.cst (pos 0))) h).1) in
     rw sum (omega (arith, ints, cst))
   where
     not_negative : (z : ℤ) → not (int_lt z (pos 0)) ≡ true → pos 0 ≤ℤ z
@@ -51,8 +44,8 @@ nothing_met row point h =
 
 pub false_unmet : (row : Row) (point : List ℤ) → is_false row ≡ true → Meets point row → ⊥
 false_unmet row point h met =
-    let sum = dot-zeros row.coef.items point (both_first (is_constant row) (int_lt row.cst (pos 0)) h) in
-    let cst = negative row.cst (both_second (is_constant row) (int_lt row.cst (pos 0)) h) in
+    let sum = dot-zeros row.coef.items point ((and_parts (is_constant row) (int_lt row.cst (pos 0)) h).0) in
+    let cst = negative row.cst ((and_parts (is_constant row) (int_lt row.cst (pos 0)) h).1) in
     let is = rw sum at met in
     omega (arith, ints, cst, is)
   where

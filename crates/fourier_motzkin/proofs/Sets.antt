@@ -1,14 +1,15 @@
 -- Tidied sets of rows: what they hold, and that there is one.
-use Rattle.std.proofs.Common.{◌≡◌, ℤ, Bool, true, false, cond, not, ◌&&◌, List, [], ◌∷◌, ◌++◌, filter, refl, sym, ap, ap₂, ◌∙◌, subst, inl, inr, ⊎_elim, ◌⊎◌, Ordering, Less, Equal, Greater, int_cmp, is_eq, arith, ◌≤ℤ◌, ◌<ℤ◌, int_lt, append_assoc, append-nil}
+use Rattle.std.proofs.Common.{◌≡◌, ℤ, Bool, true, false, cond, not, ◌&&◌, List, [], ◌∷◌, ◌++◌, filter, refl, sym, ap, ap₂, ◌∙◌, subst, inl, inr, ⊎_elim, ◌⊎◌, Ordering, Less, Equal, Greater, int_cmp, is_eq, arith, ◌≤ℤ◌, int_lt, append_assoc, append-nil}
 use Rattle.std.specs.Prelude.{if◌then◌else◌}
-use Rattle.std.specs.Ordering.{ordering_reverse, match_ordering, MatchOrdering, ordering_then}
+use Rattle.std.specs.Ordering.{ordering_reverse, match_ordering}
 use Rattle.std.specs.Cmp.{IsTotalOrder}
 use Rattle.std.specs.Cmp.Lexicographic.{slice_cmp}
-use Rattle.std.proofs.lemmas.Cmp.{tied_itself, tied_back, lists_total, int_cmp_total, on_total, int_ranked}
+use Rattle.std.proofs.lemmas.Cmp.{tied_itself, tied_back, lists_total, int_cmp_total, on_total}
 use Rattle.std.proofs.lemmas.Int.{ints}
 use Rattle.affine.specs.declared.row.Row.{Row}
 use Rattle.affine.specs.Rows.{normal}
 use Rattle.fourier_motzkin.specs.RowSets.{compare, says_nothing, is_least_of, placed, rising, told, tidied, Rises, kept, with_row, with_rows}
+use Rattle.plain_lemmas.proofs.OrderLaws.{slice_cmp-exact}
 use Rattle.plain_lemmas.proofs.MembershipLaws.{Has, all_has, all_from, has_left, has_right, has_cases, has_filter, filter_has, list_all_has, list_all_from}
 
 -- the order of rows by their coefficients
@@ -16,20 +17,9 @@ use Rattle.plain_lemmas.proofs.MembershipLaws.{Has, all_has, all_from, has_left,
 pub compare_total : IsTotalOrder compare
 compare_total = on_total (λ (row : Row). row.coef.items) (lists_total int_cmp_total)
 
-pub tied_lists : (xs ys : List ℤ) → slice_cmp int_cmp xs ys ≡ Equal → xs ≡ ys
-tied_lists [] [] e = refl
-tied_lists [] (y ∷ ys) e = cc
-tied_lists (x ∷ xs) [] e = cc
-tied_lists (x ∷ xs) (y ∷ ys) e = at (int_cmp x y) (int_ranked x y (int_cmp x y) refl) e (λ k. tied_lists xs ys k)
-  where
-    at : (o : Ordering) → MatchOrdering o (x <ℤ y) (x ≡ y) (y <ℤ x) → ordering_then o (slice_cmp int_cmp xs ys) ≡ Equal → (slice_cmp int_cmp xs ys ≡ Equal → xs ≡ ys) → x ∷ xs ≡ y ∷ ys
-    at Less h k more = cc
-    at Equal h k more = ap₂ (λ z zs. z ∷ zs) h (more k)
-    at Greater h k more = cc
-
 -- rows that tie have the same coefficients
 pub tied_coefficients : (r s : Row) → compare r s ≡ Equal → r.coef ≡ s.coef
-tied_coefficients r s e = ap (λ xs. record { items = xs }) (tied_lists r.coef.items s.coef.items e)
+tied_coefficients r s e = ap (λ xs. record { items = xs }) (slice_cmp-exact r.coef.items s.coef.items e)
 
 pub tied_rows : (r s : Row) → compare r s ≡ Equal → r.cst ≡ s.cst → r ≡ s
 tied_rows r s e f = ap₂ (λ (c : _) (z : ℤ). record { coef = c; cst = z }) (tied_coefficients r s e) f
