@@ -1,9 +1,9 @@
 //! Matrices that have an inverse of whole numbers.
 
-ghost use Rattle.std.specs.Prelude.{◌≡◌, ◌≢◌, ◌<◌, ◌≤◌, ◌^◌, neg_ℤ, slice_index_or, swap, unsigned_abs, []};
+ghost use Rattle.std.specs.Prelude.{◌≡◌, ◌≢◌, ◌<◌, ◌^◌, neg_ℤ, slice_index_or, swap, unsigned_abs, []};
 ghost use Rattle.affine.specs.Forms.{AllWithinSize};
 ghost use Rattle.affine.specs.Inverses.{IsInverse};
-ghost use Rattle.affine.specs.Matrices.{identity, product, skew};
+ghost use Rattle.affine.specs.Matrices.{identity, skew};
 
 use crate::Matrix;
 use std::marker::Model;
