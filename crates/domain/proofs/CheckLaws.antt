@@ -1,6 +1,6 @@
 -- The checks of an instance, one after another.
-use Rattle.std.proofs.Common.{◌≡◌, refl, sym, ap, ap₂, ◌∙◌, ℕ, zero, suc, ◌<◌, ◌≤◌, ◌+◌, ◌*◌, ◌^◌, ℤ, pos, ◌+ℤ◌, ◌-ℤ◌, ◌*ℤ◌, unsigned_abs, Bool, true, false, Option, Some, None, List, [], ◌∷◌, length, get_or, take, drop, FitsSigned, w64, to_z, of_z, max, lit<, lit≤, le_trans, subst, mul-le-mul_left, arith}
-use Rattle.std.specs.Prelude.{is_some, option_map, if◌then◌else◌}
+use Rattle.std.proofs.Common.{◌≡◌, refl, sym, ap, ◌∙◌, ℕ, zero, suc, ◌<◌, ◌≤◌, ◌+◌, ◌*◌, ◌^◌, ℤ, pos, ◌+ℤ◌, ◌-ℤ◌, ◌*ℤ◌, unsigned_abs, Bool, true, false, Option, Some, None, List, [], ◌∷◌, length, get_or, drop, FitsSigned, w64, to_z, of_z, max, lit≤, le_trans, subst, mul-le-mul_left, arith}
+use Rattle.std.specs.Prelude.{is_some, if◌then◌else◌}
 use Rattle.std.specs.Int.{w128}
 use Rattle.std.specs.List.{All}
 use Rattle.std.proofs.lemmas.Int.{ints, to_z-of_z, unsigned_abs-mul}
@@ -11,12 +11,11 @@ use Rattle.affine.specs.Forms.{Affine, value_at, AllWithinSize}
 use Rattle.affine.specs.Sums.{dot}
 use Rattle.affine.proofs.SumLemmas.{abs-dot, abs-add}
 use Rattle.domain.specs.declared.held.HeldWhy.{HeldWhy}
-use Rattle.domain.specs.declared.held.HeldWhy.TheVariants.{Outside}
 use Rattle.domain.specs.Tables.{Access, Table, level_at, cut, trip, Reaches, stride_size}
 use Rattle.domain.specs.declared.table.LoopKind.{LoopKind}
 use Rattle.domain.specs.declared.table.LoopKind.TheVariants.{For, While}
 use Rattle.domain.proofs.PointLaws.{trip-some, trip-none}
-use Rattle.domain.specs.Launches.{first_of, outside, line_failure, scalar_failure, scalars_failure, store_failure, stores_failure}
+use Rattle.domain.specs.Launches.{first_of, line_failure, scalar_failure, scalars_failure, store_failure, stores_failure}
 
 -- the last value as it is computed, where each part fits
 pub last-computed : (l s r a : ℤ) → a ≡ to_z w64 (of_z w64 s) → FitsSigned w64 s → FitsSigned w128 s → FitsSigned w128 l → FitsSigned w128 r → FitsSigned w128 (r -ℤ pos 1) → FitsSigned w128 (s *ℤ (r -ℤ pos 1)) → FitsSigned w128 (l +ℤ s *ℤ (r -ℤ pos 1))

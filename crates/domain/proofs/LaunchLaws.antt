@@ -1,21 +1,20 @@
 -- The walk of a launch: the instances before the one that is looked at, and that they pass.
-use Rattle.std.proofs.Common.{◌≡◌, refl, sym, ap, ap₂, subst, ◌∙◌, ℕ, zero, suc, ◌<◌, ◌≤◌, ◌+◌, ◌-◌, ◌^◌, ℤ, pos, ◌+ℤ◌, ◌≤ℤ◌, ◌<ℤ◌, unsigned_abs, Bool, true, false, Option, Some, None, List, [], ◌∷◌, ◌++◌, length, get_or, ◌⊎◌, inl, inr, ⊎_elim, nat_lt, nat_le, length-append, arith}
-use Rattle.std.specs.Prelude.{sum_by, Contains, ◌↔◌, ◌||◌, if◌then◌else◌}
+use Rattle.std.proofs.Common.{◌≡◌, refl, sym, ap, ap₂, subst, ◌∙◌, ℕ, ◌<◌, ◌≤◌, ◌+◌, ◌-◌, ◌^◌, ℤ, pos, ◌+ℤ◌, ◌≤ℤ◌, ◌<ℤ◌, unsigned_abs, Bool, true, false, Some, None, List, [], ◌∷◌, ◌++◌, length, ◌⊎◌, inl, inr, ⊎_elim, nat_lt, nat_le, length-append, arith}
+use Rattle.std.specs.Prelude.{Contains, ◌||◌, if◌then◌else◌}
 use Rattle.std.specs.List.{AllByRecursion}
-use Rattle.std.specs.Ordering.{int_cmp}
 use Rattle.std.proofs.lemmas.Cmp.{lists_total, int_cmp_total}
 use Rattle.std.proofs.lemmas.Int.{ints}
 use Rattle.std.proofs.lemmas.Bool.{cases_lt}
 use Rattle.std.proofs.lemmas.List.Sums.{sum_by_push}
 use Rattle.std.proofs.lemmas.Bool.Decides.{nat_tests}
-use Rattle.plain_lemmas.proofs.MembershipLaws.{Has, has_cases, has_left, has_right, contains_from_has, has_from_contains, all_from, all_has}
+use Rattle.plain_lemmas.proofs.MembershipLaws.{Has, has_cases, has_left, has_right, contains_from_has, has_from_contains}
 use Rattle.std.proofs.lemmas.List.{get_or_default}
 use Rattle.affine.specs.Forms.{AllWithinSize}
 use Rattle.domain.specs.declared.chunk.Chunk.{Chunk}
 use Rattle.domain.specs.declared.held.HeldWhy.{HeldWhy}
 use Rattle.domain.specs.declared.held.HeldWhy.TheVariants.{Many}
-use Rattle.domain.specs.Tables.{Table, depth, IsTable}
-use Rattle.domain.specs.Instances.{Instance, block_of, counter, IsInstance, Predicted, Precedes, Ordered, original_key, opening_at, IsOriginal, IsSuccessor}
+use Rattle.domain.specs.Tables.{Table, IsTable}
+use Rattle.domain.specs.Instances.{Instance, block_of, counter, Predicted, Precedes, Ordered, original_key, opening_at, IsSuccessor}
 use Rattle.domain.specs.Steps.{next}
 use Rattle.domain.specs.Launches.{widths, block_width, is_many, data_failure, failure, Passes, IsBefore, IsLaunched, IsHeld}
 use Rattle.domain.proofs.NearLaws.{Follows, next-follows}

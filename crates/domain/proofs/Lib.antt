@@ -1,6 +1,7 @@
 pub mod CheckLaws
 pub mod GapLaws
 pub mod LaunchLaws
+pub mod LaunchedLaws
 pub mod LeadLaws
 pub mod NearLaws
 pub mod OrderLaws

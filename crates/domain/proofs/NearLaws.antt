@@ -1,11 +1,11 @@
 -- Counters of the next instance: no counter rises by more than 1.
-use Rattle.std.proofs.Common.{◌≡◌, refl, sym, ap, subst, ◌∙◌, ℕ, zero, suc, ◌<◌, ◌≤◌, ◌+◌, ◌-◌, ◌^◌, ℤ, pos, ◌+ℤ◌, ◌≤ℤ◌, unsigned_abs, Bool, true, false, Option, Some, None, List, [], ◌∷◌, length, get_or, set, ◌⊎◌, inl, inr, ⊎_elim, arith, get_or-set_same, get_or-set_other, length-set}
+use Rattle.std.proofs.Common.{◌≡◌, refl, sym, ap, subst, ℕ, zero, suc, ◌<◌, ◌≤◌, ◌+◌, ◌-◌, ℤ, pos, ◌+ℤ◌, ◌≤ℤ◌, Bool, true, false, Option, Some, None, List, [], ◌∷◌, length, ◌⊎◌, inl, inr, ⊎_elim, arith}
 use Rattle.std.specs.Prelude.{int_lt, nat_lt, if◌then◌else◌}
 use Rattle.std.proofs.lemmas.Int.{ints}
 use Rattle.std.proofs.lemmas.Bool.{cases_lt}
 use Rattle.nest_lang.specs.declared.tree.Part.{Part}
 use Rattle.nest_lang.specs.declared.tree.Part.TheVariants.{Head, Pre, Post}
-use Rattle.domain.specs.Tables.{Table, depth, block_at, repeats, rank_of, cut, trip}
+use Rattle.domain.specs.Tables.{Table, depth, repeats, rank_of, cut, trip}
 use Rattle.domain.specs.Instances.{Instance, instance, block_of, counter}
 use Rattle.domain.specs.Steps.{turned, left_by, turn_by, head_rank, next_turn, after_loop, ends_loop, next_by, next}
 use Rattle.domain.proofs.PointLaws.{length-cut, cut-before, cut-after}

@@ -1,17 +1,12 @@
 -- Original order is strict and total, and there is one list in it.
-use Rattle.std.proofs.Common.{◌≡◌, refl, sym, ap, ap₂, subst, ◌∙◌, ℕ, zero, suc, ◌<◌, ◌≤◌, ◌+◌, ◌-◌, ℤ, pos, Bool, true, false, List, [], ◌∷◌, length, get_or, ◌⊎◌, inl, inr, ⊎_elim, arith, lit≤}
-use Rattle.std.specs.Prelude.{Contains, ◌↔◌, unsigned_abs, ◌^◌, ◌*◌, Some}
-use Rattle.std.specs.List.{AllByRecursion, All}
-use Rattle.std.specs.Ordering.{int_cmp}
+use Rattle.std.proofs.Common.{◌≡◌, refl, sym, ap₂, subst, ◌∙◌, ℕ, zero, suc, ◌<◌, ◌≤◌, pos, List, [], ◌∷◌, inl, inr, arith, lit≤}
+use Rattle.std.specs.Prelude.{◌^◌}
 use Rattle.std.proofs.lemmas.Cmp.{lists_total, int_cmp_total}
-use Rattle.std.proofs.lemmas.List.Elements.{All-nil, All-cons}
 use Rattle.plain_lemmas.proofs.MembershipLaws.{Has, contains_from_has, has_from_contains, all_has}
-use Rattle.nest_lang.specs.declared.tree.Part.TheVariants.{Head, Pre, Post}
-use Rattle.domain.specs.declared.chunk.Chunk.{Chunk}
-use Rattle.domain.specs.Tables.{Table, Block, IsTable, IsBlock, block_at, level_at, text_place, Reaches, stride_size}
-use Rattle.domain.specs.Instances.{Instance, Precedes, Ordered, original_key, IsOriginal, Predicted, IsInstance}
+use Rattle.domain.specs.Tables.{Table, IsBlock, block_at, level_at, Reaches, stride_size}
+use Rattle.domain.specs.Instances.{Instance, Precedes, Ordered, original_key}
 use Rattle.domain.specs.Examples.{PremisesCanHold, row}
-use Rattle.domain.specs.Laws.{IsStrict, OrderIsStrict, OneList}
+use Rattle.domain.specs.Laws.{OrderIsStrict, OneList}
 use Rattle.domain.proofs.OriginalLaws.{not-back, not-itself, precedes-three}
 
 pub order_is_strict : OrderIsStrict

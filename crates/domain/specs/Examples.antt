@@ -1,10 +1,10 @@
 -- Examples, computed: tables of small nests, and what their checks, points and steps are.
-use Rattle.std.specs.Prelude.{◌≡◌, refl, ℤ, pos, negsuc, true, false, Some, None, List, [], ◌∷◌}
+use Rattle.std.specs.Prelude.{◌≡◌, refl, ℤ, pos, negsuc, true, Some, None, List, [], ◌∷◌}
 use Rattle.affine.specs.Forms.{Affine}
 use Rattle.nest_lang.specs.declared.tree.Part.TheVariants.{Head, Pre, Post}
 use Rattle.domain.specs.declared.held.HeldWhy.TheVariants as why
-use Rattle.domain.specs.declared.table.LoopKind.TheVariants.{For, While}
-use Rattle.domain.specs.Tables.{Table, Access, Block, Level, IsTable, trip}
+use Rattle.domain.specs.declared.table.LoopKind.TheVariants.{For}
+use Rattle.domain.specs.Tables.{Table, Access, Level, IsTable, trip}
 use Rattle.domain.specs.Instances.{instance, padded}
 use Rattle.domain.specs.Steps.{next, next_turn}
 use Rattle.domain.specs.Launches.{failure}

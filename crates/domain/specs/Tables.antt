@@ -1,5 +1,5 @@
 -- Tables: the loops and the blocks of a nest, with the forms of their data.
-use Rattle.std.specs.Prelude.{◌≡◌, ◌<◌, ◌≤◌, ◌+◌, ◌-◌, ◌*◌, ◌^◌, max, ℕ, zero, suc, ℤ, pos, ◌≤ℤ◌, ◌-ℤ◌, unsigned_abs, nat_eq, Bool, true, false, ◌&&◌, List, [], ◌∷◌, Option, Some, None, is_some, option_and_then, length, replicate, slice_get, slice_index_or}
+use Rattle.std.specs.Prelude.{◌≡◌, ◌<◌, ◌≤◌, ◌+◌, ◌-◌, ◌*◌, ◌^◌, max, ℕ, zero, suc, ℤ, pos, ◌≤ℤ◌, ◌-ℤ◌, unsigned_abs, nat_eq, Bool, true, false, ◌&&◌, List, [], ◌∷◌, Option, Some, None, is_some, length, replicate, slice_get, slice_index_or}
 use Rattle.std.specs.List.{All, position}
 use Rattle.affine.specs.Forms.{Affine, value_at}
 use Rattle.nest_lang.specs.declared.tree.Part.{Part}

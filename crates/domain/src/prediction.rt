@@ -155,7 +155,11 @@ impl<const D: usize> Prediction<D> {
 /// The expected value of a datum at an instance: that of its form at the counters, for an address the line. None
 /// exactly where the datum has no form. D is at most 6.
 #[tactic(auto, unfolding(crate::specs::Expected::expected_of))]
-pub fn expected<const D: usize>(pred: &Prediction<D>, inst: &Instance<D>, what: What) -> Option<i128>
+pub fn expected<const D: usize>(
+    pred: &Prediction<D>,
+    inst: &Instance<D>,
+    what: What,
+) -> Option<i128>
     requires { D < 7 }
     ensures { result ≡ expected_of pred.now inst.now what }
 {

@@ -1,13 +1,9 @@
-use Rattle.std.proofs.Common.{◌≡◌, ◌∙◌, sym, ap, subst, ◌<◌, ◌≤◌, ◌+◌, ◌^◌, ℕ, ℤ, pos, ◌+ℤ◌, ◌<ℤ◌, ◌≤ℤ◌, length, Option, Some, None, FitsSigned, w64, arith, rules}
+use Rattle.std.proofs.Common.{◌≡◌, ◌∙◌, sym, ap, subst, ◌<◌, ◌+◌, ℕ, pos, length, Some, FitsSigned, w64, arith, rules}
 use Rattle.std.proofs.lemmas.Int.{to_z-of_z}
 use Rattle.plain_lemmas.proofs.IntegerLaws.{int_lt-true, int_lt-false}
-use Rattle.affine.specs.Forms.{AllWithinSize}
-use Rattle.domain.specs.declared.chunk.Chunk.{Chunk}
-use Rattle.domain.specs.declared.held.HeldWhy.{HeldWhy}
 use Rattle.domain.specs.declared.held.HeldWhy.TheVariants.{Many}
-use Rattle.domain.specs.Tables.{Table}
-use Rattle.domain.specs.Instances.{Instance, counter, Predicted, block_of, opening_at}
-use Rattle.domain.specs.Launches.{block_width, widths, data_failure, failure, IsHeld, IsLaunched}
+use Rattle.domain.specs.Instances.{Instance, Predicted, block_of}
+use Rattle.domain.specs.Launches.{block_width, failure}
 use Rattle.domain.proofs.LaunchLaws.{Walk, walk-begins, walk-goes, walk-ends, walk-in, walk-held, walk-near, walk-turns, passes-here, many-instances, many-widths}
 use Rattle.domain.proofs.launching.launch.Goals as goal
 use Rattle.domain.proofs.launching.launch.Goals.{then-instances-ge-MOST_INSTANCES-via-then-instances-ge-MOST_INSTANCES, then-instances-ge-MOST_INSTANCES-via-else-instances-ge-MOST_INSTANCES+then-widths-width-gt-MOST_ADDRESSES}
@@ -17,10 +13,10 @@ walk-init g c =
     let first : FitsSigned w64 c.args.chunk.first = search rules in
     let opening = simp to_z-of_z at c.opening-at.ensures.opening in
     record {
-  walk = subst (λ (x : Instance). Walk g.row.D c.args.pred.now (pos c.args.words) c.args.chunk x 0 0) (sym opening) (walk-begins g.row.D c.args.pred.now c.opening-at.ensures.table c.args.chunk (pos c.args.words) c.requires.from c.requires.some);
-  few = omega arith;
-  small = omega arith;
-}
+      walk = subst (λ (x : Instance). Walk g.row.D c.args.pred.now (pos c.args.words) c.args.chunk x 0 0) (sym opening) (walk-begins g.row.D c.args.pred.now c.opening-at.ensures.table c.args.chunk (pos c.args.words) c.requires.from c.requires.some);
+      few = omega arith;
+      small = omega arith;
+    }
 
 pub width-width-requires : goal.width-width-requires
 width-width-requires g c =
@@ -35,7 +31,7 @@ returns-then-instances-ge-MOST_INSTANCES-clause-held g c =
     let width : c.width-width.result ≡ block_width (block_of c.args.pred.now c.walk.at) = c.width-width.ensures.width ∙ ap (λ (x : Instance). block_width (block_of c.args.pred.now x)) c.at.view_is in
     let many : failure c.args.pred.now (pos c.args.words) w.before c.walk.at ≡ Some Many =
     elim c.then-instances-ge-MOST_INSTANCES.branch [
-      then-instances-ge-MOST_INSTANCES-via-then-instances-ge-MOST_INSTANCES v ↦ many-instances c.args.pred.now (pos c.args.words) w.before c.walk.at (omega (arith, w.count, v.if-instances-ge-MOST_INSTANCES))
+      | then-instances-ge-MOST_INSTANCES-via-then-instances-ge-MOST_INSTANCES v ↦ many-instances c.args.pred.now (pos c.args.words) w.before c.walk.at (omega (arith, w.count, v.if-instances-ge-MOST_INSTANCES))
       | then-instances-ge-MOST_INSTANCES-via-else-instances-ge-MOST_INSTANCES+then-widths-width-gt-MOST_ADDRESSES v ↦ many-widths c.args.pred.now (pos c.args.words) w.before c.walk.at (omega (arith, w.sum, width, v.if-widths-width-gt-MOST_ADDRESSES))
     ] in
     walk-held g.row.D c.args.pred.now c.opening-at.ensures.table c.args.chunk (pos c.args.words) c.walk.at Many c.walk.instances c.walk.widths w p many
