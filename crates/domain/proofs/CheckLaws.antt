@@ -1,17 +1,21 @@
 -- The checks of an instance, one after another.
-use Rattle.std.proofs.Common.{◌≡◌, refl, sym, ap, ap₂, ◌∙◌, ℕ, zero, suc, ◌<◌, ◌≤◌, ◌+◌, ◌*◌, ◌^◌, ℤ, pos, ◌+ℤ◌, ◌-ℤ◌, ◌*ℤ◌, unsigned_abs, Bool, true, false, Option, Some, None, List, [], ◌∷◌, length, get_or, take, drop, FitsSigned, w64, to_z, of_z, lit<, lit≤, arith}
-use Rattle.std.specs.Prelude.{is_some, option_map, if◌then◌else◌}
+use Rattle.std.proofs.Common.{◌≡◌, refl, sym, ap, ◌∙◌, ℕ, zero, suc, ◌<◌, ◌≤◌, ◌+◌, ◌*◌, ◌^◌, ℤ, pos, ◌+ℤ◌, ◌-ℤ◌, ◌*ℤ◌, unsigned_abs, Bool, true, false, Option, Some, None, List, [], ◌∷◌, length, get_or, drop, FitsSigned, w64, to_z, of_z, max, lit≤, le_trans, subst, mul-le-mul_left, arith}
+use Rattle.std.specs.Prelude.{is_some, if◌then◌else◌}
 use Rattle.std.specs.Int.{w128}
 use Rattle.std.specs.List.{All}
 use Rattle.std.proofs.lemmas.Int.{ints, to_z-of_z, unsigned_abs-mul}
 use Rattle.std.proofs.lemmas.List.{drop_more, drop_all}
+use Rattle.std.proofs.lemmas.List.Elements.{All-head, All-tail, All-cons}
+use Rattle.std.proofs.Math.Nat.{mul-le-mul, mul-le-mul_right}
 use Rattle.affine.specs.Forms.{Affine, value_at, AllWithinSize}
 use Rattle.affine.specs.Sums.{dot}
 use Rattle.affine.proofs.SumLemmas.{abs-dot, abs-add}
 use Rattle.domain.specs.declared.held.HeldWhy.{HeldWhy}
-use Rattle.domain.specs.declared.held.HeldWhy.TheVariants.{Outside}
-use Rattle.domain.specs.Tables.{Access}
-use Rattle.domain.specs.Launches.{first_of, outside, line_failure, scalar_failure, scalars_failure, store_failure, stores_failure}
+use Rattle.domain.specs.Tables.{Access, Table, level_at, cut, trip, Reaches, stride_size}
+use Rattle.domain.specs.declared.table.LoopKind.{LoopKind}
+use Rattle.domain.specs.declared.table.LoopKind.TheVariants.{For, While}
+use Rattle.domain.proofs.PointLaws.{trip-some, trip-none}
+use Rattle.domain.specs.Launches.{first_of, line_failure, scalar_failure, scalars_failure, store_failure, stores_failure}
 
 -- the last value as it is computed, where each part fits
 pub last-computed : (l s r a : ℤ) → a ≡ to_z w64 (of_z w64 s) → FitsSigned w64 s → FitsSigned w128 s → FitsSigned w128 l → FitsSigned w128 r → FitsSigned w128 (r -ℤ pos 1) → FitsSigned w128 (s *ℤ (r -ℤ pos 1)) → FitsSigned w128 (l +ℤ s *ℤ (r -ℤ pos 1))
@@ -81,3 +85,68 @@ store-line words number a b form at e s l =
     sym (ap (λ (x : Access). store_failure words number x at) (sym e)
     ∙ ap (λ (x : Bool). if x then line_failure words number b.line b.low b.high at else None) s
     ∙ ap (λ (x : Option Affine). line_failure words number x b.low b.high at) l)
+
+-- ---- a stride times a trip
+
+reach-step : (s x y d n : ℕ) → s * x ≤ 2 ^ 66 → y ≤ 2 ^ 33 → s * d ≤ n * 2 ^ 99 → s * (x * y + d) ≤ suc n * 2 ^ 99
+reach-step s x y d n h k l =
+    let a : (s * x) * y ≤ 2 ^ 66 * 2 ^ 33 = mul-le-mul h k in
+    let b : s * (x * y + d) ≡ (s * x) * y + s * d = grind (arith) in
+    omega arith
+
+reach-dot : (s : ℕ) (xs ys : List ℤ) → All (λ c. s * unsigned_abs c ≤ 2 ^ 66) xs → AllWithinSize (2 ^ 33) ys → s * unsigned_abs (dot xs ys) ≤ length xs * 2 ^ 99
+reach-dot s [] ys h k = omega arith
+reach-dot s (x ∷ xs) [] h k = omega arith
+reach-dot s (x ∷ xs) (y ∷ ys) h k =
+    let rest = reach-dot s xs ys (All-tail (λ c. s * unsigned_abs c ≤ 2 ^ 66) x xs h) (All-tail (λ z. unsigned_abs z ≤ 2 ^ 33) y ys k) in
+    let one = reach-step s (unsigned_abs x) (unsigned_abs y) (unsigned_abs (dot xs ys)) (length xs) (All-head (λ c. s * unsigned_abs c ≤ 2 ^ 66) x xs h) (All-head (λ z. unsigned_abs z ≤ 2 ^ 33) y ys k) rest in
+    let sum : unsigned_abs (x *ℤ y +ℤ dot xs ys) ≤ unsigned_abs x * unsigned_abs y + unsigned_abs (dot xs ys) = grind (arith, abs-add, unsigned_abs-mul) in
+    le_trans (mul-le-mul_left s sum) one
+
+few-reach : (n : ℕ) → n < 7 → n * 2 ^ 99 ≤ 2 ^ 102
+few-reach n h = omega arith
+
+pub reach-value : (s : ℕ) (form : Affine) (at : List ℤ) → All (λ c. s * unsigned_abs c ≤ 2 ^ 66) form.coef → s * unsigned_abs form.cst ≤ 2 ^ 104 → length form.coef < 7 → AllWithinSize (2 ^ 33) at → s * unsigned_abs (value_at form at) ≤ 2 ^ 105
+reach-value s form at coef cst few near =
+    let a = reach-dot s form.coef at coef near in
+    let b = few-reach (length form.coef) few in
+    let c = mul-le-mul_left s (abs-add (dot form.coef at) form.cst) in
+    let d : s * (unsigned_abs (dot form.coef at) + unsigned_abs form.cst) ≡ s * unsigned_abs (dot form.coef at) + s * unsigned_abs form.cst = grind (arith) in
+    omega arith
+
+-- the stride times the trip less one
+stride-near : (stride trip : ℤ) (s : ℕ) → s ≡ max 1 (unsigned_abs stride) → s * unsigned_abs trip ≤ 2 ^ 105 → s ≤ 2 ^ 63 → unsigned_abs (stride *ℤ (trip -ℤ pos 1)) ≤ 2 ^ 120
+stride-near stride trip s e h k =
+    let size : unsigned_abs stride ≤ s = omega arith in
+    let a : unsigned_abs (trip -ℤ pos 1) ≤ unsigned_abs trip + 1 = grind (arith, ints) in
+    let b = mul-le-mul size a in
+    let c : s * (unsigned_abs trip + 1) ≡ s * unsigned_abs trip + s = grind (arith) in
+    let d = unsigned_abs-mul stride (trip -ℤ pos 1) in
+    omega arith
+
+pub last-near : (kind : LoopKind) (trip : ℤ) → stride_size kind * unsigned_abs trip ≤ 2 ^ 105 → stride_size kind ≤ 2 ^ 63 → (stride : ℤ) → kind ≡ For stride → unsigned_abs (stride *ℤ (trip -ℤ pos 1)) ≤ 2 ^ 120
+last-near kind trip h k stride e = stride-near stride trip (stride_size kind) (ap stride_size e) h k
+
+pub size-some : (kind : LoopKind) → 1 ≤ stride_size kind
+size-some (For stride) = omega arith
+size-some While = omega arith
+
+pub trip-near : (s : ℕ) (z : ℤ) → 1 ≤ s → s * unsigned_abs z ≤ 2 ^ 105 → unsigned_abs z ≤ 2 ^ 120
+trip-near s z some h =
+    let a = mul-le-mul_right (unsigned_abs z) some in
+    omega arith
+
+near-cut : (n : ℕ) (xs : List ℤ) → AllWithinSize (2 ^ 33) xs → AllWithinSize (2 ^ 33) (cut n xs)
+near-cut n [] h = h
+near-cut zero (x ∷ xs) h = All-cons (λ z. unsigned_abs z ≤ 2 ^ 33) (pos 0) (cut zero xs) (lit≤ tt) (near-cut zero xs (All-tail (λ z. unsigned_abs z ≤ 2 ^ 33) x xs h))
+near-cut (suc n) (x ∷ xs) h = All-cons (λ z. unsigned_abs z ≤ 2 ^ 33) x (cut n xs) (All-head (λ z. unsigned_abs z ≤ 2 ^ 33) x xs h) (near-cut n xs (All-tail (λ z. unsigned_abs z ≤ 2 ^ 33) x xs h))
+
+-- a trip at near counters
+pub trip-reach : (t : Table) (k : ℕ) (s : ℕ) (at : List ℤ) → Reaches s (level_at t k).trip → AllWithinSize (2 ^ 33) at → s * unsigned_abs (trip t k at) ≤ 2 ^ 105
+trip-reach t k s at reach near = by (level_at t k).trip refl
+  where
+    by : (o : Option Affine) → (level_at t k).trip ≡ o → s * unsigned_abs (trip t k at) ≤ 2 ^ 105
+    by None e = subst (λ (z : ℤ). s * unsigned_abs z ≤ 2 ^ 105) (sym (trip-none t k at e)) (omega arith)
+    by (Some form) e =
+        let r : Reaches s (Some form) = subst (Reaches s) e reach in
+        subst (λ (z : ℤ). s * unsigned_abs z ≤ 2 ^ 105) (sym (trip-some t k form at e)) (reach-value s form (cut k at) r.0 r.1 (let few = r.2 in omega arith) (near-cut k at near))

@@ -1,17 +1,16 @@
 -- No predicted instance stands between an instance and the next one.
-use Rattle.std.proofs.Common.{◌≡◌, refl, sym, ap, ap₂, subst, ◌∙◌, ℕ, zero, suc, ◌<◌, ◌≤◌, ◌+◌, ◌-◌, ℤ, pos, ◌+ℤ◌, ◌≤ℤ◌, ◌<ℤ◌, Bool, true, false, List, [], ◌∷◌, length, get_or, ◌⊎◌, inl, inr, ⊎_elim, arith}
+use Rattle.std.proofs.Common.{◌≡◌, refl, sym, ap, subst, ◌∙◌, ℕ, suc, ◌<◌, ◌≤◌, ◌+◌, ◌-◌, ℤ, pos, ◌+ℤ◌, ◌≤ℤ◌, ◌<ℤ◌, true, false, List, [], length, ◌⊎◌, ⊎_elim, arith}
 use Rattle.std.proofs.lemmas.Int.{ints}
 use Rattle.std.proofs.lemmas.Bool.{cases_lt}
 use Rattle.plain_lemmas.proofs.OrderLaws.{cases_≤ℤ}
-use Rattle.nest_lang.specs.declared.tree.Part.{Part}
-use Rattle.nest_lang.specs.declared.tree.Part.TheVariants.{Head, Pre, Post}
+use Rattle.nest_lang.specs.declared.tree.Part.TheVariants.{Post}
 use Rattle.domain.specs.declared.chunk.Chunk.{Chunk}
-use Rattle.domain.specs.Tables.{Table, Block, depth, block_at, repeats, cut, trip, counters, turning, IsTable}
-use Rattle.domain.specs.Instances.{Instance, instance, block_of, counter, turns_of, place, IsInstance, InTurn, Tested, Predicted}
-use Rattle.domain.proofs.PlaceLaws.{place-counter, place-turns, place-rest, place-zero}
-use Rattle.domain.proofs.SpotLaws.{Spot, Agree, Before, upto, by_text, between, agree-more, agree-zeros, agree_sym}
-use Rattle.domain.proofs.RankLaws.{Stands, text_at, text-stands}
-use Rattle.domain.proofs.WithinLaws.{spot, Begins, Within, Outer, Last, Inner, Test, within, places-up, turns-least, turns-trip, turns-none}
+use Rattle.domain.specs.Tables.{Table, Block, repeats, trip, IsTable}
+use Rattle.domain.specs.Instances.{Instance, block_of, counter, turns_of, place, InTurn, Predicted}
+use Rattle.domain.proofs.PlaceLaws.{place-counter, place-turns, place-rest}
+use Rattle.domain.proofs.SpotLaws.{Spot, Agree, Before, upto, by_text, between, agree-more, agree-zeros}
+use Rattle.domain.proofs.RankLaws.{text_at, text-stands}
+use Rattle.domain.proofs.WithinLaws.{spot, Begins, Within, Outer, Last, Inner, Test, within, places-up, turns-least, turns-trip}
 
 abbrev pub post : ℕ → Block
 post n = record { part = Post; level = n; scalars = []; accesses = [] }

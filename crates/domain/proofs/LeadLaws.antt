@@ -1,23 +1,19 @@
 -- Where a step leads: to the next predicted instance, or past the chunk.
-use Rattle.std.proofs.Common.{◌≡◌, refl, sym, ap, ap₂, subst, ◌∙◌, ℕ, zero, suc, ◌<◌, ◌≤◌, ◌+◌, ◌-◌, ℤ, pos, ◌+ℤ◌, ◌≤ℤ◌, ◌<ℤ◌, Bool, true, false, List, [], ◌∷◌, Option, Some, None, length, get_or, set, replicate, ◌⊎◌, inl, inr, ⊎_elim, arith, get_or-set_same, get_or-set_other, length-set}
-use Rattle.std.specs.Prelude.{int_lt, unwrap_or}
+use Rattle.std.proofs.Common.{◌≡◌, refl, sym, ap, subst, ◌∙◌, ℕ, zero, suc, ◌<◌, ◌≤◌, ◌+◌, ◌-◌, ℤ, pos, ◌+ℤ◌, ◌≤ℤ◌, ◌<ℤ◌, true, false, List, [], ◌∷◌, length, replicate, ◌⊎◌, inl, inr, ⊎_elim, arith, get_or-set_same, get_or-set_other, length-set}
 use Rattle.std.proofs.lemmas.Int.{ints}
 use Rattle.std.proofs.lemmas.Bool.{cases_lt}
-use Rattle.plain_lemmas.proofs.IntegerLaws.{int_lt-true, int_lt-false}
-use Rattle.plain_lemmas.proofs.OrderLaws.{cases_int_cmp}
 use Rattle.nest_lang.specs.declared.tree.Part.{Part}
-use Rattle.nest_lang.specs.declared.tree.Part.TheVariants.{Head, Pre, Post}
+use Rattle.nest_lang.specs.declared.tree.Part.TheVariants.{Head, Pre}
 use Rattle.domain.specs.declared.chunk.Chunk.{Chunk}
-use Rattle.domain.specs.Tables.{Table, Block, depth, block_at, repeats, rank_of, cut, trip, counters, counters_by, turning, is_post, IsTable}
-use Rattle.domain.specs.Instances.{Instance, instance, block_of, counter, turns_of, place, IsInstance, InTurn, Tested, Predicted, opening_at}
-use Rattle.domain.specs.Steps.{turned, left_by, turn_by, head_rank, next_turn, after_loop}
-use Rattle.domain.proofs.PointLaws.{length-cut, cut-before, cut-after, trip-cut}
-use Rattle.domain.proofs.PlaceLaws.{place-counter, place-turns, place-rest, place-zero}
-use Rattle.domain.proofs.SpotLaws.{Spot, Agree, Rises, Before, three, before-trans, before-right, before-left, agree_sym}
-use Rattle.domain.proofs.RankLaws.{Stands, stands, has_rank, absent, Kind, AtHead, AtPre, AtPost, kind, text_at, text-stands, ranks-rise, rank-after, outermost-repeats}
-use Rattle.domain.proofs.WithinLaws.{spot, counters-of, turning-of, head-least, turns-trip, trip-same}
-use Rattle.domain.proofs.StepLaws.{next_turn-outermost, next_turn-inner}
-use Rattle.domain.proofs.GapLaws.{post, end, At, end-counter, end-turns, end-rest, next-gap, turn-none, leave-none}
+use Rattle.domain.specs.Tables.{Table, block_at, repeats, cut, trip, counters, turning, is_post, IsTable}
+use Rattle.domain.specs.Instances.{Instance, instance, block_of, counter, place, IsInstance, InTurn, Predicted, opening_at}
+use Rattle.domain.specs.Steps.{turned}
+use Rattle.domain.proofs.PointLaws.{length-cut, cut-before, cut-after}
+use Rattle.domain.proofs.PlaceLaws.{place-counter, place-zero}
+use Rattle.domain.proofs.SpotLaws.{Spot, Agree, Before}
+use Rattle.domain.proofs.RankLaws.{Stands, stands, has_rank, Kind, AtHead, AtPre, AtPost, kind, text_at, text-stands, ranks-rise, rank-after, outermost-repeats}
+use Rattle.domain.proofs.WithinLaws.{counters-of, turning-of, head-least, trip-same}
+use Rattle.domain.proofs.GapLaws.{post, end, At, end-counter, next-gap}
 
 -- ---- the point of the next turn
 

@@ -1,6 +1,10 @@
 pub mod CheckLaws
 pub mod GapLaws
+pub mod LaunchLaws
+pub mod LaunchedLaws
 pub mod LeadLaws
+pub mod NearLaws
+pub mod OrderLaws
 pub mod OriginalLaws
 pub mod PlaceLaws
 pub mod PointLaws

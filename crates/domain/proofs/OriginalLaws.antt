@@ -1,19 +1,18 @@
 -- Original order, as the order of spots.
-use Rattle.std.proofs.Common.{◌≡◌, refl, sym, ap, ap₂, subst, ◌∙◌, ℕ, zero, suc, ◌<◌, ◌≤◌, ◌+◌, ℤ, pos, ◌+ℤ◌, ◌≤ℤ◌, ◌<ℤ◌, List, [], ◌∷◌, ◌++◌, map, length, get_or, replicate, set, ◌⊎◌, inl, inr, ⊎_elim, Ordering, Less, Equal, Greater, int_cmp, Bool, true, false, ◌-◌, arith, get_or-set_same, get_or-set_other, length-set}
-use Rattle.std.specs.List.{range_with_len}
+use Rattle.std.proofs.Common.{◌≡◌, refl, sym, ap, ap₂, subst, ◌∙◌, ℕ, zero, suc, ◌<◌, ◌≤◌, ℤ, pos, ◌+ℤ◌, ◌≤ℤ◌, ◌<ℤ◌, List, [], ◌∷◌, length, get_or, replicate, set, ◌⊎◌, inl, inr, ⊎_elim, Less, Equal, Greater, int_cmp, Bool, false, ◌-◌, arith, get_or-set_same, get_or-set_other, length-set}
 use Rattle.std.specs.Ordering.{ordering_reverse}
 use Rattle.std.specs.Cmp.Lexicographic.{slice_cmp}
 use Rattle.std.proofs.lemmas.Cmp.{lists_total, int_cmp_total, tied_itself}
 use Rattle.std.proofs.lemmas.Int.{ints}
 use Rattle.std.proofs.lemmas.Bool.{cases_lt}
 use Rattle.plain_lemmas.proofs.OrderLaws.{ordering_then-less}
-use Rattle.nest_lang.specs.declared.tree.Part.TheVariants.{Head, Pre, Post}
+use Rattle.nest_lang.specs.declared.tree.Part.TheVariants.{Head, Post}
 use Rattle.domain.specs.declared.chunk.Chunk.{Chunk}
 use Rattle.domain.specs.Tables.{Table, depth, block_at, repeats, counters, counters_by, turning, is_post, IsTable}
 use Rattle.domain.specs.Instances.{InTurn, Instance, instance, block_of, counter, place, padded, IsInstance, Predicted, original_key, Precedes, opening_at, IsSuccessor}
 use Rattle.domain.specs.Steps.{next}
 use Rattle.domain.proofs.PlaceLaws.{place-counter}
-use Rattle.domain.proofs.SpotLaws.{Spot, Agree, Rises, Before, three, less-rises, less-agree, agree_sym, upto, agree-zeros, by_text}
+use Rattle.domain.proofs.SpotLaws.{Spot, Agree, Rises, Before, three, less-rises, less-agree, upto, agree-zeros, by_text}
 use Rattle.domain.proofs.RankLaws.{Kind, AtHead, AtPre, AtPost, kind, text_at, ranks-rise, same-rank}
 use Rattle.domain.proofs.WithinLaws.{counters-of, turning-of, places-up}
 use Rattle.domain.proofs.GapLaws.{At}

@@ -1,13 +1,13 @@
 -- Padded points, place by place.
-use Rattle.std.proofs.Common.{◌≡◌, refl, sym, ap, ap₂, ◌∙◌, subst, ℕ, zero, suc, ◌<◌, ◌≤◌, ◌+◌, ◌-◌, ℤ, pos, Bool, true, false, List, [], ◌∷◌, map, length, get_or, set, nat_lt, nat_eq, ◌⊎◌, inl, inr, arith, get_or-set_same, get_or-set_other, length-set}
+use Rattle.std.proofs.Common.{◌≡◌, refl, sym, ap, ap₂, ◌∙◌, ℕ, suc, ◌<◌, ◌≤◌, ◌+◌, ◌-◌, ℤ, pos, Bool, true, false, List, [], ◌∷◌, map, length, get_or, set, nat_lt, nat_eq, ◌⊎◌, inl, inr, arith, get_or-set_same, get_or-set_other, length-set}
 use Rattle.std.specs.Prelude.{if◌then◌else◌, ◌&&◌}
 use Rattle.std.specs.List.{range_with_len}
 use Rattle.std.proofs.lemmas.Bool.{cases_lt}
 use Rattle.std.proofs.lemmas.Bool.Decides.{nat_tests}
 use Rattle.nest_lang.specs.declared.tree.Part.{Part}
 use Rattle.nest_lang.specs.declared.tree.Part.TheVariants.{Head, Pre, Post}
-use Rattle.domain.specs.Tables.{Table, Block, depth, block_at, counters, counters_by, repeats, is_post, trip}
-use Rattle.domain.specs.Instances.{Instance, instance, block_of, counter, turns_of, place, padded, IsInstance}
+use Rattle.domain.specs.Tables.{Table, Block, depth, counters, counters_by, repeats, is_post, trip}
+use Rattle.domain.specs.Instances.{Instance, block_of, counter, turns_of, place, padded, IsInstance}
 
 -- a list is known by its numbers
 tabulated : (f : ℕ → ℤ) (xs : List ℤ) (n : ℕ) → ((k : ℕ) → k < length xs → get_or xs k (pos 0) ≡ f (n + k)) → xs ≡ map f (range_with_len n (length xs))

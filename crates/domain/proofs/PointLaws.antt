@@ -1,10 +1,9 @@
 -- Points that are cut: the first numbers, and zeros in place of the others.
-use Rattle.std.proofs.Common.{◌≡◌, refl, sym, ap, ap₂, ◌∙◌, subst, ℕ, zero, suc, ◌<◌, ◌≤◌, ◌+◌, ℤ, pos, ◌+ℤ◌, ◌*ℤ◌, List, [], ◌∷◌, Option, Some, None, take, length, get_or, set, replicate, ◌⊎◌, inl, inr, arith}
+use Rattle.std.proofs.Common.{◌≡◌, refl, sym, ap, ap₂, ◌∙◌, subst, ℕ, zero, suc, ◌<◌, ◌≤◌, ◌+◌, ℤ, pos, ◌+ℤ◌, List, [], ◌∷◌, Option, Some, None, length, get_or, set, replicate, ◌⊎◌, inl, inr, arith}
 use Rattle.std.proofs.lemmas.Bool.{cases_lt}
-use Rattle.std.proofs.Math.IntN.{zero-*ℤ, *ℤ-zero, +ℤ_idl, +ℤ_idr}
+use Rattle.std.proofs.Math.IntN.{zero-*ℤ, *ℤ-zero}
 use Rattle.affine.specs.Sums.{dot}
 use Rattle.affine.specs.Forms.{Affine, value_at}
-use Rattle.affine.proofs.SumLemmas.{dot-nil}
 use Rattle.domain.specs.Tables.{Table, depth, level_at, form_or_zero, cut, trip_form, trip}
 
 pub length-cut : (n : ℕ) (xs : List ℤ) → length (cut n xs) ≡ length xs

@@ -1,16 +1,15 @@
 -- Ranks: the blocks of a table stand in the order of the text, each once.
-use Rattle.std.proofs.Common.{◌≡◌, refl, sym, ap, subst, ◌∙◌, ℕ, zero, suc, ◌<◌, ◌≤◌, ◌+◌, ◌-◌, Bool, true, false, List, [], ◌∷◌, Option, Some, None, length, get_or, nat_eq, nat_lt, cond, ◌⊎◌, inl, inr, ⊎_elim, arith}
+use Rattle.std.proofs.Common.{◌≡◌, refl, sym, ap, ◌∙◌, ℕ, ◌<◌, ◌≤◌, ◌+◌, ◌-◌, Bool, true, false, List, Option, Some, None, length, get_or, nat_eq, nat_lt, cond, ◌⊎◌, inl, inr, ⊎_elim, arith}
 use Rattle.std.specs.Prelude.{is_some, ◌&&◌}
 use Rattle.std.specs.List.{position, position_or_len}
-use Rattle.std.proofs.lemmas.Bool.{cases_lt, and_parts, both_ways}
+use Rattle.std.proofs.lemmas.Bool.{cases_lt, and_parts}
 use Rattle.std.proofs.lemmas.Bool.Decides.{nat_tests}
 use Rattle.std.proofs.lemmas.List.Sums.{fails_before_first}
 use Rattle.std.proofs.lemmas.List.Quantifiers.{position-Some}
 use Rattle.nest_lang.specs.declared.tree.Part.{Part}
 use Rattle.nest_lang.specs.declared.tree.Part.TheVariants.{Head, Pre, Post}
 use Rattle.nest_lang.specs.Blocks.{same_part}
-use Rattle.domain.specs.Tables.{Table, Block, no_block, block_at, is_block, rank_of, text_place, text_place_by, repeats, IsBlock, IsTable}
-use Rattle.domain.proofs.TableLaws.{position-found, position-none}
+use Rattle.domain.specs.Tables.{Table, no_block, block_at, is_block, rank_of, text_place, text_place_by, repeats, IsBlock, IsTable}
 
 same_part-exact : (a b : Part) → same_part a b ≡ true → a ≡ b
 same_part-exact Head Head h = refl

@@ -1,7 +1,6 @@
 -- Steps, by the loop that turns.
-use Rattle.std.proofs.Common.{◌≡◌, refl, sym, ap, ap₂, ◌∙◌, ℕ, zero, suc, ◌<◌, ◌≤◌, ◌+◌, ◌-◌, ℤ, pos, ◌+ℤ◌, ◌<ℤ◌, ◌≤ℤ◌, Bool, true, false, List, [], ◌∷◌, Option, Some, None, length, get_or, arith}
+use Rattle.std.proofs.Common.{◌≡◌, refl, sym, ap, ap₂, ◌∙◌, ℕ, zero, suc, ◌≤◌, ◌+◌, ◌-◌, ℤ, pos, ◌+ℤ◌, Bool, true, false, List, arith}
 use Rattle.std.specs.Prelude.{int_lt, nat_lt, if◌then◌else◌}
-use Rattle.plain_lemmas.proofs.IntegerLaws.{lt-int_lt, le-int_lt}
 use Rattle.nest_lang.specs.declared.tree.Part.{Part}
 use Rattle.nest_lang.specs.declared.tree.Part.TheVariants.{Head, Pre, Post}
 use Rattle.domain.specs.Tables.{Table, Block, depth, block_at, rank_of, repeats, cut, trip}

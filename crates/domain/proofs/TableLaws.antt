@@ -1,10 +1,10 @@
 -- The loops and the blocks of a table, and where a block stands.
-use Rattle.std.proofs.Common.{◌≡◌, refl, sym, ap, ◌∙◌, ℕ, zero, suc, ◌<◌, ◌≤◌, Bool, true, false, List, [], ◌∷◌, Option, Some, None, length, get_or, cond, nat_lt, arith}
+use Rattle.std.proofs.Common.{◌≡◌, sym, ap, ◌∙◌, ℕ, ◌<◌, ◌≤◌, Bool, true, false, List, Some, None, length, get_or, cond, nat_lt, arith}
 use Rattle.std.specs.List.{position, position_or_len}
 use Rattle.std.proofs.lemmas.List.Sums.{position_or_len_is}
 use Rattle.std.proofs.lemmas.List.{get_or_default}
 use Rattle.std.proofs.lemmas.Bool.Decides.{nat_tests}
-use Rattle.domain.specs.Tables.{Table, Level, Block, no_level, no_block, level_at, block_at}
+use Rattle.domain.specs.Tables.{Level, Block, no_level, no_block}
 
 pub level_at-is : (levels : List Level) (k : ℕ) (l : Level) → k < length levels → l ≡ get_or levels k l → get_or levels k no_level ≡ l
 level_at-is levels k l h e = get_or_default levels k no_level l h ∙ sym e

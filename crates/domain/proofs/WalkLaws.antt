@@ -1,5 +1,5 @@
 -- The instance after an instance is the next predicted one.
-use Rattle.std.proofs.Common.{◌≡◌, refl, sym, ap, ap₂, subst, ◌∙◌, ℕ, zero, suc, ◌<◌, ◌≤◌, ◌+◌, ◌-◌, ℤ, pos, ◌+ℤ◌, ◌≤ℤ◌, ◌<ℤ◌, Bool, true, false, List, [], ◌∷◌, Option, Some, None, length, get_or, set, replicate, ◌⊎◌, inl, inr, ⊎_elim, nat_lt, arith}
+use Rattle.std.proofs.Common.{◌≡◌, refl, sym, ap, ap₂, subst, ◌∙◌, ℕ, zero, suc, ◌<◌, ◌≤◌, ◌+◌, ◌-◌, ℤ, pos, ◌+ℤ◌, ◌≤ℤ◌, ◌<ℤ◌, Bool, true, false, List, Option, Some, None, length, set, replicate, ◌⊎◌, inl, inr, ⊎_elim, nat_lt, arith}
 use Rattle.std.specs.Prelude.{int_lt, unwrap_or, not, ◌&&◌, if◌then◌else◌}
 use Rattle.std.proofs.lemmas.Int.{ints}
 use Rattle.std.proofs.lemmas.Bool.{cases_lt, and_parts, not-true}
@@ -9,12 +9,12 @@ use Rattle.plain_lemmas.proofs.OrderLaws.{cases_int_cmp}
 use Rattle.nest_lang.specs.declared.tree.Part.{Part}
 use Rattle.nest_lang.specs.declared.tree.Part.TheVariants.{Head, Pre, Post}
 use Rattle.domain.specs.declared.chunk.Chunk.{Chunk}
-use Rattle.domain.specs.Tables.{Table, Block, depth, block_at, repeats, rank_of, cut, trip, counters, counters_by, turning, is_post, IsTable}
+use Rattle.domain.specs.Tables.{Table, depth, block_at, repeats, rank_of, cut, trip, counters, counters_by, turning, is_post, IsTable}
 use Rattle.domain.specs.Instances.{Instance, instance, block_of, counter, turns_of, place, IsInstance, InTurn, Tested, Predicted, opening_at}
 use Rattle.domain.specs.Steps.{turned, left_by, turn_by, head_rank, next_turn, after_loop, ends_loop, next_by, next}
 use Rattle.domain.proofs.PointLaws.{length-cut, cut-before, cut-after, trip-cut}
-use Rattle.domain.proofs.PlaceLaws.{place-counter, place-turns, place-rest, place-zero}
-use Rattle.domain.proofs.SpotLaws.{Spot, Agree, Rises, Before, three, before-trans, before-right, before-left, agree_sym, by_text, between}
+use Rattle.domain.proofs.PlaceLaws.{place-counter, place-turns, place-rest}
+use Rattle.domain.proofs.SpotLaws.{Spot, Agree, Before, three, before-trans, before-right, before-left, agree_sym, by_text, between}
 use Rattle.domain.proofs.RankLaws.{Stands, stands, has_rank, absent, Kind, AtHead, AtPre, AtPost, kind, text_at, text-stands, ranks-rise}
 use Rattle.domain.proofs.WithinLaws.{counters-of, turning-of, turns-trip, turns-none, trip-same, Begins, head-most, places-up, Within, Outer, Last, Inner, Test, within}
 use Rattle.domain.proofs.StepLaws.{next_turn-outermost, next_turn-inner}

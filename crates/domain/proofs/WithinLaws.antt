@@ -1,5 +1,5 @@
 -- Where a predicted instance stands that begins with the counters of a turn.
-use Rattle.std.proofs.Common.{◌≡◌, refl, sym, ap, ap₂, subst, ◌∙◌, ℕ, zero, suc, ◌<◌, ◌≤◌, ◌+◌, ◌-◌, ℤ, pos, ◌+ℤ◌, ◌≤ℤ◌, ◌<ℤ◌, Bool, true, false, List, [], ◌∷◌, length, get_or, ◌⊎◌, inl, inr, ⊎_elim, arith}
+use Rattle.std.proofs.Common.{◌≡◌, refl, sym, ap, ap₂, subst, ◌∙◌, ℕ, zero, suc, ◌<◌, ◌≤◌, ◌+◌, ◌-◌, ℤ, pos, ◌≤ℤ◌, ◌<ℤ◌, Bool, true, false, List, [], ◌∷◌, length, get_or, ◌⊎◌, inl, inr, ⊎_elim, arith}
 use Rattle.std.specs.Prelude.{int_lt, if◌then◌else◌}
 use Rattle.std.proofs.lemmas.Int.{ints}
 use Rattle.std.proofs.lemmas.Bool.{cases_lt}
@@ -7,11 +7,11 @@ use Rattle.plain_lemmas.proofs.IntegerLaws.{int_lt-true, int_lt-false}
 use Rattle.nest_lang.specs.declared.tree.Part.{Part}
 use Rattle.nest_lang.specs.declared.tree.Part.TheVariants.{Head, Pre, Post}
 use Rattle.domain.specs.declared.chunk.Chunk.{Chunk}
-use Rattle.domain.specs.Tables.{Table, Block, depth, block_at, repeats, cut, trip, counters, counters_by, turning, turning_by, is_post, IsTable}
-use Rattle.domain.specs.Instances.{Instance, block_of, counter, turns_of, place, IsInstance, InTurn, Tested, Predicted}
+use Rattle.domain.specs.Tables.{Table, Block, block_at, repeats, cut, trip, counters, counters_by, turning, turning_by, is_post, IsTable}
+use Rattle.domain.specs.Instances.{Instance, block_of, counter, turns_of, place, InTurn, Tested, Predicted}
 use Rattle.domain.proofs.PointLaws.{trip-cut}
 use Rattle.domain.proofs.PlaceLaws.{place-counter, place-turns, place-rest, place-zero}
-use Rattle.domain.proofs.SpotLaws.{Spot, Agree}
+use Rattle.domain.proofs.SpotLaws.{Spot}
 use Rattle.domain.proofs.RankLaws.{Stands, Kind, AtHead, AtPre, AtPost, kind, text_at}
 
 -- ---- numbers of turns

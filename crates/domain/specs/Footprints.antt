@@ -1,5 +1,5 @@
 -- Footprints: which words an instance reads and writes, and when two instances conflict.
-use Rattle.std.specs.Prelude.{◌≡◌, ◌⊎◌, ◌≤◌, ℕ, ℤ, pos, ◌+ℤ◌, ◌≤ℤ◌, ◌<ℤ◌, Bool, true, false, List, Option, Some, None, length}
+use Rattle.std.specs.Prelude.{◌≡◌, ◌⊎◌, ℕ, ℤ, pos, ◌+ℤ◌, ◌≤ℤ◌, ◌<ℤ◌, Bool, true, false, List, Option, Some, None}
 use Rattle.affine.specs.Forms.{Affine, value_at}
 use Rattle.domain.specs.Tables.{Table, Access, access_at}
 use Rattle.domain.specs.Instances.{Instance, block_of}

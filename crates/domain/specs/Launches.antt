@@ -1,5 +1,5 @@
 -- Launch: the checks of a predicted instance, and where a chunk is held.
-use Rattle.std.specs.Prelude.{◌≡◌, ◌⊎◌, ◌<◌, ◌+◌, ◌-◌, ℕ, zero, suc, ℤ, pos, ◌+ℤ◌, ◌-ℤ◌, ◌*ℤ◌, unsigned_abs, int_lt, nat_lt, nat_le, ◌||◌, ◌&&◌, if◌then◌else◌, Bool, true, false, Option, Some, None, option_map, List, [], ◌∷◌, ◌++◌, length, sum_by, Contains, ◌↔◌}
+use Rattle.std.specs.Prelude.{◌≡◌, ◌+◌, ◌-◌, ℕ, ℤ, pos, ◌+ℤ◌, ◌-ℤ◌, ◌*ℤ◌, unsigned_abs, int_lt, nat_lt, nat_le, ◌||◌, if◌then◌else◌, Bool, Option, Some, None, option_map, List, [], ◌∷◌, ◌++◌, length, sum_by, Contains, ◌↔◌}
 use Rattle.affine.specs.Forms.{Affine, value_at}
 use Rattle.nest_lang.specs.declared.tree.Part.{Part}
 use Rattle.nest_lang.specs.declared.tree.Part.TheVariants.{Head, Pre, Post}
@@ -9,7 +9,7 @@ use Rattle.domain.specs.declared.held.HeldWhy.{HeldWhy}
 use Rattle.domain.specs.declared.held.HeldWhy.TheVariants.{Negative, Many, Outside, Scalar, Lower, Last}
 use Rattle.domain.specs.declared.table.LoopKind.{LoopKind}
 use Rattle.domain.specs.declared.table.LoopKind.TheVariants.{For, While}
-use Rattle.domain.specs.Tables.{Table, Access, Block, Level, depth, block_at, level_at, trip}
+use Rattle.domain.specs.Tables.{Table, Access, Block, level_at, trip}
 use Rattle.domain.specs.Instances.{Instance, block_of, counter, Predicted, Precedes, Ordered, IsOriginal}
 
 -- the first of two that is one

@@ -2,7 +2,7 @@
 use Rattle.std.specs.Prelude.{ℕ, zero, suc, ◌-◌, ◌+◌, ℤ, pos, ◌+ℤ◌, ◌<ℤ◌, ◌^◌, nat_lt, int_lt, not, ◌&&◌, Bool, true, false, if◌then◌else◌, List, Option, Some, None, unwrap_or, slice_set}
 use Rattle.nest_lang.specs.declared.tree.Part.{Part}
 use Rattle.nest_lang.specs.declared.tree.Part.TheVariants.{Head, Pre, Post}
-use Rattle.domain.specs.Tables.{Table, depth, block_at, repeats, rank_of, cut, trip}
+use Rattle.domain.specs.Tables.{Table, depth, repeats, rank_of, cut, trip}
 use Rattle.domain.specs.Instances.{Instance, instance, counter, block_of}
 
 -- the first counters in the next turn of the loop inside k of them

@@ -1,5 +1,5 @@
 -- Tables: the loops and the blocks of a nest, with the forms of their data.
-use Rattle.std.specs.Prelude.{◌≡◌, ◌<◌, ◌≤◌, ◌+◌, ◌-◌, ◌*◌, ◌^◌, max, ℕ, zero, suc, ℤ, pos, ◌≤ℤ◌, ◌-ℤ◌, unsigned_abs, nat_eq, Bool, true, false, ◌&&◌, List, [], ◌∷◌, Option, Some, None, is_some, option_and_then, length, replicate, slice_get, slice_index_or}
+use Rattle.std.specs.Prelude.{◌≡◌, ◌<◌, ◌≤◌, ◌+◌, ◌-◌, ◌*◌, ◌^◌, max, ℕ, zero, suc, ℤ, pos, ◌≤ℤ◌, ◌-ℤ◌, unsigned_abs, nat_eq, Bool, true, false, ◌&&◌, List, [], ◌∷◌, Option, Some, None, is_some, length, replicate, slice_get, slice_index_or}
 use Rattle.std.specs.List.{All, position}
 use Rattle.affine.specs.Forms.{Affine, value_at}
 use Rattle.nest_lang.specs.declared.tree.Part.{Part}
@@ -154,15 +154,16 @@ pub record IsTube (low high : ℤ) : Type 0 where
   pub above : pos 0 ≤ℤ high
   pub width : (high -ℤ low) ≤ℤ pos 64
 
+-- the size of a loop's stride, at least 1
 abbrev pub stride_size : LoopKind → ℕ
-stride_size (For stride) = unsigned_abs stride
-stride_size While = 0
+stride_size (For stride) = max 1 (unsigned_abs stride)
+stride_size While = 1
 
 -- the values of a loop's name stay far below 2^127: the stride times each coefficient of the trip is at most 2^66, and
 -- times its constant at most 2^104. So it is of each loop whose values were seen to be i64s.
 abbrev pub Reaches : ℕ → Option Affine → Type 0
 Reaches stride None = Unit {0}
-Reaches stride (Some form) = All (λ c. stride * unsigned_abs c ≤ 2 ^ 66) form.coef × (stride * unsigned_abs form.cst ≤ 2 ^ 104)
+Reaches stride (Some form) = All (λ c. stride * unsigned_abs c ≤ 2 ^ 66) form.coef × (stride * unsigned_abs form.cst ≤ 2 ^ 104) × (length form.coef ≤ 6)
 
 -- a block of a nest of that depth
 pub record IsBlock (D : ℕ) (b : Block) : Type 0 where
@@ -184,6 +185,7 @@ pub record IsTable (D : ℕ) (t : Table) : Type 0 where
   pub heads : (level : ℕ) → 2 ≤ level → level ≤ D → is_some (rank_of t Head level) ≡ true
   pub outermost : is_some (rank_of t Head 1) ≡ repeats t 0
   pub body : is_some (rank_of t Pre D) ≡ true
+  pub strides : (k : ℕ) → stride_size (level_at t k).kind ≤ 2 ^ 63
   pub reach : (k : ℕ) → Reaches (stride_size (level_at t k).kind) (level_at t k).trip
 
 -- ---- forms

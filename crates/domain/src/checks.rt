@@ -151,13 +151,7 @@ pub fn loop_failure<const D: usize>(
 {
     match kind {
         LoopKind::For(stride) => for_failure(stride, lower, trip, at),
-        LoopKind::While => {
-            if turn == 0 {
-                trip_failure(trip)
-            } else {
-                None
-            }
-        }
+        LoopKind::While => { if turn == 0 { trip_failure(trip) } else { None } }
     }
 }
 

@@ -1,9 +1,10 @@
 //! Predictions: the forms of a nest's data.
 
-ghost use Rattle.std.specs.Prelude.{◌≡◌, ◌<◌, ◌≤◌, ℤ, Option, IfSome, length};
+ghost use Rattle.std.specs.Prelude.{◌≡◌, ◌<◌, ◌≤◌, ◌^◌, ℤ, Option, IfSome, length};
 ghost use Rattle.std.specs.Option.{option_copied};
 ghost use Rattle.affine.specs.Forms.{value_at};
-ghost use Rattle.domain.specs.Tables.{Table, IsTable, IsBlock, block_at, depth, head_level, rank_of, repeats, trip};
+ghost use Rattle.domain.specs.Tables.{Table, IsTable, IsBlock, Reaches, stride_size, level_at, block_at, depth, head_level, rank_of, repeats, trip};
+ghost use Rattle.domain.specs.Instances.{opening_at};
 ghost use Rattle.domain.specs.Expected.{form_of, tube_of, expected_of};
 
 use crate::instance::Instance;
@@ -33,7 +34,7 @@ pub struct Prediction<const D: usize> {
 
 impl<const D: usize> Model for Prediction<D> {
     ghost use Rattle.std.specs.Prelude.{◌≡◌, length};
-    ghost use Rattle.domain.specs.Tables.{Table, IsTable, IsBlock, block_at, depth, head_level, rank_of, repeats, trip};
+    ghost use Rattle.domain.specs.Tables.{Table, IsTable, IsBlock, Reaches, stride_size, level_at, block_at, depth, head_level, rank_of, repeats, trip};
 
     ghost Value = { Table };
 
@@ -64,6 +65,17 @@ impl<const D: usize> Prediction<D> {
         None
     }
 
+    /// The instance of the first block at a turn, with inner counters 0.
+    pub(crate) fn opening(&self, turn: i64) -> Instance<D>
+        ensures opening { result ≡ opening_at self.now turn }
+        ensures table { IsTable D self.now }
+    {
+        let _levels = &self.levels;
+        let mut at = [0; D];
+        at[0] = turn;
+        Instance { block: 0, at }
+    }
+
     /// The block of a rank.
     pub(crate) fn block(&self, rank: u8) -> &BlockForms<D>
         requires { rank < length self.now.blocks }
@@ -74,6 +86,16 @@ impl<const D: usize> Prediction<D> {
         ensures table { IsTable D self.now }
     {
         &self.blocks[rank as usize]
+    }
+
+    /// The loop inside so many others.
+    pub(crate) fn level(&self, around: usize) -> &LoopForms<D>
+        requires { around < D }
+        ensures level { result.now ≡ level_at self.now around }
+        ensures strides { stride_size result.now.kind ≤ 2 ^ 63 }
+        ensures reach { Reaches (stride_size result.now.kind) result.now.trip }
+    {
+        &self.levels[around]
     }
 
     /// Whether the loop inside so many others is a `while`.
@@ -133,7 +155,11 @@ impl<const D: usize> Prediction<D> {
 /// The expected value of a datum at an instance: that of its form at the counters, for an address the line. None
 /// exactly where the datum has no form. D is at most 6.
 #[tactic(auto, unfolding(crate::specs::Expected::expected_of))]
-pub fn expected<const D: usize>(pred: &Prediction<D>, inst: &Instance<D>, what: What) -> Option<i128>
+pub fn expected<const D: usize>(
+    pred: &Prediction<D>,
+    inst: &Instance<D>,
+    what: What,
+) -> Option<i128>
     requires { D < 7 }
     ensures { result ≡ expected_of pred.now inst.now what }
 {

@@ -1,4 +1,4 @@
-use Rattle.std.proofs.Common.{◌≡◌, ◌∙◌, sym, ap, FitsSigned, w64, rules}
+use Rattle.std.proofs.Common.{◌∙◌, sym, ap, FitsSigned, w64, rules}
 use Rattle.std.specs.Int.{w128}
 use Rattle.std.proofs.lemmas.Int.{to_z-of_z}
 use Rattle.domain.specs.declared.table.LoopKind.{LoopKind}

@@ -1,4 +1,4 @@
-use Rattle.std.proofs.Common.{◌≡◌, ◌<◌, ◌≤◌, ◌^◌, ◌∙◌, sym, ap, subst, ℕ, ℤ, pos, unsigned_abs, length, get_or, FitsSigned, w64, arith, rules}
+use Rattle.std.proofs.Common.{◌<◌, ◌^◌, sym, subst, ℤ, unsigned_abs, length, FitsSigned, w64, arith, rules}
 use Rattle.std.specs.Int.{w128}
 use Rattle.std.specs.Int.Signed.{nat_abs-le}
 use Rattle.std.proofs.lemmas.Int.{to_z-of_z}

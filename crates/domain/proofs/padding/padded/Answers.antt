@@ -1,9 +1,9 @@
-use Rattle.std.proofs.Common.{◌≡◌, ◌∙◌, sym, ap, subst, ◌<◌, ◌≤◌, ◌+◌, ℕ, ℤ, List, false, set, FitsSigned, arith, rules}
+use Rattle.std.proofs.Common.{◌≡◌, ◌∙◌, sym, subst, ◌<◌, false, set, FitsSigned, arith, rules}
 use Rattle.std.specs.Int.{w64}
 use Rattle.std.proofs.lemmas.Int.{to_z-of_z}
 use Rattle.nest_lang.specs.declared.tree.Part.TheVariants.{Post}
-use Rattle.domain.specs.Tables.{Block, trip, is_post, depth}
-use Rattle.domain.specs.Instances.{Instance, instance, IsInstance, block_of, padded, turns_of}
+use Rattle.domain.specs.Tables.{Block, is_post, depth}
+use Rattle.domain.specs.Instances.{Instance, instance, IsInstance, padded}
 use Rattle.domain.proofs.PlaceLaws.{padded-post_at, padded-plain_at, not-post}
 use Rattle.domain.proofs.padding.padded.Goals as goal
 

@@ -1,10 +1,6 @@
-use Rattle.std.proofs.Common.{◌≡◌, ◌∙◌, sym, ap, ◌<◌, ◌≤◌, ◌+◌, ℕ, ℤ, pos, ◌+ℤ◌, ◌<ℤ◌, ◌≤ℤ◌, true, false, Option, FitsSigned, arith, rules}
+use Rattle.std.proofs.Common.{◌∙◌, sym, ap, ◌≤◌, ℕ, Option, arith}
 use Rattle.std.specs.Prelude.{unwrap_or}
-use Rattle.std.specs.Int.{w128}
-use Rattle.std.proofs.lemmas.Int.{to_z-of_z, ints}
-use Rattle.domain.specs.Tables.{repeats, trip}
-use Rattle.domain.specs.Instances.{instance, counter}
-use Rattle.domain.specs.Steps.{head_rank}
+use Rattle.domain.specs.Instances.{instance}
 use Rattle.domain.proofs.StepLaws.{next_turn-outermost, turn-repeats, turn-more, turn-last}
 use Rattle.domain.proofs.prediction.Prediction.+turn.Goals as goal
 

@@ -1,8 +1,7 @@
-use Rattle.std.proofs.Common.{◌≡◌, ◌∙◌, sym, ap, ◌<◌, ◌≤◌, ◌+◌, ◌-◌, ℕ, ℤ, List, Bool, true, false, nat_lt, arith, rules}
+use Rattle.std.proofs.Common.{◌≡◌, ◌∙◌, sym, ap, ◌+◌, true, false, nat_lt, arith}
 use Rattle.std.proofs.lemmas.Bool.Decides.{nat_tests}
-use Rattle.domain.specs.Tables.{Block, depth}
+use Rattle.domain.specs.Tables.{depth}
 use Rattle.domain.specs.Instances.{Instance, instance}
-use Rattle.domain.specs.Steps.{ends_loop}
 use Rattle.domain.proofs.StepLaws.{next-of, next-head, next-pre, next-post}
 use Rattle.domain.proofs.prediction.Prediction.next.Goals as goal
 

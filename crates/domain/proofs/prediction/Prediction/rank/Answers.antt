@@ -1,4 +1,4 @@
-use Rattle.std.proofs.Common.{◌≡◌, ◌∙◌, sym, ap, ◌<◌, ◌≤◌, ℕ, List, true, length, get_or, arith}
+use Rattle.std.proofs.Common.{◌≡◌, ◌∙◌, sym, ap, ◌<◌, ◌≤◌, List, true, length, get_or, arith}
 use Rattle.std.specs.List.{position}
 use Rattle.domain.specs.Tables.{Table, Block, is_block, no_block}
 use Rattle.domain.proofs.TableLaws.{block_at-is, position-found, position-none}

@@ -1,0 +1,27 @@
+-- What holds of predicted instances.
+use Rattle.std.specs.Prelude.{◌≡◌, ◌⊎◌, ◌≤◌, ◌-◌, ℕ, ℤ, pos, ◌≤ℤ◌, List}
+use Rattle.nest_lang.specs.declared.tree.Part.TheVariants.{Head}
+use Rattle.domain.specs.declared.chunk.Chunk.{Chunk}
+use Rattle.domain.specs.Tables.{Table, IsTable, trip}
+use Rattle.domain.specs.Instances.{Instance, block_of, counter, IsInstance, Predicted, Precedes, IsOriginal}
+use Rattle.domain.specs.Launches.{IsLaunched}
+
+-- original order is a strict total order of the instances of present blocks
+pub record IsStrict (t : Table) : Type 0 where
+  pub irreflexive : (x : Instance) → Precedes t x x → ⊥
+  pub transitive : (x y z : Instance) → Precedes t x y → Precedes t y z → Precedes t x z
+  pub total : (x y : Instance) → IsInstance t x → IsInstance t y → Precedes t x y ⊎ ((x ≡ y) ⊎ Precedes t y x)
+
+abbrev pub OrderIsStrict : Type 0
+OrderIsStrict = (D : ℕ) (t : Table) → IsTable D t → IsStrict t
+
+-- there is one list of the predicted instances in original order
+abbrev pub OneList : Type 0
+OneList = (D : ℕ) (t : Table) (chunk : Chunk) (xs ys : List Instance) → IsTable D t → IsOriginal t chunk xs → IsOriginal t chunk ys → xs ≡ ys
+
+-- where a chunk is launched, no predicted trip at the first predicted head of an inner loop is negative
+abbrev pub LaunchedTrips : Type 0
+LaunchedTrips =
+    (D : ℕ) (t : Table) (words : ℤ) (chunk : Chunk) (instances : ℕ) → IsTable D t → IsLaunched t words chunk instances
+    → (x : Instance) → Predicted t chunk x → (block_of t x).part ≡ Head → 2 ≤ (block_of t x).level → counter x.at ((block_of t x).level - 1) ≡ pos 0
+    → pos 0 ≤ℤ trip t ((block_of t x).level - 1) x.at
