@@ -12,7 +12,7 @@ use crate::labels::Labels;
 use crate::loops::write_loops;
 use crate::page::Page;
 use crate::script::{write_candidate, write_operand, write_signed};
-use nest_grammar::{File, Item, Scalar, NestUnit, Version};
+use nest_grammar::{File, Item, NestUnit, Scalar, Version};
 use nest_lang::Command;
 use nest_text::NestFile;
 use nest_tokens::Mark;

@@ -8,7 +8,8 @@ use std::test::Fail;
 #[test]
 fn a_text_is_written_in_its_canonical_form(rt: HostRuntime) -> Result<(), Fail> {
     let alloc = rt.alloc();
-    let text = b"nest 1 memory 9 for i = 0 below 4 { if i { } else { [i] = i - (i + 1) + (i % (i * 2)) } }";
+    let text =
+        b"nest 1 memory 9 for i = 0 below 4 { if i { } else { [i] = i - (i + 1) + (i % (i * 2)) } }";
     let file = read_nest(alloc, text).map_err(|_| "not read")?;
     let written = write_nest(alloc, &file)?;
     assert_eq!(rt;

@@ -17,7 +17,7 @@ mod script;
 mod version;
 
 pub use fault::{TextFault, TextKind};
-pub use file::{Declared, File, Item, LoopNames, Scalar, NestUnit};
+pub use file::{Declared, File, Item, LoopNames, NestUnit, Scalar};
 pub use opening::{ItemKeyword, LoopKeyword, Opening, Start};
 pub use script::CommandWord;
 pub use version::Version;

@@ -12,7 +12,7 @@ use crate::limits::{MOST_NESTS, MOST_SCALARS, most_depth};
 use crate::nesting::loop_keyword;
 use crate::reader::Reader;
 use crate::refusal::ReadRefusal;
-use nest_grammar::{Declared, File, Scalar, TextKind, NestUnit, Version};
+use nest_grammar::{Declared, File, NestUnit, Scalar, TextKind, Version};
 use nest_lang::{Nest, Place};
 use nest_tokens::Mark;
 use sqlite_items::Items;
@@ -98,7 +98,11 @@ impl<'a> Reader<'a> {
     }
 
     /// Reads a nest behind so many others.
-    fn next_unit(&mut self, names: &mut Vec<Declared>, before: &[NestUnit]) -> Result<NestUnit, ReadRefusal>
+    fn next_unit(
+        &mut self,
+        names: &mut Vec<Declared>,
+        before: &[NestUnit],
+    ) -> Result<NestUnit, ReadRefusal>
         ensures read { GivesAs (λ u. before.now ++ u ∷ []) result self.new (next_unit names.old.items ForWord before.now self.old) }
         ensures kept { OnOk result (names.new.items ≡ names.old.items) }
     {

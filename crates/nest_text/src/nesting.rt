@@ -7,7 +7,7 @@ ghost use Rattle.nest_text.specs.Answers.{Gives};
 
 use crate::reader::{Reader, signed_value};
 use crate::refusal::ReadRefusal;
-use nest_grammar::{Declared, LoopNames, LoopKeyword, TextKind};
+use nest_grammar::{Declared, LoopKeyword, LoopNames, TextKind};
 use nest_lang::{Head, Loop, Place, Stmt};
 use nest_tokens::{Mark, Name, Token};
 use sqlite_items::Items;

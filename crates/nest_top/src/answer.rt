@@ -32,7 +32,11 @@ pub(crate) fn usage(alloc: Global) -> Result<Answer, AllocError>
 }
 
 /// The answer of an invocation to a text.
-pub(crate) fn answer_text(alloc: Global, invocation: &Invocation, text: &[u8]) -> Result<Answer, AllocError>
+pub(crate) fn answer_text(
+    alloc: Global,
+    invocation: &Invocation,
+    text: &[u8],
+) -> Result<Answer, AllocError>
     requires { invocation.now.options.steps ≤ 2 ^ 32 }
     ensures { IfOk result (λ answer. AnswersReading invocation.now (reading text.now) answer.bytes.items answer.status) }
 {
@@ -54,7 +58,11 @@ fn refused(alloc: Global, fault: &TextFault) -> Result<Answer, AllocError>
 }
 
 /// The answer of an invocation to a file.
-fn answer_file(alloc: Global, invocation: &Invocation, file: &NestFile) -> Result<Answer, AllocError>
+fn answer_file(
+    alloc: Global,
+    invocation: &Invocation,
+    file: &NestFile,
+) -> Result<Answer, AllocError>
     requires { invocation.now.options.steps ≤ 2 ^ 32 }
     ensures { IfOk result (λ answer. AnswersFile invocation.now.mode invocation.now.options file.now answer.bytes.items answer.status) }
 {
