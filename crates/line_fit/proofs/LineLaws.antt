@@ -4,7 +4,7 @@ use Rattle.std.specs.Int.{w64}
 use Rattle.std.proofs.lemmas.Int.{ints}
 use Rattle.affine.specs.Forms.{Affine, value_at}
 use Rattle.affine.specs.Sums.{dot}
-use Rattle.affine.proofs.IntegerLemmas.{mul-add}
+use Rattle.plain_lemmas.proofs.IntegerLaws.{*ℤ-+ℤ}
 use Rattle.line_fit.specs.Samples.{Sample, sample_at, one_less, IsStep, IsFirstStep}
 use Rattle.line_fit.specs.Lines.{largest, Tube, Miss, IsLine, IsSmall, IsLarge, IsTube, Meets, IsTooWide}
 use Rattle.line_fit.specs.Laws.{CoefficientIsOne, LineIsOne, FitIsOne, SamplesLieInTube, HasPair, LineIsOnlyAffine, FitOrUnfit}
@@ -112,7 +112,7 @@ dot-one_less (c ∷ coef) [] k h w = absurd (omega arith)
 dot-one_less (c ∷ coef) (x ∷ at) zero h w = first c x (dot coef at)
   where
     first : (c x rest : ℤ) → c *ℤ (x -ℤ pos 1) +ℤ rest +ℤ c ≡ c *ℤ x +ℤ rest
-    first c x rest = rw (mul-add c x (negsuc 0)) (omega (arith, ints))
+    first c x rest = rw (*ℤ-+ℤ c x (negsuc 0)) (omega (arith, ints))
 dot-one_less (c ∷ coef) (x ∷ at) (suc k) h w = let rest = dot-one_less coef at k (omega arith) (omega arith) in behind (c *ℤ x) _ (get_or coef k (pos 0)) _ rest
   where
     behind : (a b c d : ℤ) → b +ℤ c ≡ d → a +ℤ b +ℤ c ≡ a +ℤ d
