@@ -31,3 +31,6 @@ pub use order::successor;
 pub use padding::padded;
 pub use prediction::{Prediction, What, expected};
 pub use table::{AccessForm, BlockForms, LoopForms, LoopKind};
+
+#[cfg(test)]
+mod tests;
