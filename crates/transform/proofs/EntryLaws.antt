@@ -1,6 +1,7 @@
 -- How large the entries of a matrix grow by exchanges and skews.
 use Rattle.std.proofs.Common.{◌≡◌, refl, subst, ℕ, zero, suc, ◌+◌, ◌*◌, ◌^◌, ◌<◌, ◌≤◌, ℤ, pos, ◌+ℤ◌, ◌*ℤ◌, unsigned_abs, List, [], ◌∷◌, length, get_or, set, replicate, lit≤, add-one, mul_comm, pow-suc, arith}
 use Rattle.std.specs.List.{All, range_with_len, swap}
+use Rattle.std.proofs.Math.Nat.{mul-le-mul}
 use Rattle.std.proofs.lemmas.Int.{unsigned_abs-mul}
 use Rattle.std.proofs.lemmas.List.Elements.{All-cons, All-get_or, All-head, All-map, All-nil, All-replicate, All-set, All-tail, All-weaker}
 use Rattle.std.proofs.lemmas.List.Edits.{swap_is}
@@ -38,11 +39,8 @@ number-gained most x y m first second factor =
     let sum = unsigned_abs-add (pos 1 *ℤ x) (m *ℤ y) in
     let one : unsigned_abs (pos 1 *ℤ x) ≤ most = rw one-*ℤ first in
     let times : unsigned_abs (m *ℤ y) ≡ unsigned_abs m * unsigned_abs y = unsigned_abs-mul m y in
-    let eight = product-le (unsigned_abs m) (unsigned_abs y) 8 most factor second in
+    let eight = mul-le-mul factor second in
     omega (arith, sum, one, times, eight)
-  where
-    product-le : (a b c d : ℕ) → a ≤ c → b ≤ d → a * b ≤ c * d
-    product-le a b c d h k = grind arith
 
 weighted-within : (most : ℕ) (m : ℤ) (xs ys : List ℤ) → unsigned_abs m ≤ 8 → AllWithinSize most xs → AllWithinSize most ys → AllWithinSize (9 * most) (weighted (pos 1) xs m ys)
 weighted-within most m [] ys factor first second = All-nil (λ x. unsigned_abs x ≤ 9 * most)

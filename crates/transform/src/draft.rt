@@ -1,7 +1,7 @@
 //! A script that is read command by command.
 
-ghost use Rattle.std.specs.Prelude.{◌≡◌, ◌<◌, ◌≤◌, ◌-◌, ◌&&◌, ℕ, List, length, not, nat_eq, nat_le, unsigned_abs, is_some, true, false, IfSome, if◌then◌else◌};
-ghost use Rattle.std.specs.List.{All, list_all};
+ghost use Rattle.std.specs.Prelude.{◌≡◌, ◌<◌, ◌≤◌, ◌-◌, ◌&&◌, not, nat_eq, unsigned_abs, is_some, IfSome, if◌then◌else◌};
+ghost use Rattle.std.specs.List.{list_all};
 ghost use Rattle.nest_lang.specs.declared.command.Command.TheVariants as commands;
 ghost use Rattle.transform.specs.Scripts.{are_rows, is_row, is_size, marked};
 

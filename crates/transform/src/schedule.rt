@@ -1,6 +1,6 @@
 //! Schedules, and where they put a point.
 
-ghost use Rattle.std.specs.Prelude.{◌≡◌, ◌<◌, ◌≤◌, ◌^◌, ℕ, ℤ, pos, List, unsigned_abs, if◌then◌else◌};
+ghost use Rattle.std.specs.Prelude.{◌≡◌, ◌<◌, ◌≤◌, ◌^◌, ℤ, pos, List, unsigned_abs, if◌then◌else◌};
 ghost use Rattle.std.specs.Int.{int_div_euclid};
 ghost use Rattle.std.specs.List.{All};
 
@@ -36,7 +36,7 @@ impl<const D: usize> Model for Schedule<D> {
 impl<const D: usize> Schedule<D> {
     ghost use Rattle.affine.specs.Inverses.{IsInverse};
     ghost use Rattle.affine.specs.Matrices.{HasSmallEntries};
-    ghost use Rattle.transform.specs.Schedules.{IsMade, IsSchedule, line_at, matrix, place, tile, wave, wide_lead, wide_tile};
+    ghost use Rattle.transform.specs.Schedules.{IsMade, IsSchedule, line_at, matrix, place, wave, wide_lead, wide_tile};
     ghost use Rattle.transform.specs.Scripts.{schedule_from};
 
     /// The schedule of these parts.
