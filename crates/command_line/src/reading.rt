@@ -15,7 +15,7 @@ const USAGE: &str =
     "usage: nestrun plain|run|check|deps|gen [SEED KIND SIZE] [--workers N] [--chunk N] [--sample N] [--steps N]\n";
 
 /// The invocation that the words after the program's name are, or None exactly where they are none
-/// (docs/DEFINITIONS.md, Commands).
+/// (docs/DEFINITIONS.md, Invocations).
 ///
 /// `AllocError` comes only for want of memory, and never in place of None.
 pub fn invocation_of(alloc: Global, words: &[String]) -> Result<Option<Invocation>, AllocError>
