@@ -18,3 +18,4 @@ pub mod Beginning
 pub mod Accessing
 pub mod Lawful
 pub mod Reordering
+pub mod VerifyLaws

@@ -11,3 +11,4 @@ pub mod Instances
 pub mod PlannedLaws
 pub mod Footprints
 pub mod ReorderLaws
+pub mod Intervals

@@ -14,3 +14,9 @@
 #![tactic(auto)]
 
 pub mod laws;
+mod verify;
+
+pub use verify::{Interval, VerifyingPort};
+
+#[cfg(test)]
+mod tests;

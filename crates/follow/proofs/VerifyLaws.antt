@@ -1,0 +1,35 @@
+-- What a port that verifies answers, over a port that does not.
+use Rattle.std.proofs.Common.{◌≡◌, refl, ap, ◌∙◌, sym, ℤ, Bool, true, false, not, List, Option, Some, None, Err}
+use Rattle.std.specs.Prelude.{if◌then◌else◌, ◌&&◌}
+use Rattle.nest_lang.specs.declared.observe.Stop.TheVariants.{Unexpected}
+use Rattle.nest_lang.specs.Stores.{word_at}
+use Rattle.block_exec.specs.Ports.{without_word}
+use Rattle.nest_lang.specs.Lookups.{Interval, lies_in, line_of, look, word_or_outside}
+
+-- the line of what is expected where the address isn't
+abbrev pub refused_by : Option Interval → ℤ → Option (Option ℤ)
+refused_by i a = if lies_in i a then None else Some (line_of i)
+
+some-line : (x y : Option ℤ) → ◌≡◌ {A = Option (Option ℤ)} (Some x) (Some y) → x ≡ y
+some-line x y e = cc
+
+pub look-refused : (i : Option Interval) (m : List ℤ) (a : ℤ) (line : Option ℤ) → refused_by i a ≡ Some line → Err (Unexpected a line) ≡ look true i m a
+unfolding look
+look-refused i m a line e = by (lies_in i a) e
+  where
+    by : (b : Bool) → (if b then None else Some (line_of i)) ≡ Some line → Err (Unexpected a line) ≡ (if true && not b then Err (Unexpected a (line_of i)) else word_or_outside a (word_at m a))
+    by true h = absurd (cc)
+    by false h = ap (λ (z : Option ℤ). Err (Unexpected a z)) (sym (some-line (line_of i) line h))
+
+pub look-passed : (i j : Option Interval) (m : List ℤ) (a : ℤ) (v : Bool) → v ≡ false → refused_by i a ≡ None → look v j m a ≡ look true i m a
+unfolding look
+look-passed i j m a v plain e = ap (λ (z : Bool). if z && not (lies_in j a) then Err (Unexpected a (line_of j)) else word_or_outside a (word_at m a)) plain ∙ by (lies_in i a) e
+  where
+    by : (b : Bool) → (if b then None else Some (line_of i)) ≡ None → word_or_outside a (word_at m a) ≡ (if true && not b then Err (Unexpected a (line_of i)) else word_or_outside a (word_at m a))
+    by true h = refl
+    by false h = absurd (cc)
+
+pub store-refused : (i : Option Interval) (m : List ℤ) (a : ℤ) (line : Option ℤ) → refused_by i a ≡ Some line → Err (Unexpected a line) ≡ without_word (look true i m a)
+store-refused i m a line e = ap without_word (look-refused i m a line e)
+
+pub ruleset verifying = (look-passed)

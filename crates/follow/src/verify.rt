@@ -1,0 +1,114 @@
+//! A port that verifies addresses, over any port that does not.
+
+ghost use Rattle.std.specs.Prelude.{◌≡◌, ◌+ℤ◌, int_le, false, Some, None, if◌then◌else◌};
+ghost use Rattle.std.specs.Borrow.{GName};
+ghost use Rattle.nest_lang.specs.Lookups.{lies_in, line_of};
+ghost use Rattle.follow.specs.Intervals.{interval_by, interval_of, verified_by};
+
+use block_exec::{Port, Stop};
+
+/// The addresses from line + low to line + high.
+#[derive(Clone, Copy, Debug, PartialEq, Eq)]
+pub struct Interval {
+    pub line: i128,
+    pub low: i64,
+    pub high: i64,
+}
+
+/// The memory of a port that verifies nothing, with what is expected of the addresses of one instance: the
+/// interval of access a at a - 1, where there is one. An address is compared before that port is asked, so no
+/// address that isn't expected reaches it.
+#[derive(Drop)]
+pub struct VerifyingPort<'p, 'e, P: Port> {
+    port: &'p mut P,
+    expected: &'e [Option<Interval>],
+    ghost plain: { (P.expects port.now).verifies ≡ false },
+}
+
+impl<'p, 'e, P: Port> VerifyingPort<'p, 'e, P> {
+    /// The port over this one, which verifies nothing, and these intervals.
+    pub fn new(port: &'p mut P, expected: &'e [Option<Interval>]) -> VerifyingPort<'p, 'e, P>
+        requires { (P.expects port.now).verifies ≡ false }
+        ensures port { result.port ≡ port.entry }
+        ensures expected { result.expected.now ≡ expected.now }
+    {
+        VerifyingPort { port, expected }
+    }
+}
+
+impl<P: Port> Port for VerifyingPort<'_, '_, P> {
+    ghost Basis = { P.Basis × GName };
+
+    ghost memory = { λ p. P.memory p.port.now };
+
+    ghost expects = { λ p. verified_by p.expected.now };
+
+    ghost basis = { λ p. (P.basis p.port.now, p.port.ghost_name) };
+
+    #[tactic(auto, using(crate::proofs::VerifyLaws::verifying))]
+    fn load(&mut self, access: u8, address: i64) -> Result<i64, Stop> {
+        if let Some(expected) = refused(self.expected, access, address) {
+            return Err(Stop::Unexpected {
+                seen: address,
+                expected,
+            });
+        }
+        self.port.load(access, address)
+    }
+
+    #[tactic(auto, using(crate::proofs::VerifyLaws::verifying))]
+    fn store(&mut self, access: u8, address: i64, value: i64) -> Result<(), Stop> {
+        if let Some(expected) = refused(self.expected, access, address) {
+            return Err(Stop::Unexpected {
+                seen: address,
+                expected,
+            });
+        }
+        self.port.store(access, address, value)
+    }
+}
+
+impl Interval {
+    /// Whether the address lies in the interval.
+    fn has(self, address: i64) -> bool
+        ensures { result ≡ lies_in (interval_by (Some (Some self))) address }
+    {
+        reaches(self.line, self.low, address) && stays_within(self.line, self.high, address)
+    }
+}
+
+/// Whether the address is line + low or above. Its distance is compared with the line, since line + low may be
+/// no i128.
+fn reaches(line: i128, low: i64, address: i64) -> bool
+    ensures { result ≡ int_le (line +ℤ low) address }
+{
+    let distance = i128::from(address) - i128::from(low);
+    line <= distance
+}
+
+/// Whether the address is line + high or below.
+fn stays_within(line: i128, high: i64, address: i64) -> bool
+    ensures { result ≡ int_le address (line +ℤ high) }
+{
+    let distance = i128::from(address) - i128::from(high);
+    distance <= line
+}
+
+/// The interval of an access, from 1, where there is one.
+fn expected_at(expected: &[Option<Interval>], access: u8) -> Option<Interval>
+    ensures { interval_by (Some result) ≡ interval_of expected.now access }
+{
+    let place = access.checked_sub(1)?;
+    *expected.get(place as usize)?
+}
+
+/// The line of what is expected of that access, or that nothing is, where the address isn't expected.
+fn refused(expected: &[Option<Interval>], access: u8, address: i64) -> Option<Option<i128>>
+    ensures { result ≡ (if lies_in (interval_of expected.now access) address then None else Some (line_of (interval_of expected.now access))) }
+{
+    match expected_at(expected, access) {
+        Some(interval) if interval.has(address) => None,
+        Some(interval) => Some(Some(interval.line)),
+        None => Some(None),
+    }
+}
