@@ -6,22 +6,11 @@ use Rattle.std.specs.Cmp.Lexicographic.{slice_cmp}
 use Rattle.std.specs.BTreeMap.{BTreeMap, get, is_at}
 use Rattle.std.proofs.lemmas.Cmp.{int_cmp_total, lists_total, tied_itself}
 use Rattle.std.proofs.lemmas.List.{get_or_default}
-use Rattle.std.proofs.lemmas.Map.Lookups.{exact_signed}
+use Rattle.plain_lemmas.proofs.OrderLaws.{slice_cmp-exact}
 use Rattle.line_fit.specs.Samples.{Sample, sample_at}
 use Rattle.line_fit.specs.Firsts.{IsFirstWith, IsAbsent, IsIndex}
 
 -- ---- counters that compare as equal are equal
-
-pub slice_cmp-exact : (xs ys : List ℤ) → slice_cmp int_cmp xs ys ≡ Equal → xs ≡ ys
-slice_cmp-exact [] [] h = refl
-slice_cmp-exact [] (y ∷ ys) h = cc
-slice_cmp-exact (x ∷ xs) [] h = cc
-slice_cmp-exact (x ∷ xs) (y ∷ ys) h = at (int_cmp x y) refl h (slice_cmp-exact xs ys)
-  where
-    at : (o : Ordering) → int_cmp x y ≡ o → ordering_then o (slice_cmp int_cmp xs ys) ≡ Equal → (slice_cmp int_cmp xs ys ≡ Equal → xs ≡ ys) → (x ∷ xs) ≡ (y ∷ ys)
-    at Less e k more = cc
-    at Equal e k more = let first = exact_signed x y e in let rest = more k in cc
-    at Greater e k more = cc
 
 is_eq-exact : (o : Ordering) → is_eq o ≡ true → o ≡ Equal
 is_eq-exact Less h = cc
