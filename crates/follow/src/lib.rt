@@ -9,7 +9,8 @@
 //! The crate stands on the traces of `nest_lang`, on what `block_exec` says of blocks whose addresses are
 //! verified, and on `orders`, which has the laws of reordering for whatever runs on words. Its laws say
 //! which lists have one follow run, and that a chunk has no deviation exactly where its instances, one
-//! after another, follow from its first scalars within its steps. The layers above, which run instances in
+//! after another, follow from its first scalars within its steps. `VerifyingPort` refuses each address that
+//! is not expected of an instance before the port below is asked. The layers above, which run instances in
 //! the order of a schedule and on several threads, rest on these laws.
 #![tactic(auto)]
 
