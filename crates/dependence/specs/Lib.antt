@@ -1,0 +1,5 @@
+pub mod Comparisons
+pub mod Systems
+pub mod Legality
+pub mod Laws
+pub mod Examples
