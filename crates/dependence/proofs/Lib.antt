@@ -9,3 +9,4 @@ pub mod SystemLaws
 pub mod VerdictLaws
 pub mod ScheduleLaws
 pub mod ListLaws
+pub mod BuiltRowLaws

@@ -3,3 +3,4 @@ pub mod Systems
 pub mod Legality
 pub mod Laws
 pub mod Examples
+pub mod Terms

@@ -11,4 +11,7 @@
 //! `fourier_motzkin` (verdicts on rows) and on `orders` (lists in order). The layer above uses the laws.
 #![tactic(auto)]
 
+mod comparison;
 pub mod laws;
+
+pub use comparison::{Sum, Term, row_for};
