@@ -1,0 +1,12 @@
+pub mod SumLaws
+pub mod RowLaws
+pub mod RangeLaws
+pub mod LexLaws
+pub mod KeyLaws
+pub mod LaunchLaws
+pub mod ComparisonLaws
+pub mod SystemLaws
+pub mod VerdictLaws
+pub mod ScheduleLaws
+pub mod ListLaws
+pub mod BuiltRowLaws
