@@ -9,7 +9,8 @@ use Rattle.std.proofs.lemmas.List.Elements.{All-head, All-tail, All-cons}
 use Rattle.std.proofs.Math.Nat.{mul-le-mul, mul-le-mul_right}
 use Rattle.affine.specs.Forms.{Affine, value_at, AllWithinSize}
 use Rattle.affine.specs.Sums.{dot}
-use Rattle.affine.proofs.SumLemmas.{abs-dot, abs-add}
+use Rattle.affine.proofs.SumLemmas.{abs-dot}
+use Rattle.plain_lemmas.proofs.IntegerLaws.{unsigned_abs-add}
 use Rattle.domain.specs.declared.held.HeldWhy.{HeldWhy}
 use Rattle.domain.specs.Tables.{Access, Table, level_at, cut, trip, Reaches, stride_size}
 use Rattle.domain.specs.declared.table.LoopKind.{LoopKind}
@@ -34,7 +35,7 @@ pub value-size : (form : Affine) (at : List ℤ) → AllWithinSize (2 ^ 40) form
 value-size form at small few range cst =
     let a = abs-dot form.coef at (2 ^ 40) (2 ^ 33) small range in
     let b = few-times (length form.coef) few in
-    let c = abs-add (dot form.coef at) form.cst in
+    let c = unsigned_abs-add (dot form.coef at) form.cst in
     omega arith
 
 -- ---- searches
@@ -100,7 +101,7 @@ reach-dot s (x ∷ xs) [] h k = omega arith
 reach-dot s (x ∷ xs) (y ∷ ys) h k =
     let rest = reach-dot s xs ys (All-tail (λ c. s * unsigned_abs c ≤ 2 ^ 66) x xs h) (All-tail (λ z. unsigned_abs z ≤ 2 ^ 33) y ys k) in
     let one = reach-step s (unsigned_abs x) (unsigned_abs y) (unsigned_abs (dot xs ys)) (length xs) (All-head (λ c. s * unsigned_abs c ≤ 2 ^ 66) x xs h) (All-head (λ z. unsigned_abs z ≤ 2 ^ 33) y ys k) rest in
-    let sum : unsigned_abs (x *ℤ y +ℤ dot xs ys) ≤ unsigned_abs x * unsigned_abs y + unsigned_abs (dot xs ys) = grind (arith, abs-add, unsigned_abs-mul) in
+    let sum : unsigned_abs (x *ℤ y +ℤ dot xs ys) ≤ unsigned_abs x * unsigned_abs y + unsigned_abs (dot xs ys) = grind (arith, unsigned_abs-add, unsigned_abs-mul) in
     le_trans (mul-le-mul_left s sum) one
 
 few-reach : (n : ℕ) → n < 7 → n * 2 ^ 99 ≤ 2 ^ 102
@@ -110,7 +111,7 @@ pub reach-value : (s : ℕ) (form : Affine) (at : List ℤ) → All (λ c. s * u
 reach-value s form at coef cst few near =
     let a = reach-dot s form.coef at coef near in
     let b = few-reach (length form.coef) few in
-    let c = mul-le-mul_left s (abs-add (dot form.coef at) form.cst) in
+    let c = mul-le-mul_left s (unsigned_abs-add (dot form.coef at) form.cst) in
     let d : s * (unsigned_abs (dot form.coef at) + unsigned_abs form.cst) ≡ s * unsigned_abs (dot form.coef at) + s * unsigned_abs form.cst = grind (arith) in
     omega arith
 

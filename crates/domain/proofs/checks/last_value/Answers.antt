@@ -2,7 +2,7 @@ use Rattle.std.proofs.Common.{◌≤◌, ◌^◌, ℤ, pos, ◌+ℤ◌, ◌-ℤ�
 use Rattle.std.proofs.Math.Facts.{sfits_widen}
 use Rattle.std.specs.Int.{w128}
 use Rattle.std.proofs.lemmas.Int.{fits_signed_from_abs, ints}
-use Rattle.affine.proofs.SumLemmas.{abs-add}
+use Rattle.plain_lemmas.proofs.IntegerLaws.{unsigned_abs-add}
 use Rattle.domain.proofs.CheckLaws.{last-computed, last-fits}
 use Rattle.domain.proofs.checks.last_value.Goals as goal
 
@@ -10,7 +10,7 @@ less-fits : (r : ℤ) → unsigned_abs r ≤ 2 ^ 120 → FitsSigned w128 (r -ℤ
 less-fits r h = fits_signed_from_abs w128 (r -ℤ pos 1) (omega (arith, ints))
 
 sum-fits : (l p : ℤ) → unsigned_abs l ≤ 2 ^ 63 → unsigned_abs p ≤ 2 ^ 120 → FitsSigned w128 (l +ℤ p)
-sum-fits l p h k = let a = abs-add l p in fits_signed_from_abs w128 (l +ℤ p) (omega arith)
+sum-fits l p h k = let a = unsigned_abs-add l p in fits_signed_from_abs w128 (l +ℤ p) (omega arith)
 
 part-fits : (p : ℤ) → unsigned_abs p ≤ 2 ^ 120 → FitsSigned w128 p
 part-fits p h = fits_signed_from_abs w128 p (omega arith)
