@@ -1,6 +1,6 @@
 -- What a launch makes sure of.
-use Rattle.std.proofs.Common.{◌≡◌, refl, sym, ap, subst, ◌∙◌, ℕ, ◌<◌, ◌≤◌, ◌-◌, ℤ, pos, ◌≤ℤ◌, Bool, true, false, Option, Some, None, List, [], ◌∷◌, ◌++◌, inl, inr, nat_lt, arith}
-use Rattle.std.specs.Prelude.{int_lt, int_le, ◌&&◌, if◌then◌else◌}
+use Rattle.std.proofs.Common.{◌≡◌, refl, sym, ap, ◌∙◌, ℕ, ◌≤◌, ◌-◌, ℤ, pos, ◌≤ℤ◌, Bool, true, false, Option, Some, None, List, [], ◌∷◌, ◌++◌, inl, inr, nat_lt, arith}
+use Rattle.std.specs.Prelude.{int_lt, if◌then◌else◌}
 use Rattle.std.proofs.lemmas.Bool.Decides.{nat_tests}
 use Rattle.plain_lemmas.proofs.IntegerLaws.{int_lt-false}
 use Rattle.plain_lemmas.proofs.MembershipLaws.{Has, has_from_contains}
@@ -8,14 +8,13 @@ use Rattle.affine.specs.Forms.{Affine}
 use Rattle.nest_lang.specs.declared.tree.Part.{Part}
 use Rattle.nest_lang.specs.declared.tree.Part.TheVariants.{Head, Pre, Post}
 use Rattle.nest_lang.specs.Values.{same}
-use Rattle.domain.specs.declared.chunk.Chunk.{Chunk}
 use Rattle.domain.specs.declared.held.HeldWhy.{HeldWhy}
 use Rattle.domain.specs.declared.held.HeldWhy.TheVariants.{Many, Negative}
 use Rattle.domain.specs.declared.table.LoopKind.{LoopKind}
 use Rattle.domain.specs.declared.table.LoopKind.TheVariants.{For, While}
 use Rattle.domain.specs.Tables.{Table, level_at, trip}
-use Rattle.domain.specs.Instances.{Instance, block_of, counter, Predicted}
-use Rattle.domain.specs.Launches.{first_of, trip_failure, lower_failure, last_failure, loop_failure, head_by, scalars_failure, stores_failure, data_failure, is_many, failure, IsLaunched}
+use Rattle.domain.specs.Instances.{Instance, block_of, counter}
+use Rattle.domain.specs.Launches.{first_of, trip_failure, lower_failure, last_failure, loop_failure, head_by, scalars_failure, stores_failure, data_failure, is_many, failure}
 use Rattle.domain.specs.Laws.{LaunchedTrips}
 
 -- where an element stands

@@ -12,5 +12,6 @@ pub mod RankLaws
 pub mod SpotLaws
 pub mod StepLaws
 pub mod TableLaws
+pub mod TouchedLaws
 pub mod WalkLaws
 pub mod WithinLaws
