@@ -1,4 +1,5 @@
 pub mod CheckLaws
+pub mod CounterLaws
 pub mod GapLaws
 pub mod LaunchLaws
 pub mod LaunchedLaws
