@@ -1,5 +1,6 @@
 pub mod CheckLaws
 pub mod CounterLaws
+pub mod ExampleLaws
 pub mod GapLaws
 pub mod LaunchLaws
 pub mod LaunchedLaws

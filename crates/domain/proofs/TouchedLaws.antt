@@ -23,14 +23,14 @@ alone y a h = ⊎_elim (λ e. e) (λ z. absurd z) (has_from_contains (y ∷ []) 
 
 pub gains-push : (xs ys : List ℕ) (from to : ℕ) → from ≤ to → Gains (λ a. (from ≤ a) × (a < to)) xs ys → Gains (λ a. (from ≤ a) × (a < to + 1)) xs (ys ++ to ∷ [])
 gains-push xs ys from to le g a = (
-    λ h. ⊎_elim (λ k. ⊎_elim inl (λ p. let q = p.1 in inr (p.0, omega arith)) ((g a).0 k)) (λ k. let e = alone to a k in inr (omega arith, omega arith)) (Contains-append_cases ys (to ∷ []) a h),
-    λ h. ⊎_elim
-    (λ k. Contains-append_left ys (to ∷ []) a ((g a).1 (inl k)))
-    (λ p. let low = p.0 in let high = p.1 in ⊎_elim
-    (λ l. Contains-append_left ys (to ∷ []) a ((g a).1 (inr (low, l))))
-    (λ l. let e : a ≡ to = omega arith in Contains-append_right ys (to ∷ []) a (contains_from_has (to ∷ []) a (inl e)))
-    (cases_lt a to)) h
-  )
+  λ h. ⊎_elim (λ k. ⊎_elim inl (λ p. let q = p.1 in inr (p.0, omega arith)) ((g a).0 k)) (λ k. let e = alone to a k in inr (omega arith, omega arith)) (Contains-append_cases ys (to ∷ []) a h),
+  λ h. ⊎_elim
+      (λ k. Contains-append_left ys (to ∷ []) a ((g a).1 (inl k)))
+      (λ p. let low = p.0 in let high = p.1 in ⊎_elim
+      (λ l. Contains-append_left ys (to ∷ []) a ((g a).1 (inr (low, l))))
+      (λ l. let e : a ≡ to = omega arith in Contains-append_right ys (to ∷ []) a (contains_from_has (to ∷ []) a (inl e)))
+      (cases_lt a to)) h,
+)
 
 -- what a loop over a range has passed at its end
 pub range-same : (from to at : ℕ) → to ≤ at → (at ≤ from) ⊎ (at ≤ to) → (a : ℕ) → ((from ≤ a) × (a < at)) ↔ ((from ≤ a) × (a < to))
@@ -91,10 +91,10 @@ words-more accesses n access at words stores xs ys is h g a = (there, back)
 
 read-word : (t : Table) (x : Instance) (words a : ℕ) → IsWordBelow (block_of t x).accesses (length (block_of t x).accesses) x.at words false a → Reads t (pos words) x (pos a)
 read-word t x words a w = (
-    record { number = suc w.place; access = w.access; is = w.is; kind = w.word.kind; expected = w.word.expected },
-    omega (arith, ints),
-    (let l = w.word.word in omega (arith, ints))
-  )
+  record { number = suc w.place; access = w.access; is = w.is; kind = w.word.kind; expected = w.word.expected },
+  omega (arith, ints),
+  (let l = w.word.word in omega (arith, ints)),
+)
 
 write-word : (t : Table) (x : Instance) (words a : ℕ) → IsWordBelow (block_of t x).accesses (length (block_of t x).accesses) x.at words true a → Writes t x (pos a)
 write-word t x words a w = record { number = suc w.place; access = w.access; is = w.is; kind = w.word.kind; expected = w.word.expected }

@@ -12,6 +12,6 @@ returns c =
       rising = rw is (IsStrictlyIncreasing-dedup _ c.sort_unstable.ensures.sorted);
       has = λ x. (
         λ h. Contains-permutation _ _ x (IsPermutation-sym _ _ moved) (Contains-from_dedup _ _ x (rw is at h)),
-        λ h. rw is (Contains-dedup_nat _ x (Contains-permutation _ _ x moved h))
+        λ h. rw is (Contains-dedup_nat _ x (Contains-permutation _ _ x moved h)),
       );
     }
