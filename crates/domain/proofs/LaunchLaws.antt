@@ -18,7 +18,7 @@ use Rattle.domain.specs.Instances.{Instance, block_of, counter, Predicted, Prece
 use Rattle.domain.specs.Steps.{next}
 use Rattle.domain.specs.Launches.{widths, block_width, is_many, data_failure, failure, Passes, IsBefore, IsLaunched, IsHeld}
 use Rattle.domain.proofs.NearLaws.{Follows, next-follows}
-use Rattle.domain.proofs.OriginalLaws.{successor-law, precedes-three, not-back, not-itself, opening-first, opening-is, opening-turn, opening-rest, opening-place, opening-predicted, first-place, before-precedes}
+use Rattle.domain.proofs.OriginalLaws.{successor-law, precedes-three, not-back, not-itself, opening-first, opening-is, opening-turn, opening-rest, opening-last, opening-predicted}
 
 -- ---- lists that grow by one
 
@@ -167,12 +167,7 @@ module _ (D : ℕ) (t : Table) (is : IsTable D t) (chunk : Chunk) (words : ℤ) 
 
       precedes : (z : Instance) → Predicted t chunk z → Precedes t z x
       precedes z p =
-          let e = opening-place D t is chunk (chunk.first +ℤ chunk.turns) 0 ∙ opening-turn D t is chunk (chunk.first +ℤ chunk.turns) in
-          let f = first-place D t is chunk z p in
-          let below = p.turn.below in
-          let some = is.some in
-          subst (λ (v : Instance). Precedes t z v) (sym end)
-          (before-precedes D t is chunk z (opening_at t (chunk.first +ℤ chunk.turns)) p.is.block (inl (record { index = 0; inside = omega arith; same = λ i l. absurd (omega arith); less = omega (arith, ints) })))
+          subst (λ (v : Instance). Precedes t z v) (sym end) (opening-last D t is chunk z p)
 
   pub walk-in : (x : Instance) (instances width : ℕ) → Walk D t words chunk x instances width → counter x.at 0 <ℤ (chunk.first +ℤ chunk.turns) → Predicted t chunk x
   walk-in x instances width w h = ⊎_elim (λ p. p) (λ e. absurd (let f = ap (λ (v : Instance). counter v.at 0) e ∙ opening-turn D t is chunk (chunk.first +ℤ chunk.turns) in omega (arith, ints))) w.at

@@ -1,4 +1,6 @@
 pub mod CheckLaws
+pub mod CounterLaws
+pub mod ExampleLaws
 pub mod GapLaws
 pub mod LaunchLaws
 pub mod LaunchedLaws
@@ -12,5 +14,6 @@ pub mod RankLaws
 pub mod SpotLaws
 pub mod StepLaws
 pub mod TableLaws
+pub mod TouchedLaws
 pub mod WalkLaws
 pub mod WithinLaws

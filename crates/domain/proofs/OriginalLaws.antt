@@ -170,6 +170,15 @@ module _ (D : ℕ) (t : Table) (is : IsTable D t) (chunk : Chunk) where
           let r = ranks-rise D t is z.block 0 p.is.block text in
           omega arith
 
+  -- each predicted instance precedes the first block at the turn after the chunk
+  pub opening-last : (z : Instance) → Predicted t chunk z → Precedes t z (opening_at t (chunk.first +ℤ chunk.turns))
+  opening-last z p =
+      let e = opening-place (chunk.first +ℤ chunk.turns) 0 ∙ opening-turn (chunk.first +ℤ chunk.turns) in
+      let f = first-place z p in
+      let below = p.turn.below in
+      let some = is.some in
+      before-precedes z (opening_at t (chunk.first +ℤ chunk.turns)) p.is.block (inl (record { index = 0; inside = omega arith; same = λ i l. absurd (omega arith); less = omega (arith, ints) }))
+
   -- ---- the step leads to the successor
 
   pub successor-law : (x : Instance) → Predicted t chunk x → IsSuccessor t chunk x (next t x)

@@ -22,12 +22,16 @@ store_at f = record { stores = true; line = Some f; low = pos 0; high = pos 0 }
 abbrev pub row : Table
 row = record { levels = outer ∷ []; blocks = record { part = Pre; level = 1; scalars = []; accesses = store_at (form (pos 1 ∷ []) (pos 0)) ∷ [] } ∷ [] }
 
+-- two loops: the inner one has a stride, a lower bound and a trip, and a block with these accesses
+abbrev pub two_loops : ℤ → Affine → Affine → List Access → Table
+two_loops stride lower trip accesses = record {
+  levels = outer ∷ record { kind = For stride; lower = Some lower; trip = Some trip } ∷ [];
+  blocks = record { part = Head; level = 2; scalars = []; accesses = [] } ∷ record { part = Pre; level = 2; scalars = []; accesses = accesses } ∷ [];
+}
+
 -- for i { for j = i below 10 { [20 * i + j] = 0 } }
 abbrev pub triangle : Table
-triangle = record {
-  levels = outer ∷ record { kind = For (pos 1); lower = Some (form (pos 1 ∷ pos 0 ∷ []) (pos 0)); trip = Some (form (negsuc 0 ∷ pos 0 ∷ []) (pos 10)) } ∷ [];
-  blocks = record { part = Head; level = 2; scalars = []; accesses = [] } ∷ record { part = Pre; level = 2; scalars = []; accesses = store_at (form (pos 21 ∷ pos 1 ∷ []) (pos 0)) ∷ [] } ∷ [];
-}
+triangle = two_loops (pos 1) (form (pos 1 ∷ pos 0 ∷ []) (pos 0)) (form (negsuc 0 ∷ pos 0 ∷ []) (pos 10)) (store_at (form (pos 21 ∷ pos 1 ∷ []) (pos 0)) ∷ [])
 
 -- for i { [i] = 1  for j = 0 below 6 - i { [30 + j] = 1 }  [6 - i] = 2 }
 abbrev pub behind : Table
@@ -43,17 +47,11 @@ behind = record {
 
 -- for i { for j = 9223372036854775800 + i below 0 { [0] = 1 } }, whose trip is 0
 abbrev pub high_lower : Table
-high_lower = record {
-  levels = outer ∷ record { kind = For (pos 1); lower = Some (form (pos 1 ∷ pos 0 ∷ []) (pos 9223372036854775800)); trip = Some (form (pos 0 ∷ pos 0 ∷ []) (pos 0)) } ∷ [];
-  blocks = record { part = Head; level = 2; scalars = []; accesses = [] } ∷ record { part = Pre; level = 2; scalars = []; accesses = [] } ∷ [];
-}
+high_lower = two_loops (pos 1) (form (pos 1 ∷ pos 0 ∷ []) (pos 9223372036854775800)) (form (pos 0 ∷ pos 0 ∷ []) (pos 0)) []
 
 -- for i { for j = 0 below (i + 1) * 2^60 step 2^60 { [i] = 1 } }
 abbrev pub long_steps : Table
-long_steps = record {
-  levels = outer ∷ record { kind = For (pos 1152921504606846976); lower = Some (form (pos 0 ∷ pos 0 ∷ []) (pos 0)); trip = Some (form (pos 1 ∷ pos 0 ∷ []) (pos 1)) } ∷ [];
-  blocks = record { part = Head; level = 2; scalars = []; accesses = [] } ∷ record { part = Pre; level = 2; scalars = []; accesses = store_at (form (pos 1 ∷ pos 0 ∷ []) (pos 0)) ∷ [] } ∷ [];
-}
+long_steps = two_loops (pos 1152921504606846976) (form (pos 0 ∷ pos 0 ∷ []) (pos 0)) (form (pos 1 ∷ pos 0 ∷ []) (pos 1)) (store_at (form (pos 1 ∷ pos 0 ∷ []) (pos 0)) ∷ [])
 
 -- a store at address 40 of 40 words
 held-store : failure row (pos 40) [] (instance 0 (pos 40 ∷ [])) ≡ Some (why.Outside 1 (pos 40))

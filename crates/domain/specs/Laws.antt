@@ -1,9 +1,10 @@
 -- What holds of predicted instances.
-use Rattle.std.specs.Prelude.{◌≡◌, ◌⊎◌, ◌≤◌, ◌-◌, ℕ, ℤ, pos, ◌≤ℤ◌, List}
+use Rattle.std.specs.Prelude.{◌≡◌, ◌⊎◌, ◌≤◌, ◌-◌, ℕ, ℤ, pos, ◌≤ℤ◌, ◌<ℤ◌, ◌+ℤ◌, List}
 use Rattle.nest_lang.specs.declared.tree.Part.TheVariants.{Head}
 use Rattle.domain.specs.declared.chunk.Chunk.{Chunk}
 use Rattle.domain.specs.Tables.{Table, IsTable, trip}
-use Rattle.domain.specs.Instances.{Instance, block_of, counter, IsInstance, Predicted, Precedes, IsOriginal}
+use Rattle.domain.specs.Instances.{Instance, block_of, counter, place, IsInstance, Predicted, Precedes, IsOriginal}
+use Rattle.domain.specs.Footprints.{Writes}
 use Rattle.domain.specs.Launches.{IsLaunched}
 
 -- original order is a strict total order of the instances of present blocks
@@ -25,3 +26,22 @@ LaunchedTrips =
     (D : ℕ) (t : Table) (words : ℤ) (chunk : Chunk) (instances : ℕ) → IsTable D t → IsLaunched t words chunk instances
     → (x : Instance) → Predicted t chunk x → (block_of t x).part ≡ Head → 2 ≤ (block_of t x).level → counter x.at ((block_of t x).level - 1) ≡ pos 0
     → pos 0 ≤ℤ trip t ((block_of t x).level - 1) x.at
+
+-- where a chunk of at least one turn, from a turn that isn't negative, is launched, the counters of its instances are near
+-- its first turn
+abbrev pub LaunchedCounters : Type 0
+LaunchedCounters =
+    (D : ℕ) (t : Table) (words : ℤ) (chunk : Chunk) (instances : ℕ) → IsTable D t → pos 0 ≤ℤ chunk.first → pos 1 ≤ℤ chunk.turns → IsLaunched t words chunk instances
+    → (x : Instance) → Predicted t chunk x → (k : ℕ) → (pos 0 ≤ℤ counter x.at k) × (counter x.at k <ℤ (chunk.first +ℤ pos 65536))
+
+-- and so are the numbers of their padded points
+abbrev pub LaunchedPlaces : Type 0
+LaunchedPlaces =
+    (D : ℕ) (t : Table) (words : ℤ) (chunk : Chunk) (instances : ℕ) → IsTable D t → pos 0 ≤ℤ chunk.first → pos 1 ≤ℤ chunk.turns → IsLaunched t words chunk instances
+    → (x : Instance) → Predicted t chunk x → (k : ℕ) → (pos 0 ≤ℤ place t (block_of t x) x.at k) × (place t (block_of t x) x.at k ≤ℤ (chunk.first +ℤ pos 65536))
+
+-- where a chunk is launched, each address that its instances write is a word
+abbrev pub LaunchedWords : Type 0
+LaunchedWords =
+    (t : Table) (words : ℤ) (chunk : Chunk) (instances : ℕ) → IsLaunched t words chunk instances
+    → (x : Instance) → Predicted t chunk x → (address : ℤ) → Writes t x address → (pos 0 ≤ℤ address) × (address <ℤ words)

@@ -17,7 +17,7 @@ fn is_i64(number: i128) -> bool
 }
 
 /// The value of a form, which is far from the ends of an i128.
-fn value<const D: usize>(form: &Form<D>, at: &[i64; D]) -> i128
+pub fn value<const D: usize>(form: &Form<D>, at: &[i64; D]) -> i128
     requires few { D < 7 }
     requires near { AllWithinSize (2 ^ 33) at.now }
     ensures value { result ≡ value_at form.now at.now }
@@ -107,7 +107,7 @@ fn line_failure<const D: usize>(
 }
 
 /// A sum.
-fn plus(number: i128, more: i64) -> i128
+pub fn plus(number: i128, more: i64) -> i128
     requires { unsigned_abs number < 2 ^ 77 }
     ensures { result ≡ number +ℤ more }
 {

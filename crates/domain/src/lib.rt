@@ -21,6 +21,7 @@ mod padding;
 mod prediction;
 mod steps;
 mod table;
+mod touched;
 mod walk;
 
 pub use chunk::Chunk;
@@ -31,6 +32,7 @@ pub use order::successor;
 pub use padding::padded;
 pub use prediction::{Prediction, What, expected};
 pub use table::{AccessForm, BlockForms, LoopForms, LoopKind};
+pub use touched::{Touched, footprint};
 
 #[cfg(test)]
 mod tests;
