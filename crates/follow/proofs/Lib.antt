@@ -19,3 +19,4 @@ pub mod Accessing
 pub mod Lawful
 pub mod Reordering
 pub mod VerifyLaws
+pub mod Showing
