@@ -12,3 +12,4 @@ pub mod PlannedLaws
 pub mod Footprints
 pub mod ReorderLaws
 pub mod Intervals
+pub mod Hows

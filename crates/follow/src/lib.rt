@@ -14,9 +14,12 @@
 //! the order of a schedule and on several threads, rest on these laws.
 #![tactic(auto)]
 
+mod how;
+mod instance;
 pub mod laws;
 mod verify;
 
+pub use how::How;
 pub use verify::{Interval, VerifyingPort};
 
 #[cfg(test)]
