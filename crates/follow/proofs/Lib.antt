@@ -20,3 +20,5 @@ pub mod Lawful
 pub mod Reordering
 pub mod VerifyLaws
 pub mod Showing
+pub mod Comparing
+pub mod FollowedLaws

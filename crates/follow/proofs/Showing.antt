@@ -25,7 +25,7 @@ use Rattle.follow.specs.Plans.{frame_with}
 use Rattle.follow.proofs.Yields.{agree-append}
 
 module _ (p : Forecast) (at : Occurrence) (values : List ℤ) where
-  pub f : Frame
+  abbrev pub f : Frame
   f = frame_with at values (expectation_at p at)
 
   -- all agree but the last, which is an access that is not expected
@@ -130,7 +130,7 @@ module _ (p : Forecast) (at : Occurrence) (values : List ℤ) where
   fine-none v = refl
 
   fine-looked : (memory : List ℤ) (access : ℕ) (z : ℤ) → FineTold (shown f (Address access) z ∷ []) (or_stopped access (look true (p.interval at access) memory z))
-  unfolding look all_agree f
+  unfolding look all_agree
   fine-looked memory access z = by (lies_in (p.interval at access) z) refl
     where
       within : (r : Option ℤ) → lies_in (p.interval at access) z ≡ true → FineTold (record { at = at; what = Address access; value = z } ∷ []) (or_stopped access (word_or_outside z r))
@@ -157,7 +157,7 @@ module _ (p : Forecast) (at : Occurrence) (values : List ℤ) where
     levelled y = expression_level f scalars locals (look_load (expectation_at p at) memory) (map-Expr _ _ tell y)
 
     level-fine : (y : Expr-F ((e : Expr) × Tells e)) → FineTold (levelled (map-Expr _ _ (λ e. e.0) y)).seen (levelled (map-Expr _ _ (λ e. e.0) y)).value
-    unfolding Tells f
+    unfolding Tells
     level-fine (Expr-F.Number n) = fine-none n
     level-fine (Expr-F.Var place) = fine-none (place_value values scalars locals place)
     level-fine (Expr-F.Load access a) = fine-then_tell _ _ _ a.1 (λ z. fine-looked memory access z)
@@ -170,7 +170,7 @@ module _ (p : Forecast) (at : Occurrence) (values : List ℤ) where
         (subst (λ (r : Told). FineTold r.seen r.value) (sym (told-rolled (map-Expr _ _ (λ e. e.0) z))) (level-fine z)))
 
   told-fine : (s : Store) (e : Expr) → FineTold (told f s e).seen (told f s e).value
-  unfolding Tells f
+  unfolding Tells
   told-fine s e = tells s.scalars s.locals s.memory e
 
   -- statements
@@ -217,7 +217,7 @@ module _ (p : Forecast) (at : Occurrence) (values : List ℤ) where
       (λ both v. fine-stored (a.seen ++ e.seen) access address v (found address) both (each address)))
 
   statement_level-fine : (y : Stmt-F ((st : Stmt) × Runs_fine st)) (s : Store) → FineStep (statement_level f (map-Stmt _ _ (statement_trace f) (map-Stmt _ _ (λ e. e.0) y)) s)
-  unfolding Runs_fine f
+  unfolding Runs_fine
   statement_level-fine (Stmt-F.Let number e) s = fine-with_value _ _ _ (told-fine s e) (λ h v. fine-step _ _ None h)
   statement_level-fine (Stmt-F.Set number e) s = fine-with_value _ _ _ (told-fine s e) (λ h v. fine-step _ _ None h)
   statement_level-fine (Stmt-F.Store access a e) s = fine-store access _ _ (λ z. or_stopped access (look_store (expectation_at p at) s.memory access z)) (told-fine s a) (told-fine s e) (λ z. fine-looked s.memory access z)
@@ -278,7 +278,7 @@ module _ (p : Forecast) (at : Occurrence) (values : List ℤ) where
   fine-then_head seen (Ok z) go h each = head-front seen (go z).seen (go z).value h (each z)
 
   pub head-fine : (head : Head) (s : Store) → HeadFine (head_of f head s).seen (head_of f head s).value
-  unfolding head_of HeadFine all_agree f
+  unfolding head_of HeadFine all_agree
   head-fine (For lower upper stride) s =
       fine-then_head _ _ _ (told-fine s lower) (λ from. fine-then_head _ _ _ (told-fine s upper) (λ to. ([], refl, refl)))
   head-fine (While condition) s = fine-then_head _ _ _ (told-fine s condition) (λ v. ([], refl, refl))

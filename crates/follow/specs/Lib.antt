@@ -13,3 +13,5 @@ pub mod Footprints
 pub mod ReorderLaws
 pub mod Intervals
 pub mod Hows
+pub mod Turnings
+pub mod Followed

@@ -14,12 +14,14 @@
 //! the order of a schedule and on several threads, rest on these laws.
 #![tactic(auto)]
 
+mod head;
 mod how;
 mod instance;
 pub mod laws;
 mod verify;
 
 pub use how::How;
+pub use instance::{Expected, follow_block};
 pub use verify::{Interval, VerifyingPort};
 
 #[cfg(test)]
