@@ -28,13 +28,13 @@ use Rattle.follow.proofs.Yields.{agree-append}
 use Rattle.follow.proofs.Showing.{Fine, FineTrace, shows-cut, shows-all}
 
 module _ (p : Forecast) (next : Occurrence) where
-  abbrev run_by : List Observation → Finish → List ℤ → ChunkRun
+  abbrev pub run_by : List Observation → Finish → List ℤ → ChunkRun
   run_by os e scalars = record { observations = os ++ closing_at next e scalars; finish = e }
 
   agree-both : (xs ys : List Observation) → all_agree p xs ≡ true → all_agree p ys ≡ true → all_agree p (xs ++ ys) ≡ true
   agree-both xs ys h k = agree-append p xs ys ∙ ap₂ (λ (a b : Bool). a && b) h k
 
-  first-front : (xs ys : List Observation) (o : Observation) → all_agree p xs ≡ true → IsFirst p ys o → IsFirst p (xs ++ ys) o
+  pub first-front : (xs ys : List Observation) (o : Observation) → all_agree p xs ≡ true → IsFirst p ys o → IsFirst p (xs ++ ys) o
   first-front xs ys o h k =
       record { before = xs ++ k.before; after = k.after; are = ap (λ (os : List Observation). xs ++ os) k.are ∙ sym (append_assoc xs k.before (o ∷ k.after)); agree = agree-both xs k.before h k.agree; differs = k.differs }
 
@@ -52,7 +52,7 @@ module _ (p : Forecast) (next : Occurrence) where
       by true k rest = rest k
       by false k rest = absurd (cc)
 
-  abbrev Differ : List Observation → How → Type 0
+  abbrev pub Differ : List Observation → How → Type 0
   Differ os h = (o : Observation) × IsFirst p os o × (h ≡ how_seen p o)
 
   scalars-some : (n : ℕ) (vs : List ℤ) (h : How) → scalars_differ (p.scalars next) n vs ≡ Some h → Differ (from_number n vs) h
@@ -92,10 +92,10 @@ module _ (p : Forecast) (next : Occurrence) where
         by true e = all t.halt refl (grind (arith, nat_tests))
         by false e = shows-cut p at values t.entries t.halt left fine (grind (arith, nat_tests))
 
-    abbrev Deviates : ChunkRun → How → Type 0
+    abbrev pub Deviates : ChunkRun → How → Type 0
     Deviates run h = (d : Deviation) × IsDeviation p run d × (h ≡ how_of p d)
 
-    all-nil : (os : List Observation) → all_agree p os ≡ true → all_agree p (os ++ []) ≡ true
+    pub all-nil : (os : List Observation) → all_agree p os ≡ true → all_agree p (os ++ []) ≡ true
     all-nil os h = ap (all_agree p) (append-nil os) ∙ h
 
     -- a run that is cut short has a deviation

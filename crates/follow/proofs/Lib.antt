@@ -22,3 +22,4 @@ pub mod VerifyLaws
 pub mod Showing
 pub mod Comparing
 pub mod FollowedLaws
+pub mod HeadedLaws

@@ -260,25 +260,39 @@ module _ (p : Forecast) (at : Occurrence) (values : List ℤ) where
   shows-all (e ∷ g ∷ es) halt (suc n) h few =
       fine-front_or (e.before ++ e.seen) (seen_of (g ∷ es) n) halt (agree-both e.before e.seen h.0 h.1.0) (shows-all (g ∷ es) halt n (h.1.1, h.1.2) (omega (arith, few)))
 
-  -- heads
-  pub HeadFine : List Observation → Result Yield Halt → Type 0
-  HeadFine os (Err halt) = Fine os halt
-  HeadFine os (Ok (Bounds from trip)) = (front : List Observation) × (os ≡ front ++ record { at = at; what = Lower; value = from } ∷ record { at = at; what = Trip; value = pos trip } ∷ []) × (all_agree p front ≡ true)
-  HeadFine os (Ok (Tested holds)) = (front : List Observation) × (os ≡ front ++ record { at = at; what = Condition; value = as_number holds } ∷ []) × (all_agree p front ≡ true)
+  -- one entry
+  pub fine-one : (e : Entry) (halt : Option Halt) → all_agree p e.before ≡ true → FineOr e.seen halt → FineEntries (e ∷ []) halt
+  unfolding FineEntries FineRest
+  fine-one e halt h k = (h, k)
 
-  head-front : (xs ys : List Observation) (r : Result Yield Halt) → all_agree p xs ≡ true → HeadFine ys r → HeadFine (xs ++ ys) r
-  unfolding HeadFine
-  head-front xs ys (Err halt) h k = fine-front xs ys halt h k
-  head-front xs ys (Ok (Bounds from trip)) h k = (xs ++ k.0, ap (λ (os : List Observation). xs ++ os) k.1 ∙ sym (append_assoc xs k.0 _), agree-both xs k.0 h k.2)
-  head-front xs ys (Ok (Tested holds)) h k = (xs ++ k.0, ap (λ (os : List Observation). xs ++ os) k.1 ∙ sym (append_assoc xs k.0 _), agree-both xs k.0 h k.2)
+  -- heads: what they show for their operands agrees
+  abbrev BoundsShown : List Observation → ℤ → ℕ → Type 0
+  BoundsShown os from count =
+      (front : List Observation) × (os ≡ front ++ record { at = at; what = Lower; value = from } ∷ record { at = at; what = Trip; value = pos count } ∷ []) × (all_agree p front ≡ true)
 
-  fine-then_head : (seen : List Observation) (v : Result ℤ Halt) (go : ℤ → Headed) → FineTold seen v → ((z : ℤ) → HeadFine (go z).seen (go z).value) → HeadFine (then_head seen v go).seen (then_head seen v go).value
-  unfolding HeadFine
-  fine-then_head seen (Err halt) go h each = h
-  fine-then_head seen (Ok z) go h each = head-front seen (go z).seen (go z).value h (each z)
+  abbrev ConditionShown : List Observation → Bool → Type 0
+  ConditionShown os holds = (front : List Observation) × (os ≡ front ++ record { at = at; what = Condition; value = as_number holds } ∷ []) × (all_agree p front ≡ true)
 
-  pub head-fine : (head : Head) (s : Store) → HeadFine (head_of f head s).seen (head_of f head s).value
-  unfolding head_of HeadFine all_agree
+  abbrev pub HeadFine : Head → List Observation → Result Yield Halt → Type 0
+  HeadFine head os (Err halt) = Fine os halt
+  HeadFine (For lower upper stride) os (Ok (Bounds from count)) = BoundsShown os from count
+  HeadFine (For lower upper stride) os (Ok (Tested holds)) = ⊥
+  HeadFine (While condition) os (Ok (Bounds from count)) = ⊥
+  HeadFine (While condition) os (Ok (Tested holds)) = ConditionShown os holds
+
+  head-front : (head : Head) (xs ys : List Observation) (r : Result Yield Halt) → all_agree p xs ≡ true → HeadFine head ys r → HeadFine head (xs ++ ys) r
+  head-front head xs ys (Err halt) h k = fine-front xs ys halt h k
+  head-front (For lower upper stride) xs ys (Ok (Bounds from count)) h k = (xs ++ k.0, ap (λ (os : List Observation). xs ++ os) k.1 ∙ sym (append_assoc xs k.0 _), agree-both xs k.0 h k.2)
+  head-front (For lower upper stride) xs ys (Ok (Tested holds)) h k = k
+  head-front (While condition) xs ys (Ok (Bounds from count)) h k = k
+  head-front (While condition) xs ys (Ok (Tested holds)) h k = (xs ++ k.0, ap (λ (os : List Observation). xs ++ os) k.1 ∙ sym (append_assoc xs k.0 _), agree-both xs k.0 h k.2)
+
+  fine-then_head : (head : Head) (seen : List Observation) (v : Result ℤ Halt) (go : ℤ → Headed) → FineTold seen v → ((z : ℤ) → HeadFine head (go z).seen (go z).value) → HeadFine head (then_head seen v go).seen (then_head seen v go).value
+  fine-then_head head seen (Err halt) go h each = h
+  fine-then_head head seen (Ok z) go h each = head-front head seen (go z).seen (go z).value h (each z)
+
+  pub head-fine : (head : Head) (s : Store) → HeadFine head (head_of f head s).seen (head_of f head s).value
+  unfolding head_of all_agree
   head-fine (For lower upper stride) s =
-      fine-then_head _ _ _ (told-fine s lower) (λ from. fine-then_head _ _ _ (told-fine s upper) (λ to. ([], refl, refl)))
-  head-fine (While condition) s = fine-then_head _ _ _ (told-fine s condition) (λ v. ([], refl, refl))
+      fine-then_head (For lower upper stride) _ _ _ (told-fine s lower) (λ from. fine-then_head (For lower upper stride) _ _ _ (told-fine s upper) (λ to. ([], refl, refl)))
+  head-fine (While condition) s = fine-then_head (While condition) _ _ _ (told-fine s condition) (λ v. ([], refl, refl))

@@ -9,20 +9,17 @@ ghost use Rattle.block_exec.specs.Halts.{yield_where_left};
 ghost use Rattle.block_exec.specs.Moments.{Evaluated, where_left};
 ghost use Rattle.block_exec.specs.Runs.{Kept, outside};
 ghost use Rattle.block_exec.specs.Sites.{frame_at};
+ghost use Rattle.follow.specs.Forecasts.{Forecast, expectation_at};
+ghost use Rattle.follow.specs.Followed.{Foretold, IsFollowed, occurrence_at};
 ghost use Rattle.follow.specs.Intervals.{verified_by};
-ghost use Rattle.follow.specs.Turnings.{yield_by};
+ghost use Rattle.follow.specs.Plans.{work_trace, Evaluates};
+ghost use Rattle.follow.specs.Turnings.{yield_by, IsTurning};
 
+use crate::how::{How, Turning, Turns};
+use crate::instance::Expected;
 use crate::verify::{Interval, VerifyingPort};
 use block_exec::{Blind, Cut, Halt, Port, Run, Site, Watch};
 use nest_lang::{Budget, Head};
-
-/// What a head yields: the lower bound and the number of turns of a `for`, or whether the condition of a `while`
-/// holds.
-#[derive(Clone, Copy, Debug, PartialEq, Eq)]
-pub(crate) enum Turns {
-    Bounds(i64, u64),
-    Holds(bool),
-}
 
 /// What a head yielded or why it did not, and the steps.
 #[derive(Clone, Copy, Debug)]
@@ -115,4 +112,42 @@ fn head_verified<P: Port>(
 {
     let mut verified = VerifyingPort::new(port, intervals);
     head_over(site, head, scalars, &mut verified, left)
+}
+
+/// Evaluates an instance of a head with these scalars, and compares it with what is expected of it: each address
+/// before the port is asked, the lower bound and the trip of a `for` or the condition of a `while`, and then each
+/// scalar. It gives the steps, which are at most those left, or how it differs first. The steps left are at most
+/// 2^32, there are at most 256 scalars, and a stride is not 0.
+pub fn follow_head<P: Port>(
+    site: &Site<'_>,
+    head: &Head,
+    expected: &Expected<'_>,
+    turning: Turning,
+    scalars: &mut [i64],
+    port: &mut P,
+    left: u64,
+) -> Result<u64, How>
+    requires steps { left ≤ 2 ^ 32 }
+    requires scalars { length scalars.old ≤ 256 }
+    requires strides { strides head.now ≡ true }
+    requires plain { (P.expects port.old).verifies ≡ false }
+    ensures followed { (p : Forecast) (next : Occurrence) → Foretold p (occurrence_at site.now) next scalars.old expected.now.intervals.now expected.now.after.now → IsTurning p (occurrence_at site.now) head.now turning
+        → IsFollowed p next (work_trace (frame_at site.now (expectation_at p (occurrence_at site.now))) (Evaluates head.now) (store_of (P.memory port.old) scalars.old [])) (store_of (P.memory port.old) scalars.old []) left result (P.memory port.new) }
+    ensures memory { P.memory port.new ≡ P.memory port.old }
+    ensures scalars { scalars.new ≡ scalars.old }
+    ensures expects { P.expects port.new ≡ P.expects port.old }
+    ensures basis { P.basis port.new ≡ P.basis port.old }
+{
+    let ended = head_verified(site, head, expected.intervals, scalars, port, left);
+    let yielded = match ended.yielded {
+        Ok(yielded) => yielded,
+        Err(cut) => return Err(How::of_cut(cut, ended.halt)),
+    };
+    if let Some(how) = How::of_turns(site.block.level, turning, yielded) {
+        return Err(how);
+    }
+    if let Some(how) = How::of_scalars(expected.after, scalars) {
+        return Err(how);
+    }
+    Ok(ended.steps.used)
 }

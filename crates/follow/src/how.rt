@@ -3,6 +3,7 @@
 ghost use Rattle.std.specs.Prelude.{◌≡◌, ◌≤◌, Err, length};
 ghost use Rattle.block_exec.specs.Halts.{finish_of};
 ghost use Rattle.follow.specs.Hows.{how_of_finish, scalars_differ};
+ghost use Rattle.follow.specs.Turnings.{turns_differ};
 
 use block_exec::{Cut, Halt};
 use nest_lang::Trap;
@@ -30,7 +31,49 @@ pub enum How {
     Limit,
 }
 
+/// What is expected of a head: the lower bound and the trip of a `for`, or whether the condition of a `while` holds.
+#[derive(Clone, Copy, Debug, PartialEq, Eq)]
+pub enum Turning {
+    Bounds(i128, i128),
+    Holds(bool),
+}
+
+/// What a head yields: the lower bound and the number of turns of a `for`, or whether the condition of a `while`
+/// holds.
+#[derive(Clone, Copy, Debug, PartialEq, Eq)]
+pub(crate) enum Turns {
+    Bounds(i64, u64),
+    Holds(bool),
+}
+
 impl How {
+    /// How what a head yields differs first, at that level.
+    pub(crate) fn of_turns(level: u8, expected: Turning, yielded: Turns) -> Option<How>
+        ensures { result ≡ turns_differ level expected yielded }
+    {
+        match (expected, yielded) {
+            (Turning::Bounds(lower, trip), Turns::Bounds(from, count)) => {
+                if i128::from(from) != lower {
+                    Some(How::Lower(lower, from))
+                } else if i128::from(count) != trip {
+                    Some(How::Trip(trip, count))
+                } else {
+                    None
+                }
+            }
+            (Turning::Holds(wanted), Turns::Holds(holds)) => {
+                if wanted == holds {
+                    None
+                } else if level <= 1 {
+                    Some(How::Ended)
+                } else {
+                    Some(How::Condition(wanted, holds))
+                }
+            }
+            _ => None,
+        }
+    }
+
     /// How a run differs that was cut short.
     pub(crate) fn of_cut(cut: Cut, halt: Halt) -> How
         ensures { result ≡ how_of_finish (finish_of (Err cut) halt) }

@@ -20,7 +20,8 @@ mod instance;
 pub mod laws;
 mod verify;
 
-pub use how::How;
+pub use head::follow_head;
+pub use how::{How, Turning};
 pub use instance::{Expected, follow_block};
 pub use verify::{Interval, VerifyingPort};
 
