@@ -168,8 +168,7 @@ module _ (p : Forecast) (next : Occurrence) where
         let follows : FollowsPrediction p (run_by os c.ending c.store.scalars) = subst (λ (e : Finish). FollowsPrediction p (run_by os e c.store.scalars)) (sym done) (all, refl) in
         let expected : same_all c.store.scalars (p.scalars next) ≡ true = sym (scalars-agree p (frame_with next [] plain) [] (p.scalars next) c.store.scalars 0 refl refl sizes) ∙ closing in
         let there : went (all_agree p os) c ≡ Some (record { memory = c.store.memory; scalars = c.store.scalars; steps = c.left }) = ap₂ (λ (a b : Bool). if a && b then Some (record { memory = c.store.memory; scalars = c.store.scalars; steps = c.left }) else None) agree (ap is_done done) in
-        let leads : went (all_agree p os) (cut t s left 0) ≡ enough left (reach p t s) = went-reach p t.entries t.halt s left 0 in
-        (
+        let leads : went (all_agree p os) (cut t s left 0) ≡ enough left (reach p t s) = went-reach p t.entries t.halt s left 0 in (
           subst (λ (z : Cut). FollowsPrediction p (run_by os z.ending z.store.scalars)) is follows,
           led (reach p t s) left u (record { memory = c.store.memory; scalars = c.store.scalars; steps = c.left }) (sym there ∙ ap (λ (z : Cut). went (all_agree p os) z) is ∙ leads) sum expected,
         )

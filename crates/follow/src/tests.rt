@@ -90,7 +90,13 @@ fn followed(
 }
 
 /// Follows an instance of the head of a loop of that level over the words 9, 2, with the scalars 5 and 6.
-fn evaluated(head: &Head, level: u8, turning: Turning, after: [i128; 2], left: u64) -> Result<u64, How>
+fn evaluated(
+    head: &Head,
+    level: u8,
+    turning: Turning,
+    after: [i128; 2],
+    left: u64,
+) -> Result<u64, How>
     requires left { left ≤ 2 ^ 32 }
     requires strides { strides head.now ≡ true }
 {
