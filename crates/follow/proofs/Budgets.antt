@@ -43,14 +43,14 @@ enough-one n o =
 enough-none : (o : Option Reached) → enough 0 (plus 1 o) ≡ None
 enough-none o = enough-plus 0 1 o
 
-abbrev state_in : Store → ℕ → State
+abbrev pub state_in : Store → ℕ → State
 state_in s left = record { memory = s.memory; scalars = s.scalars; steps = left }
 
-abbrev went : Bool → Cut → Option State
+abbrev pub went : Bool → Cut → Option State
 went b c = if b && is_done c.ending then Some (state_in c.store c.left) else None
 
 module _ (p : Forecast) where
-  went-reach : (es : List Entry) (halt : Option Halt) (s : Store) (left used : ℕ) → went (all_agree p (seen_of es left)) (cut (trace_of es halt) s left used) ≡ enough left (reach_by p es halt s)
+  pub went-reach : (es : List Entry) (halt : Option Halt) (s : Store) (left used : ℕ) → went (all_agree p (seen_of es left)) (cut (trace_of es halt) s left used) ≡ enough left (reach_by p es halt s)
   unfolding all_agree
   went-reach [] None s left used = rw cut-end (enough-here s left)
   went-reach [] (Some halt) s left used = rw cut-end refl

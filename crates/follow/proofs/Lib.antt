@@ -19,3 +19,7 @@ pub mod Accessing
 pub mod Lawful
 pub mod Reordering
 pub mod VerifyLaws
+pub mod Showing
+pub mod Comparing
+pub mod FollowedLaws
+pub mod HeadedLaws

@@ -12,3 +12,6 @@ pub mod PlannedLaws
 pub mod Footprints
 pub mod ReorderLaws
 pub mod Intervals
+pub mod Hows
+pub mod Turnings
+pub mod Followed

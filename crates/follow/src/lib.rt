@@ -10,13 +10,20 @@
 //! verified, and on `orders`, which has the laws of reordering for whatever runs on words. Its laws say
 //! which lists have one follow run, and that a chunk has no deviation exactly where its instances, one
 //! after another, follow from its first scalars within its steps. `VerifyingPort` refuses each address that
-//! is not expected of an instance before the port below is asked. The layers above, which run instances in
-//! the order of a schedule and on several threads, rest on these laws.
+//! is not expected of an instance before the port below is asked; `follow_block` and `follow_head` run one
+//! instance over it and say exactly whether it follows its prediction, and else how not. The layers above,
+//! which run instances in the order of a schedule and on several threads, rest on these laws and calls.
 #![tactic(auto)]
 
+mod head;
+mod how;
+mod instance;
 pub mod laws;
 mod verify;
 
+pub use head::follow_head;
+pub use how::{How, Turning};
+pub use instance::{Expected, follow_block};
 pub use verify::{Interval, VerifyingPort};
 
 #[cfg(test)]

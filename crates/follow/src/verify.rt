@@ -2,7 +2,7 @@
 
 ghost use Rattle.std.specs.Prelude.{◌≡◌, ◌+ℤ◌, int_le, false, Some, None, if◌then◌else◌};
 ghost use Rattle.std.specs.Borrow.{GName};
-ghost use Rattle.nest_lang.specs.Lookups.{lies_in, line_of};
+ghost use Rattle.nest_lang.specs.Lookups.{Expectation, lies_in, line_of};
 ghost use Rattle.follow.specs.Intervals.{interval_by, interval_of, verified_by};
 
 use block_exec::{Port, Stop};
@@ -37,13 +37,13 @@ impl<'p, 'e, P: Port> VerifyingPort<'p, 'e, P> {
 }
 
 impl<P: Port> Port for VerifyingPort<'_, '_, P> {
-    ghost Basis = { P.Basis × GName };
+    ghost Basis = { P.Basis × Expectation × GName };
 
     ghost memory = { λ p. P.memory p.port.now };
 
     ghost expects = { λ p. verified_by p.expected.now };
 
-    ghost basis = { λ p. (P.basis p.port.now, p.port.ghost_name) };
+    ghost basis = { λ p. (P.basis p.port.now, P.expects p.port.now, p.port.ghost_name) };
 
     #[tactic(auto, using(crate::proofs::VerifyLaws::verifying))]
     fn load(&mut self, access: u8, address: i64) -> Result<i64, Stop> {
