@@ -4,5 +4,6 @@ pub mod Footprints
 pub mod Instances
 pub mod Launches
 pub mod Laws
+pub mod Shapes
 pub mod Steps
 pub mod Tables

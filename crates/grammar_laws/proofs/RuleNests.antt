@@ -1,5 +1,5 @@
 -- Rules: every nest of a file keeps the rules, with each of its blocks.
-use Rattle.std.proofs.Common.{◌≡◌, subst, ℕ, zero, suc, ◌+◌, ◌-◌, ◌<◌, ◌^◌, List, [], ◌∷◌, slice_get, arith, Option, Some, true}
+use Rattle.std.proofs.Common.{◌≡◌, refl, sym, subst, ℕ, zero, suc, ◌+◌, ◌-◌, ◌<◌, ◌^◌, List, [], ◌∷◌, slice_get, length, arith, Option, Some, true}
 use Rattle.std.specs.List.{All}
 use Rattle.std.proofs.lemmas.List.Elements.{All-nil, All-push}
 use Rattle.nest_lang.specs.declared.tree.Stmt.{Stmt}
@@ -79,11 +79,31 @@ levels-each scalars ls each (suc k) l e =
     let from : suc (0 + k) ≡ suc k = omega arith in
     subst (λ (n : ℕ). LoopKeeps scalars n l) from (each k l e)
 
+-- the innermost loop has no block behind
+abbrev Innermost : List Loop → Type 0
+Innermost ls = (l : Loop) → loop_at ls (length ls) ≡ Some l → l.post ≡ []
+
+innermost-cons : (m : Loop) (ls : List Loop) → 0 < length ls → Innermost ls → Innermost (m ∷ ls)
+innermost-cons m [] some inner = absurd (omega (arith, some))
+innermost-cons m (k ∷ ls) some inner = λ l e. inner l e
+
+innermost-alone : (m : Loop) → m.post ≡ [] → Innermost (m ∷ [])
+innermost-alone m none = λ l e. let is : m ≡ l = cc in rw (sym is, none)
+
+loops-some : {d level : ℕ} {names : Names} {s t : Sight} {ls : List Loop} {ns : List LoopNames} → IsLoops d level names s ls ns t → 0 < length ls
+loops-some (grammar.innermost i o b p c) = omega arith
+loops-some (grammar.outer i o b l q c) = omega arith
+
+loops-innermost : {d level : ℕ} {names : Names} {s t : Sight} {ls : List Loop} {ns : List LoopNames} → IsLoops d level names s ls ns t → Innermost ls
+loops-innermost (grammar.innermost {d} {level} {names} {h} {n} {pre} i o b p c) = innermost-alone (record { head = h; pre = pre; post = [] }) refl
+loops-innermost (grammar.outer {d} {level} {names} {h} {n} {pre} {post} {ls = ls} i o b l q c) =
+    innermost-cons (record { head = h; pre = pre; post = post }) ls (loops-some l) (loops-innermost l)
+
 abbrev pub UnitKeeps : ℕ → NestUnit → Type 0
 UnitKeeps scalars u = NestKeeps scalars u.nest.loops
 
 unit-keeps : {scalars : ℕ} {v : Version} {names : Names} {s t : Sight} {u : NestUnit} → AreWithin scalars 0 names → Short s → loops_keep u.nest.loops ≡ true → IsUnit v names s u t → UnitKeeps scalars u
-unit-keeps {scalars} all short keep (grammar.unit {ls = ls} i j) = record { loops_keep = keep; each = levels-each scalars ls (levels-keep all short i) }
+unit-keeps {scalars} all short keep (grammar.unit {ls = ls} i j) = record { loops_keep = keep; innermost = loops-innermost i; each = levels-each scalars ls (levels-keep all short i) }
 
 -- where the loops of each unit keep the rules
 pub units-keep_blocks : {scalars : ℕ} {names : Names} {v : Version} {s t : Sight} {us : List NestUnit} → AreWithin scalars 0 names → Short s

@@ -1,5 +1,5 @@
 -- The examples of blocks, by computing.
-use Rattle.std.proofs.Common.{◌≡◌, refl, sym, subst, ℕ, zero, suc, ◌<◌, ◌-◌, ◌^◌, pos, List, [], ◌∷◌, Some, arith}
+use Rattle.std.proofs.Common.{◌≡◌, refl, sym, subst, ℕ, zero, suc, ◌<◌, ◌-◌, ◌^◌, pos, List, [], ◌∷◌, Some, length, arith}
 use Rattle.std.specs.List.{All}
 use Rattle.std.proofs.lemmas.List.Elements.{All-nil, All-cons}
 use Rattle.nest_lang.specs.declared.tree.Access.{Access}
@@ -65,6 +65,9 @@ guarded-each (suc zero) l e = guarded-outer l (cc)
 guarded-each (suc (suc zero)) l e = guarded-inner l (cc)
 guarded-each (suc (suc (suc n))) l e = absurd (cc)
 
+guarded-innermost : (l : Loop) → loop_at guarded (length guarded) ≡ Some l → l.post ≡ []
+guarded-innermost l e = cc
+
 pub blocks-computed : BlockExamples
 unfolding present_blocks loops_keep
 blocks-computed = record {
@@ -74,5 +77,5 @@ blocks-computed = record {
   while_head = refl;
   for_head = refl;
   body = refl;
-  keeps = record { loops_keep = refl; each = guarded-each };
+  keeps = record { loops_keep = refl; innermost = guarded-innermost; each = guarded-each };
 }

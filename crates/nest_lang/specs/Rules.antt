@@ -60,7 +60,9 @@ pub record LoopKeeps (scalars level : ℕ) (l : Loop) : Type 0 where
   pub pre : BlockKeeps scalars level l.pre
   pub post : BlockKeeps scalars level l.post
 
--- a nest of a file with so many scalars keeps the rules where its loops do, with each of their blocks
+-- a nest of a file with so many scalars keeps the rules where its loops do, with each of their blocks; all statements of
+-- the innermost loop stand before a loop that isn't there
 pub record NestKeeps (scalars : ℕ) (loops : List Loop) : Type 0 where
   pub loops_keep : loops_keep loops ≡ true
+  pub innermost : (l : Loop) → loop_at loops (length loops) ≡ Some l → l.post ≡ []
   pub each : (level : ℕ) (l : Loop) → loop_at loops level ≡ Some l → LoopKeeps scalars level l
