@@ -1,7 +1,7 @@
 use Rattle.std.proofs.Common.{◌≡◌, ◌+ℤ◌, pos, ◌*ℤ◌, FitsSigned, w64, to_z, of_z, ℤ, arith, rules}
 use Rattle.std.specs.Int.{w128}
 use Rattle.std.proofs.lemmas.Int.{ints, to_z-of_z}
-use Rattle.block_exec.proofs.head.value_of_turn.Goals as goal
+use Rattle.nest_lang.proofs.value.value_of_turn.Goals as goal
 
 value-of : (lower z : ℤ) → FitsSigned w64 lower → FitsSigned w64 (lower +ℤ z) → to_z w64 (of_z w64 (to_z w128 (of_z w128 (to_z w128 (of_z w128 lower) +ℤ to_z w128 (of_z w128 z))))) ≡ lower +ℤ z
 value-of lower z l f = omega (arith, ints)
