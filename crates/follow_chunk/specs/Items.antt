@@ -1,0 +1,30 @@
+-- Items: the instances of a table with what they run.
+use Rattle.std.specs.Prelude.{ℤ, pos, List, [], map, unwrap_or}
+use Rattle.nest_lang.specs.declared.tree.Expr.TheVariants.{Number}
+use Rattle.nest_lang.specs.declared.tree.Head.TheVariants.{While}
+use Rattle.nest_lang.specs.declared.tree.Loop.{Loop}
+use Rattle.nest_lang.specs.declared.state.Outer.{Outer}
+use Rattle.nest_lang.specs.Traces.{Occurrence}
+use Rattle.domain.specs.Tables.{Table}
+use Rattle.domain.specs.Instances.{Instance}
+use Rattle.domain.specs.Steps.{next}
+use Rattle.follow.specs.Plans.{Item, Evaluates}
+use Rattle.follow.specs.Instances.{item_of}
+use Rattle.follow_chunk.specs.Predicted.{occurrence_of, instance_of, scalars_at, forecast_of}
+
+-- what stands for an occurrence of a block that the nest hasn't got
+abbrev pub idle : Occurrence → Item
+idle at = record { at = at; values = []; work = Evaluates (While (Number (pos 0))) }
+
+-- an instance with what it runs: the values of the names of the loops around it, of the outermost one from the lower
+-- bound of the position and of the others from the expected ones, and its statements or its head
+unfoldable pub item_at : Table → List Loop → Outer → Instance → Item
+item_at t loops o x = unwrap_or (item_of (forecast_of t) o loops (occurrence_of t x)) (idle (occurrence_of t x))
+
+-- a list of instances with what they run
+abbrev pub items_at : Table → List Loop → Outer → List Instance → List Item
+items_at t loops o xs = map (item_at t loops o) xs
+
+-- the scalars expected after an instance: those that its successor begins with
+abbrev pub scalars_after : Table → Item → List ℤ
+scalars_after t i = scalars_at t (next t (instance_of t i.at))
