@@ -1,0 +1,5 @@
+pub mod Points
+pub mod Standing
+pub mod Walking
+pub mod Under
+pub mod Predicting

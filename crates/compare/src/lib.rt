@@ -1,0 +1,4 @@
+//! Predictions against plain runs.
+#![tactic(auto)]
+
+pub mod laws;
