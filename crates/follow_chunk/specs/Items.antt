@@ -1,15 +1,17 @@
 -- Items: the instances of a table with what they run.
-use Rattle.std.specs.Prelude.{ℤ, pos, List, [], map, unwrap_or}
+use Rattle.std.specs.Prelude.{ℕ, ◌+◌, ℤ, pos, List, [], ◌∷◌, map, unwrap_or}
 use Rattle.nest_lang.specs.declared.tree.Expr.TheVariants.{Number}
 use Rattle.nest_lang.specs.declared.tree.Head.TheVariants.{While}
 use Rattle.nest_lang.specs.declared.tree.Loop.{Loop}
 use Rattle.nest_lang.specs.declared.state.Outer.{Outer}
 use Rattle.nest_lang.specs.Traces.{Occurrence}
+use Rattle.nest_lang.specs.Loops.{Around, outside}
 use Rattle.domain.specs.Tables.{Table}
 use Rattle.domain.specs.Instances.{Instance}
 use Rattle.domain.specs.Steps.{next}
+use Rattle.follow.specs.Forecasts.{Forecast}
 use Rattle.follow.specs.Plans.{Item, Evaluates}
-use Rattle.follow.specs.Instances.{item_of}
+use Rattle.follow.specs.Instances.{into, item_of}
 use Rattle.follow_chunk.specs.Predicted.{occurrence_of, instance_of, scalars_at, forecast_of}
 
 -- what stands for an occurrence of a block that the nest hasn't got
@@ -28,3 +30,13 @@ items_at t loops o xs = map (item_at t loops o) xs
 -- the scalars expected after an instance: those that its successor begins with
 abbrev pub scalars_after : Table → Item → List ℤ
 scalars_after t i = scalars_at t (next t (instance_of t i.at))
+
+-- so many of the loops inside a level, each in the turn that a number says, with the values of their names
+abbrev pub inside_of : Forecast → Outer → ℕ → List Loop → Around → List ℤ → Around
+inside_of p o level [] a turns = a
+inside_of p o level (l ∷ ls) a [] = a
+inside_of p o level (l ∷ ls) a (t ∷ turns) = inside_of p o (level + 1) ls (into p o l.head level a t) turns
+
+-- where an instance of a nest runs, with these turn numbers
+unfoldable pub around_of : Table → List Loop → Outer → List ℤ → Around
+around_of t loops o turns = inside_of (forecast_of t) o 1 loops outside turns

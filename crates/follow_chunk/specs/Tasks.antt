@@ -5,15 +5,17 @@ use Rattle.nest_lang.specs.declared.state.Outer.{Outer}
 use Rattle.nest_lang.specs.Rules.{NestKeeps}
 use Rattle.nest_lang.specs.Turns.{IsPositionIn}
 use Rattle.domain.specs.declared.chunk.Chunk.{Chunk}
-use Rattle.domain.specs.Tables.{Table}
+use Rattle.domain.specs.Tables.{Table, IsTable}
 use Rattle.domain.specs.Shapes.{IsTableOf}
 use Rattle.domain.specs.Launches.{IsLaunched}
 use Rattle.follow.specs.ChunkRuns.{HasTurnsIn}
 
--- a chunk of a nest in a file with so many scalars, over so many words: the nest keeps the rules, the table is one of
--- it, the chunk has the next turns from the position of the outermost loop, which that loop has, and it is launched
-pub record IsTask (scalars : ℕ) (loops : List Loop) (t : Table) (o : Outer) (chunk : Chunk) (words : ℤ) : Type 0 where
+-- a chunk of a nest of D loops in a file with so many scalars, over so many words: the nest keeps the rules, the table
+-- is one of it, the chunk has the next turns from the position of the outermost loop, which that loop has, and it is
+-- launched
+pub record IsTask (D scalars : ℕ) (loops : List Loop) (t : Table) (o : Outer) (chunk : Chunk) (words : ℤ) : Type 0 where
   pub keeps : NestKeeps scalars loops
+  pub shape : IsTable D t
   pub table : IsTableOf scalars loops t
   pub position : IsPositionIn loops o
   pub first : chunk.first ≡ o.next
