@@ -3,3 +3,4 @@ pub mod Standing
 pub mod Walking
 pub mod Under
 pub mod Predicting
+pub mod PredictedChains

@@ -1,6 +1,6 @@
 -- The planned instances are the predicted ones, in original order, and what follows each is its successor.
-use Rattle.std.proofs.Common.{◌≡◌, refl, sym, ap, ap₂, subst, ◌∙◌, ℕ, zero, suc, ◌<◌, ◌≤◌, ◌+◌, ◌-◌, ℤ, pos, negsuc, ◌+ℤ◌, ◌≤ℤ◌, ◌<ℤ◌, unsigned_abs, List, [], ◌∷◌, ◌++◌, length, get_or, map, take, Option, Some, None, ◌⊎◌, inl, inr, ⊎_elim, Less, int_cmp, arith}
-use Rattle.std.specs.Prelude.{unwrap_or, Contains}
+use Rattle.std.proofs.Common.{◌≡◌, refl, sym, ap, ap₂, subst, ◌∙◌, ℕ, ◌≤◌, ◌+◌, ◌-◌, ℤ, pos, negsuc, ◌+ℤ◌, ◌≤ℤ◌, ◌<ℤ◌, unsigned_abs, Bool, true, false, List, [], ◌∷◌, length, get_or, map, take, Option, Some, ◌⊎◌, inl, inr, ⊎_elim, Less, int_cmp, arith}
+use Rattle.std.specs.Prelude.{unwrap_or, if◌then◌else◌}
 use Rattle.std.specs.List.{AllByRecursion}
 use Rattle.std.specs.Cmp.Lexicographic.{slice_cmp}
 use Rattle.std.proofs.lemmas.Cmp.{lists_total, int_cmp_total}
@@ -14,24 +14,31 @@ use Rattle.nest_lang.specs.declared.state.Outer.{Outer}
 use Rattle.nest_lang.specs.Traces.{Occurrence}
 use Rattle.nest_lang.specs.Blocks.{block_ref}
 use Rattle.domain.specs.declared.chunk.Chunk.{Chunk}
-use Rattle.domain.specs.Tables.{Table, block_at, depth, counters, counters_by, repeats, trip, IsTable}
-use Rattle.domain.specs.Tables as tables
+use Rattle.domain.specs.Tables.{Table, block_at, counters, counters_by, repeats, trip, IsTable}
 use Rattle.domain.specs.Shapes.{IsTableOf}
-use Rattle.domain.specs.Instances.{Instance, instance, block_of, counter, Predicted, Precedes, Ordered, original_key, opening_at, IsOriginal, IsSuccessor}
+use Rattle.domain.specs.Instances.{Instance, instance, counter, Predicted, Precedes, Ordered, original_key, opening_at, IsOriginal, IsSuccessor}
 use Rattle.domain.specs.Steps.{next}
 use Rattle.domain.proofs.OrderLaws.{one_list}
-use Rattle.domain.proofs.OriginalLaws.{not-back, not-itself, opening-turn, opening-last, opening-first, opening-is, opening-predicted, successor-law}
+use Rattle.domain.proofs.OriginalLaws.{not-back, not-itself, opening-turn, opening-last, opening-first, opening-predicted, successor-law}
 use Rattle.domain.proofs.RankLaws.{Stands}
 use Rattle.domain.proofs.WithinLaws.{counters-of, head-most}
+use Rattle.orders.specs.Orders as orders
+use Rattle.nest_lang.specs.Turns.{turns_later}
+use Rattle.follow.specs.Forecasts.{same_all}
 use Rattle.follow.specs.Plans.{planned, Item}
+use Rattle.follow.specs.OriginalOrder.{key}
+use Rattle.follow.specs.Successors.{next_scalars, first_scalars, closing_scalars, successor_scalars}
 use Rattle.follow.specs.Instances.{item_of}
-use Rattle.follow.proofs.Standing.{all-map}
+use Rattle.follow.proofs.Standing.{all-map, planned-in_order}
+use Rattle.follow.proofs.Having.{planned-some}
+use Rattle.follow.proofs.Chaining.{same_all-exact}
+use Rattle.follow.proofs.Closing.{same_all-self}
 use Rattle.follow.proofs.Finding.{planned-by_instance}
-use Rattle.follow_chunk.specs.Predicted.{padded_to as point, occurrence_of, instance_of, forecast_of}
-use Rattle.follow_chunk.specs.Items.{idle, item_at, items_at}
+use Rattle.follow_chunk.specs.Predicted.{padded_to as point, occurrence_of, instance_of, scalars_at, forecast_of}
+use Rattle.follow_chunk.specs.Items.{idle, item_at, items_at, scalars_after}
 use Rattle.compare.specs.Chunks.{IsNextChunk}
 use Rattle.compare.specs.PredictedLaws.{planned_in}
-use Rattle.compare.proofs.Points.{point-get, point-take, length-point}
+use Rattle.compare.proofs.Points.{point-get, point-take}
 use Rattle.compare.proofs.Standing.{rank-here}
 use Rattle.compare.proofs.Walking.{IsItem, Walks, planned-walk}
 use Rattle.compare.proofs.Under.{Sooner, planned-sooner}
@@ -77,7 +84,7 @@ module _ (D n : ℕ) (t : Table) (loops : List Loop) (is : IsTable D t) (of : Is
       (ap₂ (λ (k : ℕ) (cs : List ℤ). take k cs) (sym a.size) a.at ∙ point-take D i.at.counters (let m = counters-within i.at.block.part i.at.block.level x.block a.stands in let e = a.size in omega arith))
 
   -- the items are those of their instances
-  items-by : (items : List Item) (x y : Instance) → Goes x items y → AllByRecursion (λ i. At (instance_of t i.at) i) items
+  pub items-by : (items : List Item) (x y : Instance) → Goes x items y → AllByRecursion (λ i. At (instance_of t i.at) i) items
   items-by [] x y w = tt
   items-by (i ∷ items) x y w = (subst (λ (z : Instance). At z i) (sym (is-instance x i w.0)) w.0, items-by items (next t x) y w.1)
 
@@ -191,3 +198,130 @@ module _ (D n : ℕ) (t : Table) (loops : List Loop) (is : IsTable D t) (of : Is
     pub predicted-items : (xs : List Instance) → IsOriginal t chunk xs → planned_in t loops o chunk ≡ items_at t loops o xs
     predicted-items xs h =
         sym (items-planned o (unsigned_abs chunk.turns)) ∙ ap (items_at t loops o) (one_list D t chunk (Instances chunk Plan) xs is original h)
+
+    -- ---- predicted instances with their items
+
+    record Found (items : List Item) (x : Instance) : Type 0 where
+      found : Item
+      here : instance_of t found.at ≡ x
+      at : At x found
+      own : Own o found
+
+    find : (items : List Item) (x : Instance) → AllByRecursion (λ i. At (instance_of t i.at) i) items → AllByRecursion (Own o) items → Has (map (λ (i : Item). instance_of t i.at) items) x → Found items x
+    find [] x a own h = absurd h
+    find (i ∷ items) x a own (inl e) = record { found = i; here = sym e; at = subst (λ (z : Instance). At z i) (sym e) a.0; own = own.0 }
+    find (i ∷ items) x a own (inr h) = let f = find items x a.1 own.1 h in record { found = f.found; here = f.here; at = f.at; own = f.own }
+
+    found-in : (x : Instance) → Predicted t chunk x → Found Plan x
+    found-in x p =
+        find Plan x (items-by Plan (opening_at t chunk.first) (opening_at t (chunk.first +ℤ chunk.turns)) chunk-walk) (planned-by_instance (forecast_of t) loops o (unsigned_abs chunk.turns))
+        (plan-goods.all x p (opening-first D t is chunk x p))
+
+    found-item : (x : Instance) (f : Found Plan x) → item_at t loops o x ≡ f.found
+    found-item x f =
+        ap (item_at t loops o) (sym f.here) ∙ item-own o f.found (subst (λ (z : Instance). At z f.found) (sym f.here) f.at) f.own
+
+    pub occurs : (x : Instance) → Predicted t chunk x → (instance_of t (occurrence_of t x) ≡ x) × ((item_at t loops o x).at ≡ occurrence_of t x)
+    occurs x p =
+        let f = found-in x p in
+        let e = is-occurrence x f.found f.at in
+        (ap (instance_of t) e ∙ f.here, ap (λ (i : Item). i.at) (found-item x f) ∙ sym e)
+
+    -- ---- successors
+
+    -- there is one successor
+    pub successor-one : (x y : Instance) → Predicted t chunk x → IsSuccessor t chunk x y → y ≡ next t x
+    successor-one x y p s = by s.is r.is
+      where
+        r : IsSuccessor t chunk x (next t x)
+        r = successor-law D t is chunk x p
+
+        by : Predicted t chunk y ⊎ (y ≡ Last chunk) → Predicted t chunk (next t x) ⊎ (next t x ≡ Last chunk) → y ≡ next t x
+        by (inl a) (inl b) = ⊎_elim (λ e. e) (λ h. ⊎_elim (λ e. sym e) (λ k. absurd (not-back (original_key t y) (original_key t (next t x)) k h)) (s.next (next t x) b r.after)) (r.next y a s.after)
+        by (inl a) (inr e) =
+            ⊎_elim (λ f. f) (λ h. absurd (not-back (original_key t (next t x)) (original_key t y) h (subst (λ (z : Instance). Precedes t y z) (sym e) (opening-last D t is chunk y a)))) (r.next y a s.after)
+        by (inr e) (inl b) =
+            ⊎_elim (λ f. sym f) (λ h. absurd (not-back (original_key t y) (original_key t (next t x)) h (subst (λ (z : Instance). Precedes t (next t x) z) (sym e) (opening-last D t is chunk (next t x) b)))) (s.next (next t x) b r.after)
+        by (inr e) (inr f) = e ∙ sym f
+
+    -- the turn after the chunk
+    later : pos (unsigned_abs (turns_later o (unsigned_abs chunk.turns)).next) ≡ chunk.first +ℤ chunk.turns
+    later = at (o.next +ℤ pos (unsigned_abs chunk.turns)) whole
+      where
+        whole : o.next +ℤ pos (unsigned_abs chunk.turns) ≡ pos (unsigned_abs o.next + unsigned_abs chunk.turns)
+        whole = let e = start in let f = next_chunk.first in omega (arith, ints)
+
+        at : (z : ℤ) → z ≡ pos (unsigned_abs o.next + unsigned_abs chunk.turns) → pos (unsigned_abs z) ≡ chunk.first +ℤ chunk.turns
+        at (pos m) e = e ∙ end
+        at (negsuc m) e = absurd (omega (arith, ints))
+
+    pub next-opens : (i : Item) (items : List Item) → planned (forecast_of t) loops (turns_later o (unsigned_abs chunk.turns)) 1 ≡ i ∷ items
+        → (instance_of t i.at ≡ opening_at t (chunk.first +ℤ chunk.turns)) × (i.at ≡ occurrence_of t (opening_at t (chunk.first +ℤ chunk.turns)))
+    next-opens i items e =
+        let w = subst (λ (js : List Item). Goes (opening_at t (pos (unsigned_abs (turns_later o (unsigned_abs chunk.turns)).next))) js (opening_at t (pos (unsigned_abs (turns_later o (unsigned_abs chunk.turns)).next + 1)))) e
+        (walk (turns_later o (unsigned_abs chunk.turns)) 1) in
+        let a : At (opening_at t (chunk.first +ℤ chunk.turns)) i = subst (λ (z : ℤ). At (opening_at t z) i) later w.0 in
+        (is-instance (opening_at t (chunk.first +ℤ chunk.turns)) i a, sym (is-occurrence (opening_at t (chunk.first +ℤ chunk.turns)) i a))
+
+    abbrev k : Item → List ℤ
+    k = key (forecast_of t) (length loops)
+
+    abbrev Distinct : Item → Item → Type 0
+    Distinct x y = same_all (k x) (k y) ≡ false
+
+    all-both : (P Q R : Item → Type 0) (xs : List Item) → ((x : Item) → P x → Q x → R x) → AllByRecursion P xs → AllByRecursion Q xs → AllByRecursion R xs
+    all-both P Q R [] go h l = tt
+    all-both P Q R (x ∷ xs) go h l = (go x h.0 l.0, all-both P Q R xs go h.1 l.1)
+
+    distinct : (xs : List Item) → orders.Ordered (orders.Precedes (slice_cmp int_cmp) k) xs → orders.Ordered Distinct xs
+    distinct [] h = tt
+    distinct (x ∷ xs) h = (all-map (orders.Precedes (slice_cmp int_cmp) k x) (Distinct x) xs (λ y e. differ (k x) (k y) e) h.0, distinct xs h.1)
+      where
+        differ : (us vs : List ℤ) → slice_cmp int_cmp us vs ≡ Less → same_all us vs ≡ false
+        differ us vs e = at (same_all us vs) refl
+          where
+            at : (b : Bool) → same_all us vs ≡ b → same_all us vs ≡ false
+            at false f = f
+            at true f = absurd (not-itself us (subst (λ (zs : List ℤ). slice_cmp int_cmp us zs ≡ Less) (sym (same_all-exact us vs f)) e))
+
+    if-true : (b : Bool) (us vs : List ℤ) → b ≡ true → (if b then us else vs) ≡ us
+    if-true b us vs e = rw e refl
+
+    if-false : (b : Bool) (us vs : List ℤ) → b ≡ false → (if b then us else vs) ≡ vs
+    if-false b us vs e = rw e refl
+
+    -- what is expected after each instance of a walk
+    after-each : (closing : List ℤ) → closing ≡ scalars_at t (Last chunk) → (items : List Item) (x : Instance) → Goes x items (Last chunk) → orders.Ordered Distinct items
+        → AllByRecursion (λ i. next_scalars (forecast_of t) k items closing i ≡ scalars_after t i) items
+    after-each closing c [] x w d = tt
+    after-each closing c (i ∷ []) x w d = (c ∙ ap (scalars_at t) (sym w.1 ∙ ap (next t) (sym (is-instance x i w.0))), tt)
+    after-each closing c (i ∷ j ∷ items) x w d =
+        let e : instance_of t j.at ≡ next t (instance_of t i.at) = is-instance (next t x) j w.1.0 ∙ ap (next t) (sym (is-instance x i w.0)) in (
+          if-true (same_all (k i) (k i)) (scalars_at t (instance_of t j.at)) (next_scalars (forecast_of t) k (j ∷ items) closing i) (same_all-self (k i)) ∙ ap (scalars_at t) e,
+          all-both (Distinct i) (λ q. next_scalars (forecast_of t) k (j ∷ items) closing q ≡ scalars_after t q) (λ q. next_scalars (forecast_of t) k (i ∷ j ∷ items) closing q ≡ scalars_after t q) (j ∷ items)
+              (λ q f g. if-false (same_all (k i) (k q)) (scalars_at t (instance_of t j.at)) (next_scalars (forecast_of t) k (j ∷ items) closing q) f ∙ g) d.0
+              (after-each closing c (j ∷ items) (next t x) w.1 d.1),
+        )
+
+    closes : closing_scalars (forecast_of t) loops o (unsigned_abs chunk.turns) ≡ scalars_at t (Last chunk)
+    closes =
+        let (i, items, e) = planned-some (forecast_of t) loops (turns_later o (unsigned_abs chunk.turns)) 1 next_chunk.keeps (omega arith) in
+        ap (first_scalars (forecast_of t)) e ∙ ap (scalars_at t) (next-opens i items e).0
+
+    pub afters : AllByRecursion (λ i. successor_scalars (forecast_of t) loops o (unsigned_abs chunk.turns) i ≡ scalars_after t i) (planned_in t loops o chunk)
+    afters =
+        after-each (closing_scalars (forecast_of t) loops o (unsigned_abs chunk.turns)) closes Plan (opening_at t chunk.first) chunk-walk (distinct Plan (planned-in_order (forecast_of t) loops o (unsigned_abs chunk.turns)))
+
+    after-found : (P : Item → Type 0) (items : List Item) (x : Instance) → AllByRecursion P items → AllByRecursion (λ i. At (instance_of t i.at) i) items → AllByRecursion (Own o) items → Has (map (λ (i : Item). instance_of t i.at) items) x → P (item_at t loops o x)
+    after-found P [] x all a own h = absurd h
+    after-found P (i ∷ items) x all a own (inl e) = subst P (sym (item-own o i a.0 own.0) ∙ ap (item_at t loops o) (sym e)) all.0
+    after-found P (i ∷ items) x all a own (inr h) = after-found P items x all.1 a.1 own.1 h
+
+    pub successor-scalars : (x y : Instance) → Predicted t chunk x → IsSuccessor t chunk x y → successor_scalars (forecast_of t) loops o (unsigned_abs chunk.turns) (item_at t loops o x) ≡ scalars_at t y
+    successor-scalars x y p s =
+        let e = occurs x p in
+        after-found (λ i. successor_scalars (forecast_of t) loops o (unsigned_abs chunk.turns) i ≡ scalars_after t i) Plan x afters
+        (items-by Plan (opening_at t chunk.first) (opening_at t (chunk.first +ℤ chunk.turns)) chunk-walk) (planned-by_instance (forecast_of t) loops o (unsigned_abs chunk.turns))
+        (plan-goods.all x p (opening-first D t is chunk x p))
+        ∙ ap (λ (z : Instance). scalars_at t (next t z)) (ap (instance_of t) e.1 ∙ e.0)
+        ∙ ap (scalars_at t) (sym (successor-one x y p s))

@@ -1,13 +1,12 @@
 -- The blocks of a table that is a nest's: which stand there, and the kinds of its loops.
-use Rattle.std.proofs.Common.{◌≡◌, refl, sym, ap, ap₂, subst, ◌∙◌, ℕ, zero, suc, ◌<◌, ◌≤◌, ◌+◌, ◌-◌, Bool, true, false, List, [], ◌∷◌, map, length, get_or, slice_get, Option, Some, None, ◌⊎◌, inl, inr, ⊎_elim, arith}
-use Rattle.std.specs.Prelude.{option_map, ◌≢◌}
+use Rattle.std.proofs.Common.{◌≡◌, refl, sym, ap, ap₂, subst, ◌∙◌, ℕ, ◌<◌, List, map, length, get_or, slice_get, Option, Some, None, arith}
+use Rattle.std.specs.Prelude.{option_map}
 use Rattle.std.proofs.lemmas.Option.{slice_get_within, slice_get-get_or, slice_get-map}
 use Rattle.nest_lang.specs.declared.tree.Loop.{Loop}
-use Rattle.nest_lang.specs.declared.tree.Head.{Head}
 use Rattle.nest_lang.specs.declared.tree.Part.{Part}
-use Rattle.nest_lang.specs.declared.tree.Part.TheVariants.{Head as HeadPart, Pre, Post}
+use Rattle.nest_lang.specs.declared.tree.Part.TheVariants.{Pre}
 use Rattle.nest_lang.specs.declared.tree.BlockRef.{BlockRef}
-use Rattle.nest_lang.specs.Blocks.{present_blocks, block_ref, rank_of, loop_at}
+use Rattle.nest_lang.specs.Blocks.{present_blocks, block_ref, loop_at}
 use Rattle.nest_lang.specs.BlockLaws.{IsPresentPart}
 use Rattle.nest_lang.proofs.Ranks.{ranks-are_numbers, present_blocks-have_ranks}
 use Rattle.domain.specs.declared.table.LoopKind.{LoopKind}

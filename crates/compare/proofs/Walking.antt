@@ -1,9 +1,8 @@
 -- The planned instances are a walk of steps: each is the one after the one before it.
-use Rattle.std.proofs.Common.{◌≡◌, refl, sym, ap, ap₂, subst, ◌∙◌, ℕ, zero, suc, ◌<◌, ◌≤◌, ◌+◌, ◌-◌, ℤ, pos, negsuc, ◌+ℤ◌, ◌<ℤ◌, unsigned_abs, Bool, true, false, not, nat_lt, List, [], ◌∷◌, ◌++◌, length, get_or, set, slice_get, replicate, Option, Some, None, ◌⊎◌, inl, inr, ⊎_elim, arith}
+use Rattle.std.proofs.Common.{◌≡◌, refl, sym, ap, ap₂, subst, ◌∙◌, ℕ, zero, suc, ◌<◌, ◌≤◌, ◌+◌, ◌-◌, ℤ, pos, negsuc, ◌+ℤ◌, unsigned_abs, Bool, true, false, not, nat_lt, List, [], ◌∷◌, ◌++◌, length, set, slice_get, replicate, Option, Some, None, ◌⊎◌, inl, inr, arith}
 use Rattle.std.proofs.lemmas.List.{length-map}
 use Rattle.std.specs.Prelude.{int_lt, unwrap_or, ◌&&◌, if◌then◌else◌, ◌≢◌}
 use Rattle.std.proofs.lemmas.Int.{ints}
-use Rattle.std.proofs.lemmas.Bool.{cases_lt}
 use Rattle.std.proofs.lemmas.Bool.Decides.{nat_tests}
 use Rattle.nest_lang.specs.declared.tree.Stmt.{Stmt}
 use Rattle.nest_lang.specs.declared.tree.Head.{Head}
@@ -17,20 +16,20 @@ use Rattle.nest_lang.specs.Loops.{Around, inward, outside}
 use Rattle.nest_lang.specs.Blocks.{loop_at}
 use Rattle.nest_lang.specs.BlockLaws.{IsPresentPart, IsPresentHead}
 use Rattle.follow.specs.Forecasts.{Forecast}
-use Rattle.follow.specs.Plans.{item, turns_in, plan_block, plan_turn, plan_turns, plan_whiles, plan_loop, plan_loops, plan_tested, plan_outer, planned, Item, Runs, Evaluates}
+use Rattle.follow.specs.Plans.{item, turns_in, plan_block, plan_turn, plan_turns, plan_whiles, plan_loop, plan_loops, plan_tested, plan_outer, planned, Item, Evaluates}
 use Rattle.domain.specs.Tables.{Table, block_at, repeats, trip, cut, depth, counters, counters_by, is_while, Level, IsTable}
 use Rattle.domain.specs.Tables as tables
 use Rattle.domain.specs.Shapes.{IsTableOf, kind_of}
-use Rattle.domain.specs.Instances.{Instance, instance, block_of, counter, opening_at}
-use Rattle.domain.specs.Steps.{turned, left_by, turn_by, head_rank, next_turn, after_loop, ends_loop, next, next_by}
+use Rattle.domain.specs.Instances.{Instance, instance, counter, opening_at}
+use Rattle.domain.specs.Steps.{turned, left_by, head_rank, next_turn, after_loop, ends_loop, next, next_by}
 use Rattle.domain.proofs.PointLaws.{trip-cut}
-use Rattle.domain.proofs.RankLaws.{Stands, stands, text_at, text-stands, ranks-rise, same-rank}
+use Rattle.domain.proofs.RankLaws.{Stands, stands, text_at, text-stands, ranks-rise}
 use Rattle.domain.proofs.WithinLaws.{counters-of}
 use Rattle.domain.proofs.StepLaws.{next_turn-outermost, turn-repeats, turn-more, turn-last, next-of, next-head, next-pre, next-post}
 use Rattle.domain.proofs.LeadLaws.{head-next, pre-next, First, FirstHead, FirstPre, FirstInner, first}
 use Rattle.follow_chunk.specs.Predicted.{padded_to as point}
-use Rattle.compare.proofs.Points.{length-point, point-get, point-zero, point-none, point-set, cut-point, cut-last, last-at, length-more, point-turned, after_loop-cut}
-use Rattle.compare.proofs.Standing.{stands-part, part-stands, part-here, repeats-is, rank-here}
+use Rattle.compare.proofs.Points.{point-get, point-zero, point-none, point-set, cut-point, cut-last, last-at, length-more, point-turned, after_loop-cut}
+use Rattle.compare.proofs.Standing.{part-stands, part-here, repeats-is, rank-here}
 
 -- what comes before the turns that are expected, and not after
 pub turn-comes : (z : ℤ) (i : ℕ) → i < turns_in z → int_lt (pos i) z ≡ true
@@ -126,8 +125,7 @@ module _ (D n : ℕ) (t : Table) (loops : List Loop) (is : IsTable D t) (of : Is
         by : Stands t part.Pre level x.block ⊎ (Stands t part.Head (suc level) x.block × ((r : ℕ) → Stands t part.Pre level r → ⊥))
             → (y : Instance) × Walks x (plan_block part.Pre level a (q ∷ qs)) y × (y.at ≡ point D a.counters) × Stands t part.Head (suc level) y.block
         by (inl k) =
-            let more : nat_lt level (depth t) ≡ true = let d = is.deep in grind (arith, nat_tests) in
-            (
+            let more : nat_lt level (depth t) ≡ true = let d = is.deep in grind (arith, nat_tests) in (
               instance (x.block + 1) x.at,
               (record { stands = k; at = s.at; size = size ∙ sym (counters-of t part.Pre level x.block k) }, step-pre x level true k more),
               s.at,
@@ -415,8 +413,7 @@ module _ (D n : ℕ) (t : Table) (loops : List Loop) (is : IsTable D t) (of : Is
           let more : List Item = plan_tested c (i + 1) (λ j. item part.Head 1 (inward outside j (pos j)) (Evaluates hd)) (λ j. turn (inward outside j (pos j))) in
           let one = test-walk w head i hd in
           let front : Starts 1 (pos i ∷ []) (instance 1 (point D (pos i ∷ []))) = starts-behind 1 (pos i ∷ []) 0 (point D (pos i ∷ [])) (omega arith) (omega (arith, deep)) head refl in
-          walks-from (opening_at t (pos i)) (instance 0 (point D (pos i ∷ []))) (item part.Head 1 (inward outside i (pos i)) (Evaluates hd) ∷ (turn (inward outside i (pos i)) ++ more)) (opening_at t (pos (i + suc c))) (opening-point (pos i))
-          (
+          walks-from (opening_at t (pos i)) (instance 0 (point D (pos i ∷ []))) (item part.Head 1 (inward outside i (pos i)) (Evaluates hd) ∷ (turn (inward outside i (pos i)) ++ more)) (opening_at t (pos (i + suc c))) (opening-point (pos i)) (
             one.0,
             walks-from (next t (instance 0 (point D (pos i ∷ [])))) (instance 1 (point D (pos i ∷ []))) (turn (inward outside i (pos i)) ++ more) (opening_at t (pos (i + suc c))) one.1
                 (walks-append (instance 1 (point D (pos i ∷ []))) (turn (inward outside i (pos i))) (opening_at t (pos (i + 1))) more (opening_at t (pos (i + suc c)))

@@ -1,5 +1,5 @@
 -- Predicted laws: the planned instances of a chunk are the predicted ones.
-use Rattle.std.specs.Prelude.{◌≡◌, ◌+◌, ◌+ℤ◌, ℕ, ℤ, unsigned_abs, List, ◌∷◌, map}
+use Rattle.std.specs.Prelude.{◌≡◌, ◌+ℤ◌, ℕ, ℤ, unsigned_abs, List, ◌∷◌, map}
 use Rattle.nest_lang.specs.declared.tree.Loop.{Loop}
 use Rattle.nest_lang.specs.declared.state.Outer.{Outer}
 use Rattle.nest_lang.specs.Turns.{turns_later}
@@ -46,4 +46,4 @@ NextTurnOpens =
 
 -- the chunk of a task is one
 abbrev pub TasksAreChunks : Type 0
-TasksAreChunks = (scalars : ℕ) (loops : List Loop) (t : Table) (o : Outer) (chunk : Chunk) (words : ℤ) → IsTask scalars loops t o chunk words → IsNextChunk scalars loops t o chunk
+TasksAreChunks = (D scalars : ℕ) (loops : List Loop) (t : Table) (o : Outer) (chunk : Chunk) (words : ℤ) → IsTask D scalars loops t o chunk words → IsNextChunk scalars loops t o chunk
