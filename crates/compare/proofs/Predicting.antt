@@ -263,6 +263,13 @@ module _ (D n : ℕ) (t : Table) (loops : List Loop) (is : IsTable D t) (of : Is
         let a : At (opening_at t (chunk.first +ℤ chunk.turns)) i = subst (λ (z : ℤ). At (opening_at t z) i) later w.0 in
         (is-instance (opening_at t (chunk.first +ℤ chunk.turns)) i a, sym (is-occurrence (opening_at t (chunk.first +ℤ chunk.turns)) i a))
 
+    -- the instance behind the chunk is that of its occurrence
+    pub behind-occurs : instance_of t (occurrence_of t (opening_at t (chunk.first +ℤ chunk.turns))) ≡ opening_at t (chunk.first +ℤ chunk.turns)
+    behind-occurs =
+        let (i, items, e) = planned-some (forecast_of t) loops (turns_later o (unsigned_abs chunk.turns)) 1 next_chunk.keeps (omega arith) in
+        let b = next-opens i items e in
+        ap (instance_of t) (sym b.1) ∙ b.0
+
     abbrev k : Item → List ℤ
     k = key (forecast_of t) (length loops)
 

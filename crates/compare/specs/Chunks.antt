@@ -1,10 +1,10 @@
 -- Chunks: the next turns of a nest.
-use Rattle.std.specs.Prelude.{◌≡◌, ℕ, pos, ◌≤ℤ◌, unsigned_abs, List, true}
+use Rattle.std.specs.Prelude.{◌≡◌, ◌^◌, ℕ, pos, ◌≤ℤ◌, unsigned_abs, List, true}
 use Rattle.nest_lang.specs.declared.tree.Loop.{Loop}
 use Rattle.nest_lang.specs.declared.state.Outer.{Outer}
 use Rattle.nest_lang.specs.Rules.{loops_keep}
 use Rattle.domain.specs.declared.chunk.Chunk.{Chunk}
-use Rattle.domain.specs.Tables.{Table}
+use Rattle.domain.specs.Tables.{Table, IsTable}
 use Rattle.domain.specs.Shapes.{IsTableOf}
 use Rattle.follow.specs.ChunkRuns.{HasTurnsIn}
 
@@ -17,3 +17,10 @@ pub record IsNextChunk (scalars : ℕ) (loops : List Loop) (t : Table) (o : Oute
   pub from : pos 0 ≤ℤ chunk.first
   pub some : pos 1 ≤ℤ chunk.turns
   pub turns : HasTurnsIn loops o (unsigned_abs chunk.turns)
+
+-- a chunk of a nest of D loops that begins soon and isn't long, so that the turn after it has an i64 as its number
+pub record IsWatchable (D scalars : ℕ) (loops : List Loop) (t : Table) (o : Outer) (chunk : Chunk) : Type 0 where
+  pub shape : IsTable D t
+  pub next : IsNextChunk scalars loops t o chunk
+  pub soon : chunk.first ≤ℤ pos (2 ^ 32)
+  pub most : chunk.turns ≤ℤ pos 1024

@@ -1,6 +1,7 @@
 //! Laws: functions that do nothing, each with a law of the definitions as its contract.
 
 ghost use Rattle.compare.specs.ChainLaw.{ChainAtPredictions};
+ghost use Rattle.compare.specs.CompareLaws.{ComparisonFindsFirst, TurnsShowInnerTrips, TasksAreWatchable};
 ghost use Rattle.compare.specs.PredictedLaws.{PlannedAreOriginal, PlannedArePredicted, PredictedOccur, SuccessorsArePlanned, NextTurnOpens, TasksAreChunks};
 
 /// The instances of a chunk that the loops of its nest have by the expected trips are the predicted ones, in
@@ -21,7 +22,15 @@ pub fn chain()
     ensures { ChainAtPredictions }
 {}
 
-/// The laws speak of the chunk of each task.
+/// The laws speak of the chunk of each task, and each can be watched.
 pub fn tasks_are_chunks()
-    ensures { TasksAreChunks }
+    ensures chunks { TasksAreChunks }
+    ensures watchable { TasksAreWatchable }
+{}
+
+/// A new comparison that was shown some things, one after another, has found the first that doesn't agree, with its
+/// instance and both values, or nothing where all of them agree. Turns show no trip of an outermost loop.
+pub fn comparison_finds_first()
+    ensures finds { ComparisonFindsFirst }
+    ensures inner { TurnsShowInnerTrips }
 {}
