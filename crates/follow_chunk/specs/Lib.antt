@@ -1,0 +1,4 @@
+pub mod Predicted
+pub mod Items
+pub mod Tasks
+pub mod Followed
