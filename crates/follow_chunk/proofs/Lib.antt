@@ -7,3 +7,4 @@ pub mod Placing
 pub mod Standing
 pub mod Running
 pub mod Whole
+pub mod Listing
