@@ -8,3 +8,4 @@ pub mod Standing
 pub mod Running
 pub mod Whole
 pub mod Listing
+pub mod Conflicts

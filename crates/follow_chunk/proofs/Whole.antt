@@ -167,7 +167,7 @@ module _ (D scalars : ℕ) (loops : List Loop) (t : Table) (o : Outer) (chunk : 
                 let size = subst (λ (us : List Stmt). block_size us < 2 ^ 20) are (standing.size-here D scalars loops t o chunk words task x p ss e) in omega arith,
           )
 
-  item-at : (item_at t loops o x).at ≡ occurrence_of t x
+  pub item-at : (item_at t loops o x).at ≡ occurrence_of t x
   item-at = ap (λ (i : Item). i.at) works.1 ∙ standing.occurrence-here D scalars loops t o chunk words task x p
 
   few-steps : (s : Store) → length (item_trace q (item_at t loops o x) s).entries ≤ 2 ^ 32
