@@ -1,17 +1,19 @@
 -- Items: the instances of a table with what they run.
-use Rattle.std.specs.Prelude.{ℕ, ◌+◌, ℤ, pos, List, [], ◌∷◌, map, unwrap_or}
+use Rattle.std.specs.Prelude.{ℕ, ◌+◌, ℤ, pos, unsigned_abs, List, [], ◌∷◌, map, take, Option, Some, None, unwrap_or}
 use Rattle.nest_lang.specs.declared.tree.Expr.TheVariants.{Number}
+use Rattle.nest_lang.specs.declared.tree.Head.{Head}
 use Rattle.nest_lang.specs.declared.tree.Head.TheVariants.{While}
 use Rattle.nest_lang.specs.declared.tree.Loop.{Loop}
 use Rattle.nest_lang.specs.declared.state.Outer.{Outer}
+use Rattle.nest_lang.specs.Blocks.{head_at}
 use Rattle.nest_lang.specs.Traces.{Occurrence}
 use Rattle.nest_lang.specs.Loops.{Around, outside}
 use Rattle.domain.specs.Tables.{Table}
-use Rattle.domain.specs.Instances.{Instance}
+use Rattle.domain.specs.Instances.{Instance, counter}
 use Rattle.domain.specs.Steps.{next}
 use Rattle.follow.specs.Forecasts.{Forecast}
 use Rattle.follow.specs.Plans.{Item, Evaluates}
-use Rattle.follow.specs.Instances.{into, item_of}
+use Rattle.follow.specs.Instances.{value_in, into, item_of}
 use Rattle.follow_chunk.specs.Predicted.{occurrence_of, instance_of, scalars_at, forecast_of}
 
 -- what stands for an occurrence of a block that the nest hasn't got
@@ -40,3 +42,11 @@ inside_of p o level (l ∷ ls) a (t ∷ turns) = inside_of p o (level + 1) ls (i
 -- where an instance of a nest runs, with these turn numbers
 unfoldable pub around_of : Table → List Loop → Outer → List ℤ → Around
 around_of t loops o turns = inside_of (forecast_of t) o 1 loops outside turns
+
+abbrev pub value_by : Forecast → Outer → Option Head → ℕ → List ℤ → ℤ → ℤ
+value_by p o None level turns t = pos 0
+value_by p o (Some head) level turns t = value_in p o head level (record { counters = turns; values = [] }) (unsigned_abs t)
+
+-- the value of the name of the loop inside so many others, in the turn that its counter says
+unfoldable pub name_value : Table → List Loop → Outer → List ℤ → ℕ → ℤ
+name_value t loops o at depth = value_by (forecast_of t) o (head_at loops (depth + 1)) (depth + 1) (take depth at) (counter at depth)
