@@ -162,6 +162,12 @@ part-accesses-short scalars level l part.Head k = k.head.accesses.1
 part-accesses-short scalars level l part.Pre k = k.pre.accesses.1
 part-accesses-short scalars level l part.Post k = k.post.accesses.1
 
+-- a block of a nest that keeps the rules has at most 64 accesses
+pub accesses-short : (scalars : ℕ) (loops : List Loop) (rank : ℕ) (block : BlockRef) → NestKeeps scalars loops → slice_get (present_blocks loops) rank ≡ Some block → length (accesses_of loops block) ≤ 64
+accesses-short scalars loops rank block keeps e =
+    let p = (present_blocks-have_ranks loops block).1 (rank, (ranks-are_numbers loops block rank).1 e) in
+    subst (λ (o : Option Loop). length (accesses_by block.part o) ≤ 64) (sym p.1) (part-accesses-short scalars block.level p.0 block.part (keeps.each block.level p.0 p.1))
+
 -- ---- the table of a nest that keeps the rules
 module _ (scalars : ℕ) (few : scalars ≤ 16) (l : Loop) (ls : List Loop) (t : Table) (keeps : NestKeeps scalars (l ∷ ls)) (of : IsTableOf scalars (l ∷ ls) t) where
   abbrev D : ℕ
