@@ -5,10 +5,11 @@ use Rattle.std.specs.List.{All, range_with_len, flat_map}
 use Rattle.std.proofs.lemmas.List.{map-append}
 use Rattle.std.proofs.lemmas.List.FromFn.{map-range_with_len_more}
 use Rattle.affine.specs.declared.row.Row.{Row}
-use Rattle.plain_lemmas.proofs.MembershipLaws.{Has, All_from, flat_map_has, map_has, has_from_contains}
+use Rattle.plain_lemmas.proofs.MembershipLaws.{Has, All_from, flat_map_has, map_has, has_flat_map, has_from_contains, contains_from_has}
 use Rattle.nest_lang.specs.declared.tree.AccessRef.{AccessRef}
 use Rattle.domain.specs.Tables.{Table, Block, Access, block_at, counters, depth}
 use Rattle.dependence.specs.Comparisons.{Number, Turn, AtX, AtY, at_most, row_for}
+use Rattle.dependence.proofs.SystemLaws.{has_ref}
 use Rattle.dependence.specs.Systems.{System, IsRef, IsSystemOf, comparisons, system, systems, systems_of, refs, refs_of, pairs, cases, referred, first_counter, inner_counters, meeting, equal_places, rising_place}
 
 -- the access of that number
@@ -51,6 +52,14 @@ first-block t sys of = (refers t of.0 sys (has_from_contains (systems t of.0) sy
 
 pub second-block : (t : Table) (sys : System) → IsSystemOf t sys → sys.second.block < length t.blocks
 second-block t sys of = (refers t of.0 sys (has_from_contains (systems t of.0) sys of.1)).second.block
+
+-- each system of two accesses is one of the table
+pub systems_of-all : (t : Table) (L : ℤ) (a b : AccessRef) → IsRef t a → IsRef t b → All (IsSystemOf t) (systems_of t L a b)
+unfolding systems
+systems_of-all t L a b p q = All_from (IsSystemOf t) (systems_of t L a b)
+    (λ sys h. (L, contains_from_has (systems t L) sys
+    (has_flat_map (λ first. flat_map (systems_of t L first) (refs t)) (refs t) a sys (has_ref t a.block a.access p.block p.from p.to)
+    (has_flat_map (systems_of t L a) (refs t) b sys (has_ref t b.block b.access q.block q.from q.to) h))))
 
 -- ---- lists that grow
 

@@ -91,7 +91,7 @@ comparisons_hold D t L chunk x y is launched short p q a b address reach other c
 
 -- ---- which systems there are
 
-has_ref : (t : Table) (rank access : ℕ) → rank < length t.blocks → 1 ≤ access → access ≤ length (block_at t rank).accesses → Has (refs t) (record { block = rank; access = access })
+pub has_ref : (t : Table) (rank access : ℕ) → rank < length t.blocks → 1 ≤ access → access ≤ length (block_at t rank).accesses → Has (refs t) (record { block = rank; access = access })
 has_ref t rank access l from to =
     has_flat_map (refs_of t) (range_with_len 0 (length t.blocks)) rank _ (has_range 0 (length t.blocks) rank (omega arith) (omega arith))
     (has_map (λ (number : ℕ). record { block = rank; access = number }) (range_with_len 1 (length (block_at t rank).accesses)) access (has_range 1 (length (block_at t rank).accesses) access from (omega arith)))

@@ -4,7 +4,7 @@ ghost use Rattle.std.specs.Prelude.{◌≡◌, ◌<◌, ◌≤◌, ◌+◌, ◌^
 ghost use Rattle.std.specs.List.{All, flat_map};
 ghost use Rattle.fourier_motzkin.specs.RowSets.{IsWithin};
 ghost use Rattle.fourier_motzkin.specs.Elimination.{AllOver};
-ghost use Rattle.domain.specs.Tables.{block_at, depth};
+ghost use Rattle.domain.specs.Tables.{IsTable, depth};
 ghost use Rattle.dependence.specs.Systems.{IsRef, IsSystemOf, pairs, referred, refs, refs_of, system, systems, systems_of};
 ghost use Rattle.dependence.specs.Legality.{joint_variables};
 
@@ -50,6 +50,7 @@ pub fn refs<const D: usize>(
     requires few { D < 7 }
     ensures value { IfOk result (λ found. found.items ≡ refs pred.now) }
     ensures are { IfOk result (λ found. All (IsRef pred.now) found.items) }
+    ensures table { IsTable D pred.now }
 {
     let mut found = Vec::new(alloc);
     for rank in 0..pred.block_count() {
@@ -163,7 +164,8 @@ pub fn systems_of<const D: usize>(
     requires few { D < 7 }
     requires first { IsRef pred.now first }
     requires second { IsRef pred.now second }
-    ensures { IfOk result (λ found. found.items ≡ systems_of pred.now length first second) }
+    ensures value { IfOk result (λ found. found.items ≡ systems_of pred.now length first second) }
+    ensures are { IfOk result (λ found. All (IsSystemOf pred.now) found.items) }
 {
     let mut found = Vec::new(alloc);
     if !are_pair(referred(pred, first), referred(pred, second)) {

@@ -80,6 +80,7 @@ impl<const D: usize> Prediction<D> {
     pub fn block_count(&self) -> usize
         ensures value { result ≡ length self.now.blocks }
         ensures short { result ≤ 18 }
+        ensures table { IsTable D self.now }
     {
         self.blocks.len()
     }

@@ -120,9 +120,10 @@ module _ (D scalars : ℕ) (loops : List Loop) (t : Table) (o : Outer) (chunk : 
       (record {
         from = subst (λ (v : ℤ). chunk.first ≤ℤ v) (sym (cut-before k x.at 0 some)) p.turn.from;
         below = subst (λ (v : ℤ). v <ℤ (chunk.first +ℤ chunk.turns)) (sym (cut-before k x.at 0 some)) p.turn.below;
-        inner = λ j l m. let b = p.turn.inner j l (omega arith) in
-            (subst (λ (v : ℤ). pos 0 ≤ℤ v) (sym (cut-before k x.at j m)) b.0,
-            subst (λ (v : ℤ). v <ℤ trip t j (cut k x.at)) (sym (cut-before k x.at j m)) (subst (λ (v : ℤ). counter x.at j <ℤ v) (sym (trip-cut t j k x.at (omega arith))) b.1));
+        inner = λ j l m. let b = p.turn.inner j l (omega arith) in (
+          subst (λ (v : ℤ). pos 0 ≤ℤ v) (sym (cut-before k x.at j m)) b.0,
+          subst (λ (v : ℤ). v <ℤ trip t j (cut k x.at)) (sym (cut-before k x.at j m)) (subst (λ (v : ℤ). counter x.at j <ℤ v) (sym (trip-cut t j k x.at (omega arith))) b.1),
+        );
       })
       (λ j l. cut-after k x.at j l) (inr s)
 

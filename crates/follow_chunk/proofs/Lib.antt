@@ -7,3 +7,5 @@ pub mod Placing
 pub mod Standing
 pub mod Running
 pub mod Whole
+pub mod Listing
+pub mod Conflicts

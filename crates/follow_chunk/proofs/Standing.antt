@@ -14,13 +14,13 @@ use Rattle.nest_lang.specs.declared.tree.Stmt.{Stmt}
 use Rattle.nest_lang.specs.declared.tree.Part.{Part}
 use Rattle.nest_lang.specs.declared.tree.Part.TheVariants.{Head, Pre, Post}
 use Rattle.nest_lang.specs.declared.state.Outer.{Outer}
-use Rattle.nest_lang.specs.Accesses.{accesses_of}
+use Rattle.nest_lang.specs.Accesses.{block_accesses, part_accesses, accesses_by, accesses_of}
 use Rattle.nest_lang.specs.Blocks.{block_ref, present_blocks, loop_at, head_at, statements_by, statements_of, counters_of}
 use Rattle.nest_lang.specs.Blocks as blocks
 use Rattle.nest_lang.specs.BlockLaws.{IsPresentPart}
 use Rattle.nest_lang.specs.Loops.{Around, outside}
 use Rattle.nest_lang.specs.Places.{block_size}
-use Rattle.nest_lang.specs.Rules.{strides, loop_keeps, loops_keep, LoopKeeps}
+use Rattle.nest_lang.specs.Rules.{strides, loop_keeps, loops_keep, AreNumbered, LoopKeeps}
 use Rattle.nest_lang.proofs.Ranks.{ranks-are_numbers, present_blocks-have_ranks}
 use Rattle.domain.specs.declared.chunk.Chunk.{Chunk}
 use Rattle.domain.specs.declared.table.LoopKind.{LoopKind}
@@ -30,6 +30,7 @@ use Rattle.domain.specs.Shapes.{kind_of, is_store, IsBlockOf}
 use Rattle.domain.specs.Steps.{next, CanTurn}
 use Rattle.domain.proofs.OriginalLaws.{successor-law, opening-is}
 use Rattle.follow.specs.Plans.{item, occurrence, Item, Work, Runs, Evaluates}
+use Rattle.follow.specs.Footprints.{work_accesses}
 use Rattle.follow.specs.Instances.{block_item, item_of}
 use Rattle.follow_chunk.specs.Predicted.{occurrence_of, forecast_of}
 use Rattle.follow_chunk.specs.Items.{item_at, idle, around_of}
@@ -204,6 +205,61 @@ module _ (D scalars : ℕ) (loops : List Loop) (t : Table) (o : Outer) (chunk : 
       by Head f g = f
       by Pre f g = absurd (let h : Some l.pre ≡ None = sym (ap (λ (q : Part). statements_by q l) f) ∙ g in cc)
       by Post f g = absurd (let h : Some l.post ≡ None = sym (ap (λ (q : Part). statements_by q l) f) ∙ g in cc)
+
+  pub item-found : item_of (forecast_of t) o loops (occurrence_of t x) ≡ Some (item_at t loops o x)
+  item-found = by (statements_of loops (block_ref b.part b.level)) refl
+    where
+      is-some : (i : Item) → part_item b.part b.level A l ≡ Some i → item_of (forecast_of t) o loops (occurrence_of t x) ≡ Some (item_at t loops o x)
+      is-some i e = item-here ∙ e ∙ ap (λ (j : Item). Some j) (sym (item-is i e))
+
+      block-part : (us : List Stmt) → statements_by b.part l ≡ Some us → (s : Stmt) (rest : List Stmt) → us ≡ s ∷ rest → part_item b.part b.level A l ≡ Some (item b.part b.level A (Runs s rest))
+      block-part us e s rest f = at b.part refl e
+        where
+          same_list : (v w : List Stmt) → Some v ≡ Some w → v ≡ w
+          same_list v w g = cc
+
+          at : (q : Part) → b.part ≡ q → statements_by q l ≡ Some us → part_item b.part b.level A l ≡ Some (item b.part b.level A (Runs s rest))
+          at Head g h = absurd (cc)
+          at Pre g h = ap (λ (q : Part). part_item q b.level A l) g ∙ ap (λ (us : List Stmt). block_item Pre b.level A us) (same_list l.pre us h ∙ f) ∙ ap (λ (q : Part). Some (item q b.level A (Runs s rest))) (sym g)
+          at Post g h = ap (λ (q : Part). part_item q b.level A l) g ∙ ap (λ (us : List Stmt). block_item Post b.level A us) (same_list l.post us h ∙ f) ∙ ap (λ (q : Part). Some (item q b.level A (Runs s rest))) (sym g)
+
+      by : (ss : Option (List Stmt)) → statements_of loops (block_ref b.part b.level) ≡ ss → item_of (forecast_of t) o loops (occurrence_of t x) ≡ Some (item_at t loops o x)
+      by None e = let h = none-head e in is-some (item b.part b.level A (Evaluates l.head)) (ap (λ (q : Part). part_item q b.level A l) h ∙ ap (λ (q : Part). Some (item q b.level A (Evaluates l.head))) (sym h))
+      by (Some ss) e =
+          let (s, rest, are, is) = item-statements ss e in
+          is-some (item b.part b.level A (Runs s rest)) (block-part ss (ap (λ (m : Option Loop). option_and_then (statements_by b.part) m) (sym loop-here.1) ∙ e) s rest are)
+
+  -- the accesses of what it runs are those of its block
+  pub item-accesses : work_accesses (item_at t loops o x).work ≡ accesses_of loops (block_ref b.part b.level)
+  item-accesses = by (statements_of loops (block_ref b.part b.level)) refl
+    where
+      part-is : accesses_of loops (block_ref b.part b.level) ≡ part_accesses b.part l
+      part-is = ap (accesses_by b.part) loop-here.1
+
+      same_list : (v w : List Stmt) → Some v ≡ Some w → v ≡ w
+      same_list v w g = cc
+
+      of_part : (us : List Stmt) (q : Part) → statements_by q l ≡ Some us → block_accesses us ≡ part_accesses q l
+      of_part us Head e = absurd (cc)
+      of_part us Pre e = ap block_accesses (sym (same_list l.pre us e))
+      of_part us Post e = ap block_accesses (sym (same_list l.post us e))
+
+      by : (ss : Option (List Stmt)) → statements_of loops (block_ref b.part b.level) ≡ ss → work_accesses (item_at t loops o x).work ≡ accesses_of loops (block_ref b.part b.level)
+      by None e = let h = none-head e in ap (λ (i : Item). work_accesses i.work) (item-head h) ∙ ap (λ (q : Part). part_accesses q l) (sym h) ∙ sym part-is
+      by (Some ss) e =
+          let (s, rest, are, is) = item-statements ss e in
+          ap (λ (i : Item). work_accesses i.work) is ∙ ap block_accesses (sym are) ∙ of_part ss b.part (ap (λ (m : Option Loop). option_and_then (statements_by b.part) m) (sym loop-here.1) ∙ e) ∙ sym part-is
+
+  pub numbered-here : AreNumbered (accesses_of loops (block_ref b.part b.level))
+  numbered-here = subst AreNumbered (sym (ap (accesses_by b.part) loop-here.1)) (by b.part)
+    where
+      keeps : LoopKeeps scalars b.level l
+      keeps = (task.keeps).each b.level l loop-here.1
+
+      by : (q : Part) → AreNumbered (part_accesses q l)
+      by Head = (keeps.head).accesses
+      by Pre = (keeps.pre).accesses
+      by Post = (keeps.post).accesses
 
   pub strides-here : strides l.head ≡ true
   strides-here = all-strides loops (task.keeps).loops_keep (b.level - 1) l loop-get

@@ -154,15 +154,20 @@ module _ (D scalars : ℕ) (loops : List Loop) (t : Table) (o : Outer) (chunk : 
     where
       by : (ss : Option (List Stmt)) → blocks.statements_of loops (block_ref (block_of t x).part (block_of t x).level) ≡ ss
           → (w : Work) × (item_at t loops o x ≡ item (block_of t x).part (block_of t x).level (standing.A D scalars loops t o chunk words task x p) w) × ((f : Frame) (s : Store) → length (work_trace f w s).entries ≤ 2 ^ 32)
-      by None e = (Evaluates (standing.loop-here D scalars loops t o chunk words task x p).0.head, standing.item-head D scalars loops t o chunk words task x p (standing.none-head D scalars loops t o chunk words task x p e),
-          λ f s. let one = head-one f (standing.loop-here D scalars loops t o chunk words task x p).0.head s in omega arith)
+      by None e = (
+        Evaluates (standing.loop-here D scalars loops t o chunk words task x p).0.head,
+        standing.item-head D scalars loops t o chunk words task x p (standing.none-head D scalars loops t o chunk words task x p e),
+        λ f s. let one = head-one f (standing.loop-here D scalars loops t o chunk words task x p).0.head s in omega arith,
+      )
       by (Some ss) e =
-          let (s, rest, are, is) = standing.item-statements D scalars loops t o chunk words task x p ss e in
-          (Runs s rest, is,
-          λ f u. let few = steps-within f (s ∷ rest) u in
-              let size = subst (λ (us : List Stmt). block_size us < 2 ^ 20) are (standing.size-here D scalars loops t o chunk words task x p ss e) in omega arith)
+          let (s, rest, are, is) = standing.item-statements D scalars loops t o chunk words task x p ss e in (
+            Runs s rest,
+            is,
+            λ f u. let few = steps-within f (s ∷ rest) u in
+                let size = subst (λ (us : List Stmt). block_size us < 2 ^ 20) are (standing.size-here D scalars loops t o chunk words task x p ss e) in omega arith,
+          )
 
-  item-at : (item_at t loops o x).at ≡ occurrence_of t x
+  pub item-at : (item_at t loops o x).at ≡ occurrence_of t x
   item-at = ap (λ (i : Item). i.at) works.1 ∙ standing.occurrence-here D scalars loops t o chunk words task x p
 
   few-steps : (s : Store) → length (item_trace q (item_at t loops o x) s).entries ≤ 2 ^ 32
@@ -181,6 +186,22 @@ module _ (D scalars : ℕ) (loops : List Loop) (t : Table) (o : Outer) (chunk : 
   sizes-here =
       ap (λ (y : Instance). length (scalars_at t y)) (instance-occurrence D t task.shape (next t x) (standing.next-instance D scalars loops t o chunk words task x p))
       ∙ length-scalars t (next t x) ∙ count-next D scalars loops t o chunk words task x p ∙ sym (length-scalars t x ∙ count-here D scalars loops t o chunk words task x p)
+
+  ended-steps : (us : List ℤ) (r : Option Reached) (z : Outcome) → ended_with us (state_of r) ≡ Some z → (w : Reached) × (r ≡ Some w) × (z.steps ≡ w.steps)
+  ended-steps us None z e = absurd (cc)
+  ended-steps us (Some w) z e = (w, refl, by (same_all w.store.scalars us) e)
+    where
+      by : (b : Bool) → (if b then Some (record { memory = w.store.memory; steps = w.steps }) else None) ≡ Some z → z.steps ≡ w.steps
+      by true f = sym (ap (λ (y : Outcome). y.steps) (let g : record { memory = w.store.memory; steps = w.steps } ≡ z = cc in g))
+      by false f = absurd (cc)
+
+  pub follows-few : (m after : List ℤ) (steps : ℕ) → Follows t loops o x steps m after → steps ≤ 2 ^ 32
+  unfolding reach
+  follows-few m after steps f =
+      let (w, is, same) = ended-steps (q.scalars (occurrence_of t (next t x))) (reach q (item_trace q (item_at t loops o x) (store_at t x m)) (store_at t x m)) (record { memory = after; steps = steps }) f.run.1 in
+      let are = steps-are q (item_trace q (item_at t loops o x) (store_at t x m)).entries (item_trace q (item_at t loops o x) (store_at t x m)).halt (store_at t x m) w is in
+      let few = few-steps (store_at t x m) in
+      omega arith
 
   pub follows-by : (m after : List ℤ) (steps : ℕ) → IsRun t loops o x m (Ok steps) after → Follows t loops o x steps m after
   follows-by m after steps run = record { run = run; one = one-is m ∙ run.1 }

@@ -2,3 +2,4 @@ pub mod Predicted
 pub mod Items
 pub mod Tasks
 pub mod Followed
+pub mod Laws

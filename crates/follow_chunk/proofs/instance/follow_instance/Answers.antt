@@ -14,6 +14,8 @@ returns-in-Ok-clause-followed g c =
 pub returns-in-Err-clause-followed : goal.returns-in-Err-clause-followed
 returns-in-Err-clause-followed g c =
     let self = c.args.task.now in
-    let m = g.P.Port.memory c.args.port.now in
-    (refl, deviates-by g.row.D self.scalars self.nest.now.loops self.pred.now self.outer self.chunk (pos (length m)) c.requires.task c.args.inst.now c.requires.predicted m (g.P.Port.memory c.follow.new.port) c.in-Err.how
-    (subst (λ (r : Result ℕ How). IsRun self.pred.now self.nest.now.loops self.outer c.args.inst.now m r (g.P.Port.memory c.follow.new.port)) c.in-Err.is c.follow.ensures.run))
+    let m = g.P.Port.memory c.args.port.now in (
+      refl,
+      deviates-by g.row.D self.scalars self.nest.now.loops self.pred.now self.outer self.chunk (pos (length m)) c.requires.task c.args.inst.now c.requires.predicted m (g.P.Port.memory c.follow.new.port) c.in-Err.how
+          (subst (λ (r : Result ℕ How). IsRun self.pred.now self.nest.now.loops self.outer c.args.inst.now m r (g.P.Port.memory c.follow.new.port)) c.in-Err.is c.follow.ensures.run),
+    )
