@@ -9,8 +9,6 @@
 mod draws;
 pub mod laws;
 mod shapes;
-#[cfg(test)]
-mod tests;
 mod texts;
 
 pub use shapes::{Shape, generate};
