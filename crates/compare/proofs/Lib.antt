@@ -10,3 +10,4 @@ pub mod Wanting
 pub mod Occurring
 pub mod Closing
 pub mod CompareLaws
+pub mod PremiseLaws

@@ -8,3 +8,4 @@ pub mod Compared
 pub mod Occurrences
 pub mod CompareLaws
 pub mod Examples
+pub mod Premises

@@ -2,6 +2,7 @@
 
 ghost use Rattle.compare.specs.ChainLaw.{ChainAtPredictions};
 ghost use Rattle.compare.specs.CompareLaws.{ComparisonFindsFirst, TurnsShowInnerTrips, TasksAreWatchable};
+ghost use Rattle.compare.specs.Premises.{PremisesCanHold};
 ghost use Rattle.compare.specs.PredictedLaws.{PlannedAreOriginal, PlannedArePredicted, PredictedOccur, SuccessorsArePlanned, NextTurnOpens, TasksAreChunks};
 
 /// The instances of a chunk that the loops of its nest have by the expected trips are the predicted ones, in
@@ -33,4 +34,9 @@ pub fn tasks_are_chunks()
 pub fn comparison_finds_first()
     ensures finds { ComparisonFindsFirst }
     ensures inner { TurnsShowInnerTrips }
+{}
+
+/// The premises of the laws and of the watch can be met.
+pub fn premises_can_hold()
+    ensures { PremisesCanHold }
 {}
