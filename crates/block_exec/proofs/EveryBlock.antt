@@ -1,14 +1,15 @@
 -- Any property of what runs from a store that each step keeps holds of every block.
-use Rattle.std.proofs.Common.{◌≡◌, ◌++◌, ℕ, ℤ, pos, Bool, true, false, List, [], ◌∷◌, map, sym, subst, Option, Some, None, Result, Ok, Err}
+use Rattle.std.proofs.Common.{◌++◌, ℕ, ℤ, pos, Bool, true, false, List, [], ◌∷◌, map, sym, subst, Option, Some, None, Result, Ok, Err}
 use Rattle.std.specs.Prelude.{if◌then◌else◌}
 use Rattle.std.specs.List.{AllByRecursion}
 use Rattle.nest_lang.specs.declared.tree.Stmt.{Stmt, map-Stmt, roll-Stmt}
 use Rattle.nest_lang.specs.declared.tree.Stmt.TheOpen.{Stmt-F}
-use Rattle.nest_lang.specs.declared.tree.Stmt.TheFolds.{fold-roll-Stmt, ind-Stmt}
+use Rattle.nest_lang.specs.declared.tree.Stmt.TheFolds.{ind-Stmt}
 use Rattle.nest_lang.specs.Stores.{Store}
 use Rattle.nest_lang.specs.Traces.{Observation, Halt, Trace, Transition, traced}
 use Rattle.nest_lang.specs.Expressions.{Frame, told}
 use Rattle.nest_lang.specs.Statements.{with_value, stored, statement_level, statement_trace}
+use Rattle.nest_lang.proofs.StepLaws.{statement-rolled}
 
 module _ (f : Frame) (P : (Store → Trace) → Type 0) where
   Parts : Stmt-F (Store → Trace) → Type 0
@@ -45,13 +46,9 @@ module _ (f : Frame) (P : (Store → Trace) → Type 0) where
   layer_parts (Stmt-F.Store access a e) = tt
   layer_parts (Stmt-F.If e first second) = (all_mapped first, all_mapped second)
 
-  rolled : (x : Stmt-F Stmt) → statement_trace f (roll-Stmt x) ≡ (λ s. traced (statement_level f (map-Stmt _ _ (statement_trace f) x) s) s)
-  unfolding statement_trace
-  rolled x = fold-roll-Stmt (Store → Trace) (λ z s. traced (statement_level f z s) s) x
-
   module _ (each : (x : Stmt-F (Store → Trace)) → ((s : Store) → AllByRecursion P (statement_level f x s).rest) → P (λ s. traced (statement_level f x s) s)) where
     every_statement : (st : Stmt) → P (statement_trace f st)
-    every_statement = ind-Stmt (λ st. P (statement_trace f st)) (λ x y is. subst (λ z. P (statement_trace f (roll-Stmt z))) is (subst P (sym (rolled (map-Stmt _ _ (λ e. e.0) y))) (each _ (λ s. level_rest _ s (layer_parts y)))))
+    every_statement = ind-Stmt (λ st. P (statement_trace f st)) (λ x y is. subst (λ z. P (statement_trace f (roll-Stmt z))) is (subst P (sym (statement-rolled f (map-Stmt _ _ (λ e. e.0) y))) (each _ (λ s. level_rest _ s (layer_parts y)))))
 
     pub every_block : (xs : List Stmt) → AllByRecursion P (map (statement_trace f) xs)
     every_block [] = tt

@@ -33,7 +33,7 @@ head-changes : (before seen : List Observation) (v : Result Yield Halt) (s t : S
 head-changes before seen (Ok yield) s t = refl
 head-changes before seen (Err halt) s t = refl
 
-head-from : (before seen : List Observation) (v : Result Yield Halt) (s t : Store) → traced (head_step before seen v (λ y. [])) s ≡ traced (head_step before seen v (λ y. [])) t
+pub head-from : (before seen : List Observation) (v : Result Yield Halt) (s t : Store) → traced (head_step before seen v (λ y. [])) s ≡ traced (head_step before seen v (λ y. [])) t
 head-from before seen (Ok yield) s t = refl
 head-from before seen (Err halt) s t = refl
 

@@ -3,13 +3,12 @@ use Rattle.std.proofs.Common.{◌≡◌, refl, ap, ◌∙◌, sym, subst, ℕ, �
 use Rattle.std.specs.Prelude.{if◌then◌else◌, ◌&&◌}
 use Rattle.nest_lang.specs.declared.tree.Expr.{Expr, map-Expr, roll-Expr}
 use Rattle.nest_lang.specs.declared.tree.Expr.TheOpen.{Expr-F}
-use Rattle.nest_lang.specs.declared.tree.Expr.TheFolds.{fold-roll-Expr, ind-Expr}
+use Rattle.nest_lang.specs.declared.tree.Expr.TheFolds.{ind-Expr}
 use Rattle.nest_lang.specs.declared.tree.Stmt.{Stmt, map-Stmt, roll-Stmt}
 use Rattle.nest_lang.specs.declared.tree.Stmt.TheOpen.{Stmt-F}
-use Rattle.nest_lang.specs.declared.tree.Stmt.TheFolds.{fold-roll-Stmt, ind-Stmt}
+use Rattle.nest_lang.specs.declared.tree.Stmt.TheFolds.{ind-Stmt}
 use Rattle.nest_lang.specs.declared.tree.Head.{Head}
 use Rattle.nest_lang.specs.declared.tree.Head.TheVariants.{For, While}
-use Rattle.nest_lang.specs.declared.observe.Stop.{Stop}
 use Rattle.nest_lang.specs.declared.observe.Stop.TheVariants.{Unexpected}
 use Rattle.nest_lang.specs.declared.observe.Seen.TheVariants.{Address}
 use Rattle.nest_lang.specs.Values.{same}
@@ -20,6 +19,7 @@ use Rattle.nest_lang.specs.Expressions.{Frame, shown, Told, telling, then_tell, 
 use Rattle.nest_lang.specs.Statements.{with_value, stored, statement_level, statement_trace, block_trace, started, announced, shown_before, instance_trace}
 use Rattle.nest_lang.specs.Heads.{Yield, Headed, heading, then_head, head_of, head_step}
 use Rattle.block_exec.specs.Laws.{head_trace, IsUnexpected, StopsUnexpected, InstancesArePlainOrStop}
+use Rattle.nest_lang.proofs.StepLaws.{told-rolled, statement-rolled, with_value-before, stored-before, stored-seen, value_step, store_step, value_step-before, head_step-before, head_step-seen}
 
 abbrev Begins : List Observation → List Observation → Type 0
 Begins xs ys = (more : List Observation) × (ys ≡ xs ++ more)
@@ -32,37 +32,9 @@ goes-on : (halt : Option Halt) (es : List Entry) (w : Trace) (shared : List Entr
 goes-on (Some halt) es w shared other more e = (more, e)
 goes-on None es w shared other more e = (more ++ w.entries, ap (λ z. z ++ w.entries) e ∙ append_assoc shared (other ∷ more) w.entries)
 
-with_value-before : (seen : List Observation) (v : Result ℤ Halt) (go : ℤ → Transition) → ((z : ℤ) → (go z).entry.before ≡ []) → (with_value seen v go).entry.before ≡ []
-with_value-before seen (Ok z) go each = each z
-with_value-before seen (Err halt) go each = refl
-
 with_value-begins : (xs seen : List Observation) (v : Result ℤ Halt) (go : ℤ → Transition) → Begins xs seen → ((z : ℤ) → Begins xs (go z).entry.seen) → Begins xs (with_value seen v go).entry.seen
 with_value-begins xs seen (Ok z) go b each = each z
 with_value-begins xs seen (Err halt) go b each = b
-
-stored-before : (seen : List Observation) (z v : ℤ) (r : Result ℤ Halt) → (stored seen z v r).entry.before ≡ []
-stored-before seen z v (Ok old) = refl
-stored-before seen z v (Err halt) = refl
-
-stored-seen : (seen : List Observation) (z v : ℤ) (r : Result ℤ Halt) → (stored seen z v r).entry.seen ≡ seen
-stored-seen seen z v (Ok old) = refl
-stored-seen seen z v (Err halt) = refl
-
-head_step-before : (before seen : List Observation) (r : Result Yield Halt) (go : Yield → List (Store → Trace)) → (head_step before seen r go).entry.before ≡ before
-head_step-before before seen (Ok yield) go = refl
-head_step-before before seen (Err halt) go = refl
-
-head_step-seen : (before seen : List Observation) (r : Result Yield Halt) (go : Yield → List (Store → Trace)) → (head_step before seen r go).entry.seen ≡ seen
-head_step-seen before seen (Ok yield) go = refl
-head_step-seen before seen (Err halt) go = refl
-
-statement-rolled : (h : Frame) (y : Stmt-F Stmt) → statement_trace h (roll-Stmt y) ≡ (λ s. traced (statement_level h (map-Stmt _ _ (statement_trace h) y) s) s)
-unfolding statement_trace
-statement-rolled h y = fold-roll-Stmt (Store → Trace) (λ z s. traced (statement_level h z s) s) y
-
-told-rolled : (h : Frame) (scalars locals : List ℤ) (find : ℕ → ℤ → Result ℤ Stop) (y : Expr-F Expr) → told_by h scalars locals find (roll-Expr y) ≡ expression_level h scalars locals find (map-Expr _ _ (told_by h scalars locals find) y)
-unfolding told_by
-told-rolled h scalars locals find y = fold-roll-Expr Told (expression_level h scalars locals find) y
 
 module _ (f : Frame) where
   abbrev g : Frame
@@ -365,24 +337,14 @@ module _ (f : Frame) where
       up-step (with_value p.seen p.value (if_step first second p.seen)) (with_value q.seen q.value (if_step first' second' q.seen)) s
       (value-refused p.seen p.value (if_step first second p.seen) (with_value q.seen q.value (if_step first' second' q.seen)) (refused-begins p.seen q.seen _ p.value r b) (with_value-before q.seen q.value (if_step first' second' q.seen) (λ z. refl)))
 
-  abbrev value_step : ℕ → Told → Told → (ℤ → Result ℤ Halt) → ℤ → Transition
-  value_step access a e found address = with_value (a.seen ++ e.seen) e.value (λ v. stored (a.seen ++ e.seen ++ shown f (Address access) address ∷ []) address v (found address))
-
-  abbrev store_step : ℕ → Told → Told → (ℤ → Result ℤ Halt) → Transition
-  store_step access a e found = with_value a.seen a.value (value_step access a e found)
-
-  value-before : (access : ℕ) (a e : Told) (found : ℤ → Result ℤ Halt) (z : ℤ) → (value_step access a e found z).entry.before ≡ []
-  value-before access a e found z =
-      with_value-before (a.seen ++ e.seen) e.value (λ v. stored (a.seen ++ e.seen ++ shown f (Address access) z ∷ []) z v (found z)) (λ v. stored-before (a.seen ++ e.seen ++ shown f (Address access) z ∷ []) z v (found z))
-
-  value-begins : (access : ℕ) (a e : Told) (found : ℤ → Result ℤ Halt) (z : ℤ) → Begins (a.seen ++ e.seen) (value_step access a e found z).entry.seen
+  value-begins : (access : ℕ) (a e : Told) (found : ℤ → Result ℤ Halt) (z : ℤ) → Begins (a.seen ++ e.seen) (value_step f access a e found z).entry.seen
   value-begins access a e found z =
       with_value-begins (a.seen ++ e.seen) (a.seen ++ e.seen) e.value (λ v. stored (a.seen ++ e.seen ++ shown f (Address access) z ∷ []) z v (found z)) (begins-same (a.seen ++ e.seen) (a.seen ++ e.seen) refl)
       (λ v. (shown f (Address access) z ∷ [], stored-seen (a.seen ++ e.seen ++ shown f (Address access) z ∷ []) z v (found z)))
 
-  store-begins : (access : ℕ) (a e : Told) (found : ℤ → Result ℤ Halt) → Begins a.seen (store_step access a e found).entry.seen
+  store-begins : (access : ℕ) (a e : Told) (found : ℤ → Result ℤ Halt) → Begins a.seen (store_step f access a e found).entry.seen
   store-begins access a e found =
-      with_value-begins a.seen a.seen a.value (value_step access a e found) (begins-same a.seen a.seen refl)
+      with_value-begins a.seen a.seen a.value (value_step f access a e found) (begins-same a.seen a.seen refl)
       (λ z. let b = value-begins access a e found z in (e.seen ++ b.0, b.1 ∙ append_assoc a.seen e.seen b.0))
 
   stored-up : (access : ℕ) (seen : List Observation) (z v : ℤ) (r r' : Result ℤ Halt) (s : Store) → Looks access z r r'
@@ -406,25 +368,25 @@ module _ (f : Frame) where
       })
 
   value-up : (access : ℕ) (a e e' : Told) (found found' : ℤ → Result ℤ Halt) (s : Store) (z : ℤ) → ToldUp e e' → Looks access z (found z) (found' z)
-      → Up (traced (value_step access a e found z) s) (traced (value_step access a e' found' z) s)
+      → Up (traced (value_step f access a e found z) s) (traced (value_step f access a e' found' z) s)
   value-up access a e e' found found' s z (inr r) fu =
-      up-step (value_step access a e found z) (value_step access a e' found' z) s
-      (value-refused (a.seen ++ e.seen) e.value (λ v. stored (a.seen ++ e.seen ++ shown f (Address access) z ∷ []) z v (found z)) (value_step access a e' found' z)
-      (refused-begins (a.seen ++ e.seen) (a.seen ++ e'.seen) _ e.value (refused-behind a.seen e.seen e'.seen e.value r) (value-begins access a e' found' z)) (value-before access a e' found' z))
+      up-step (value_step f access a e found z) (value_step f access a e' found' z) s
+      (value-refused (a.seen ++ e.seen) e.value (λ v. stored (a.seen ++ e.seen ++ shown f (Address access) z ∷ []) z v (found z)) (value_step f access a e' found' z)
+      (refused-begins (a.seen ++ e.seen) (a.seen ++ e'.seen) _ e.value (refused-behind a.seen e.seen e'.seen e.value r) (value-begins access a e' found' z)) (value_step-before f access a e' found' z))
   value-up access a e e' found found' s z (inl se) fu =
-      subst (λ (r : Told). Up (traced (value_step access a e found z) s) (traced (value_step access a r found' z) s)) se
+      subst (λ (r : Told). Up (traced (value_step f access a e found z) s) (traced (value_step f access a r found' z) s)) se
       (with_value-up (a.seen ++ e.seen) e.value (λ v. stored (a.seen ++ e.seen ++ shown f (Address access) z ∷ []) z v (found z)) (λ v. stored (a.seen ++ e.seen ++ shown f (Address access) z ∷ []) z v (found' z)) s
       (λ v. stored-up access (a.seen ++ e.seen) z v (found z) (found' z) s fu))
 
   store-up : (access : ℕ) (a a' e e' : Told) (found found' : ℤ → Result ℤ Halt) (s : Store) → ToldUp a a' → ToldUp e e' → ((z : ℤ) → Looks access z (found z) (found' z))
-      → Up (traced (store_step access a e found) s) (traced (store_step access a' e' found') s)
+      → Up (traced (store_step f access a e found) s) (traced (store_step f access a' e' found') s)
   store-up access a a' e e' found found' s (inr r) eu fu =
-      up-step (store_step access a e found) (store_step access a' e' found') s
-      (value-refused a.seen a.value (value_step access a e found) (store_step access a' e' found') (refused-begins a.seen a'.seen _ a.value r (store-begins access a' e' found'))
-      (with_value-before a'.seen a'.value (value_step access a' e' found') (value-before access a' e' found')))
+      up-step (store_step f access a e found) (store_step f access a' e' found') s
+      (value-refused a.seen a.value (value_step f access a e found) (store_step f access a' e' found') (refused-begins a.seen a'.seen _ a.value r (store-begins access a' e' found'))
+      (with_value-before a'.seen a'.value (value_step f access a' e' found') (value_step-before f access a' e' found')))
   store-up access a a' e e' found found' s (inl sa) eu fu =
-      subst (λ (r : Told). Up (traced (store_step access a e found) s) (traced (store_step access r e' found') s)) sa
-      (with_value-up a.seen a.value (value_step access a e found) (value_step access a e' found') s (λ z. value-up access a e e' found found' s z eu (fu z)))
+      subst (λ (r : Told). Up (traced (store_step f access a e found) s) (traced (store_step f access r e' found') s)) sa
+      (with_value-up a.seen a.value (value_step f access a e found) (value_step f access a e' found') s (λ z. value-up access a e e' found found' s z eu (fu z)))
 
   Runs_up : Stmt → Type 0
   Runs_up st = UpOn (statement_trace f st) (statement_trace g st)

@@ -1,10 +1,9 @@
 //! Evaluation of loop heads.
 
-ghost use Rattle.std.specs.Prelude.{◌≡◌, ◌≢◌, ◌≤◌, ◌+◌, ◌^◌, FitsSigned, IfOk, length, not, pos, ◌∷◌, []};
-ghost use Rattle.std.specs.Int.{w64};
+ghost use Rattle.std.specs.Prelude.{◌≡◌, ◌≢◌, ◌≤◌, ◌+◌, ◌^◌, IfOk, length, not, pos, ◌∷◌, []};
 ghost use Rattle.nest_lang.specs.declared.observe.Seen.TheVariants.{Lower, Trip};
 ghost use Rattle.nest_lang.specs.declared.tree.Head.TheVariants.{For, While};
-ghost use Rattle.nest_lang.specs.Values.{same, turn_value};
+ghost use Rattle.nest_lang.specs.Values.{same};
 ghost use Rattle.nest_lang.specs.Heads.{head_of, as_number};
 ghost use Rattle.nest_lang.specs.Heads as heads;
 ghost use Rattle.block_exec.specs.Watches.{Chain, observed};
@@ -27,14 +26,6 @@ pub struct Bounds {
     pub lower: i64,
     pub stride: i64,
     pub trip: u64,
-}
-
-/// The value of a `for`'s name in a turn, where it is an i64, as it is in each of its turns.
-pub fn value_of_turn(lower: i64, stride: i64, turn: u64) -> i64
-    requires { FitsSigned w64 (turn_value lower stride turn) }
-    ensures { result ≡ turn_value lower stride turn }
-{
-    (i128::from(lower) + i128::from(stride) * i128::from(turn)) as i64
 }
 
 impl<P: Port, W: Watch> Run<'_, P, W> {

@@ -8,7 +8,7 @@
 //! under every watch they give the trace that `nest_lang` defines, cut where the steps that are left end.
 //! Where one is cut short the run keeps why, so that a result is one word.
 //!
-//! The crate stands on `nest_lang` alone. The layers above run loops and whole nests with it, each over a
+//! The crate stands on `nest_lang` and `plain_lemmas`. The layers above run loops and whole nests, each over a
 //! port of its own; `MemoryPort` and `Blind` are the plain port and the watch that keeps nothing. `laws`
 //! has what the layers that verify addresses rest on.
 #![tactic(auto)]
@@ -26,12 +26,9 @@ mod watch;
 
 pub use context::Run;
 pub use halt::{Cut, Halt, Halted};
-pub use head::{Bounds, value_of_turn};
+pub use head::Bounds;
 pub use memory::MemoryPort;
-pub use nest_lang::{Seen, Stop};
+pub use nest_lang::{Seen, Stop, value_of_turn};
 pub use port::Port;
 pub use site::{Places, Site};
 pub use watch::{Blind, Watch};
-
-#[cfg(test)]
-mod tests;

@@ -30,7 +30,9 @@ use Rattle.canonical.specs.Scripts.{signed_operand, candidate_line}
 use Rattle.canonical.specs.Contents.{version_line, scalar_line, memory_line, next_value, value_list, item_line, labels_in, unit_lines, pieces}
 use Rattle.canonical.proofs.Walking.{Walks, walks-append, Counts, counts}
 use Rattle.canonical.proofs.LoopsAgain.{AgreesAll, Named, loops-again, signed-again, signed-kept}
-use Rattle.canonical.proofs.ScriptsAgain.{flat_map-last, candidates-again, candidates-kept}
+use Rattle.canonical.proofs.ScriptsAgain.{candidates-again, candidates-kept}
+use Rattle.canonical.proofs.Texts.{flat_map-last}
+use Rattle.grammar_laws.proofs.Contents.{version-of}
 
 abbrev pub VersionArrives : Sight → Version → List Spot → Type 0
 VersionArrives s v m = (t : Sight) × IsVersion s v t × (t.size ≡ s.size) × (t.left ≡ m) × (t.version ≡ v)
@@ -39,10 +41,6 @@ version-again : (v : Version) (s2 : Sight) (m : List Spot) → Walks (version_li
 unfolding skip here version_line line
 version-again One s2 m w = (of_version One (skip (skip s2)), version_one w.0 w.1.0, refl, sym w.1.1, refl)
 version-again Several s2 m w = (of_version Several (skip (skip s2)), version_two w.0 w.1.0, refl, sym w.1.1, refl)
-
-version-kept : {s : Sight} {v : Version} {t : Sight} → IsVersion s v t → t.version ≡ v
-version-kept (version_one h k) = refl
-version-kept (version_two h k) = refl
 
 abbrev pub ScalarsArrive : Sight → List Scalar → List Spot → Type 0
 ScalarsArrive s cs m = (t : Sight) × IsScalars s cs t × (t.size ≡ s.size) × (t.left ≡ m) × (counts t ≡ counts s)
@@ -221,7 +219,7 @@ reads-again text _ (file {version} {scalars} {words} {items} {units} {s} {t} {u}
     let g = items-again words its (skip (skip x.0)) q.0 w2 in
     let sz2 : g.0.size ≡ size = g.2 ∙ sz in
     let w3 : Walks (flat_map (unit_lines scalars) units) g.0.size g.0.left [] = rw (g.3, sz2) q.2 in
-    let old : u.version ≡ version = ap (λ (k : Counts). k.version) (items-kept words its ∙ scalars-kept scs) ∙ version-kept vers in
+    let old : u.version ≡ version = ap (λ (k : Counts). k.version) (items-kept words its ∙ scalars-kept scs) ∙ version-of vers in
     let new : g.0.version ≡ version = ap (λ (k : Counts). k.version) (g.4 ∙ x.4) ∙ y.4 in
     let h = units-again scalars us g.0 [] (new ∙ sym old) w3 in
     file len2 y.1 x.1 z1 z2 le g.1 h.1 (ap (λ (k : List Spot). (first h.0.size k).token) h.3)

@@ -39,9 +39,10 @@ use Rattle.canonical.specs.Scripts.{operand, signed_operand, command_of, next_co
 use Rattle.canonical.specs.Contents.{version_line, scalar_line, memory_line, next_value, value_list, item_line, labels_in, unit_lines, pieces}
 use Rattle.canonical.proofs.Stated.{statement-let, statement-set, statement-store, statement-if, otherwise-some, lines-last}
 use Rattle.canonical.proofs.Nested.{loops-more}
-use Rattle.canonical.proofs.ScriptsAgain.{flat_map-last, body, body-last, commands-body, commands-some}
+use Rattle.canonical.proofs.ScriptsAgain.{body, body-last, commands-body, commands-some}
 use Rattle.canonical.proofs.ContentsAgain.{values-last, values-some}
 use Rattle.canonical.proofs.Fewest.{count, count-append, count-line, used, used-mark, used-name, used-number, fewest-expression}
+use Rattle.canonical.proofs.Texts.{flat_map-last}
 
 count-let : (l : Labels) (k : ℕ) (e : Expr) (depth : ℕ) → count (statement_of l (Let k e) depth) ≡ 3 + count (expression_of l e)
 unfolding let_line

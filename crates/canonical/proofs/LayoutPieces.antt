@@ -1,12 +1,12 @@
 -- Pieces that are laid out so that no token is lengthened by what stands behind it are read as their words.
-use Rattle.std.proofs.Common.{◌≡◌, ℕ, zero, suc, ◌*◌, List, [], ◌∷◌, ◌++◌, length, map, drop, replicate, refl, sym, ◌∙◌, ap, arith, Some, None, Bool, true, false, ◌==◌, pos}
+use Rattle.std.proofs.Common.{◌≡◌, ℕ, zero, suc, ◌*◌, List, [], ◌∷◌, ◌++◌, length, map, drop, replicate, refl, sym, ◌∙◌, ap, arith, Some, None, Bool, true, false, pos}
 use Rattle.nest_tokens.specs.declared.token.Mark.{Mark}
 use Rattle.nest_tokens.specs.declared.token.Mark.TheVariants as mark
 use Rattle.nest_tokens.specs.declared.token.Token.{Token}
 use Rattle.nest_tokens.specs.declared.token.Token.TheVariants as token
 use Rattle.nest_tokens.specs.declared.token.Spot.{Spot}
 use Rattle.nest_tokens.specs.Tokens.{spelling}
-use Rattle.nest_tokens.specs.Lexing.{is_letter, is_digit, is_name_byte, is_blank, between, gap, name_of, Lexed, lexed, spots, tokens_from}
+use Rattle.nest_tokens.specs.Lexing.{is_letter, is_digit, is_name_byte, between, gap, name_of, Lexed, lexed, spots, tokens_from}
 use Rattle.nest_tokens.specs.Division.{Begins, Stops}
 use Rattle.nest_tokens.proofs.Places.{tokens-gap, tokens-cons}
 use Rattle.nest_tokens.specs.Spellings.{name_text}
@@ -17,6 +17,7 @@ use Rattle.nest_tokens.proofs.Spelled.{name_text-name_of}
 use Rattle.nest_tokens.proofs.Spelled.{drop-front}
 use Rattle.canonical.proofs.LayoutTokens.{lexed-name, lexed-number, number-begins}
 use Rattle.canonical.proofs.LayoutMarks.{is_word, lexed-word, is_equals, sign-begins, word-begins, lexed-sign}
+use Rattle.nest_tokens.proofs.OneDivision.{letter-solid, digit-solid}
 
 -- behind a space or a line's end, behind a name, a number or a reserved word, behind a sign
 pub data State : Type 0 where
@@ -204,14 +205,6 @@ token-from : (t : Token) (s rest : List ℕ) (size : ℕ) (p : ℕ → Bool) →
 token-from t [] rest size p up b h = absurd b
 token-from t (c ∷ cs) rest size p up b h = one-token t c cs rest size (up c b) h
 
-letter-begins : (b : ℕ) → is_letter b ≡ true → between false b ≡ None
-unfolding between
-letter-begins b h = let k : is_blank b ≡ false = grind arith in let j : (b == 35) ≡ false = grind arith in rw (k, j) refl
-
-digit-begins : (b : ℕ) → is_digit b ≡ true → between false b ≡ None
-unfolding between
-digit-begins b h = let k : is_blank b ≡ false = grind arith in let j : (b == 35) ≡ false = grind arith in rw (k, j) refl
-
 begins_token : ℕ → Bool
 begins_token b = elim (between false b) as (λ o. Bool) [ None ↦ true | Some c ↦ false ]
 
@@ -250,13 +243,13 @@ unfolding token_text is_sign
 token-read (token.Name n) ps size w h a =
     let e : name_text n ≡ w.0 = ap name_text w.1 ∙ name_text-name_of w.0 w.4 in
     let k : Stops is_name_byte (text_of ps) = worded-stops ps h in
-    rw (e, w.1) (token-from (token.Name (name_of w.0)) w.0 (text_of ps) size is_letter letter-begins w.3 (lexed-name w.0 (text_of ps) w.2 w.3 w.4 w.5 k))
+    rw (e, w.1) (token-from (token.Name (name_of w.0)) w.0 (text_of ps) size is_letter letter-solid w.3 (lexed-name w.0 (text_of ps) w.2 w.3 w.4 w.5 k))
 token-read (token.Number z) ps size w h a =
     let k : Stops is_name_byte (text_of ps) = worded-stops ps h in
-    rw (w.1) (token-from (token.Number (pos w.0)) _ (text_of ps) size is_digit digit-begins (number-begins w.0 w.2) (lexed-number w.0 (text_of ps) w.2 k))
+    rw (w.1) (token-from (token.Number (pos w.0)) _ (text_of ps) size is_digit digit-solid (number-begins w.0 w.2) (lexed-number w.0 (text_of ps) w.2 k))
 token-read (token.Plain m) ps size w h a = elim (is_sign (token.Plain m)) as (λ b. is_sign (token.Plain m) ≡ b → Laid (behind b) ps → shown (tokens_from size (spelling m ++ text_of ps)) ≡ token.Plain m ∷ shown (tokens_from size (text_of ps))) [
   | true ↦ λ e k. (let q : is_word m ≡ false = sign-word m e in token-from (token.Plain m) (spelling m) (text_of ps) size begins_token begun (sign-begun m q) (lexed-sign m (text_of ps) q (signed-stops ps k a)))
-  | false ↦ λ e k. (let q : is_word m ≡ true = word-sign m e in token-from (token.Plain m) (spelling m) (text_of ps) size is_letter letter-begins (word-begins m q) (lexed-word m (text_of ps) q (worded-stops ps k)))
+  | false ↦ λ e k. (let q : is_word m ≡ true = word-sign m e in token-from (token.Plain m) (spelling m) (text_of ps) size is_letter letter-solid (word-begins m q) (lexed-word m (text_of ps) q (worded-stops ps k)))
 ] refl h
 token-read (token.Bad b) ps size w h a = absurd w
 token-read token.End ps size w h a = absurd w

@@ -171,7 +171,7 @@ if_proper : (l : Labels) (e : Expr) (xs ys : List Stmt) → Proper (expression_o
 unfolding if_line
 if_proper l e xs ys x h k depth = subst Proper (sym (statement-if l e xs ys depth)) (((lined depth (if_line l e) (marked mark.If cons space cons (x then (space cons marked mark.OpenBrace))) then h (depth + 1)) then else_proper l ys k depth) then lined depth close_line close_proper)
 
-nothing_proper : (l : Labels) (depth : ℕ) → Proper (statement_lines l [] depth)
+pub nothing_proper : (l : Labels) (depth : ℕ) → Proper (statement_lines l [] depth)
 unfolding statement_lines
 nothing_proper l depth = proper-none
 

@@ -41,7 +41,7 @@ use Rattle.canonical.proofs.ContentsAgain.{scalars-agree, named-from}
 use Rattle.canonical.proofs.Walking.{Walks}
 use Rattle.canonical.proofs.LayoutFile.{file-walks}
 use Rattle.canonical.proofs.LayoutWritten.{tokens-writable}
-use Rattle.canonical.proofs.Proper.{Proper, proper-none, ◌then◌, ◌cons◌, space, marked, worded, apart, lined, Good, good-skip, good-block, name-written, number-written, expression-proper, close_proper, block-proper}
+use Rattle.canonical.proofs.Proper.{Proper, nothing_proper, proper-none, ◌then◌, ◌cons◌, space, marked, worded, apart, lined, Good, good-skip, good-block, name-written, number-written, expression-proper, close_proper, block-proper}
 
 -- Lists
 
@@ -107,10 +107,6 @@ begun-proper l level names x pre {h} {s} {t} {u} agree at i b g =
     let inner : AgreesAll (inside names level x.counter) l = agrees-inside l level names x.counter agree (λ z. labelled l level z x x.counter at refl) in
     let z = block-proper l (inside names level x.counter) (skip t) pre x.pre u b (inner x.pre) (good-skip t y.1) in
     (lined level (heading_of (in_head l) level h ++ Space ∷ plain mark.OpenBrace ∷ []) (y.0 then (space cons marked mark.OpenBrace)) then subst (λ (q : Labels). Proper (statement_lines q pre (level + 1))) (sym k) (z.0 (level + 1)), z.1)
-
-nothing_proper : (l : Labels) (depth : ℕ) → Proper (statement_lines l [] depth)
-unfolding statement_lines
-nothing_proper l depth = proper-none
 
 loops-proper : (l : Labels) {d level : ℕ} {names : Names} {s : Sight} {ls : List Loop} {ns : List LoopNames} {t : Sight} → IsLoops d level names s ls ns t → AgreesAll names l → Named l level ns → Good s → Proper (loop_lines l level ls) × Good t
 unfolding loop_lines

@@ -1,7 +1,6 @@
 -- What was read of candidates is read again from their canonical lines.
 use Rattle.std.proofs.Common.{◌≡◌, ℕ, ◌<◌, pos, List, [], ◌∷◌, ◌++◌, length, refl, sym, ◌∙◌, ap, arith, Some, subst, append_assoc, append-nil}
 use Rattle.std.specs.List.{flat_map}
-use Rattle.std.proofs.lemmas.Grind.{flat_map-append}
 use Rattle.nest_lang.specs.declared.command.Command.{Command}
 use Rattle.nest_tokens.specs.declared.token.Mark.TheVariants as mark
 use Rattle.nest_tokens.specs.declared.token.Token.TheVariants as token
@@ -17,9 +16,7 @@ use Rattle.canonical.specs.Pieces.{Piece, Space, Newline, plain, signed, line}
 use Rattle.canonical.specs.Scripts.{operand, command_of, next_command, commands_of, candidate_line}
 use Rattle.canonical.proofs.Walking.{Walks, walks-append, counts}
 use Rattle.canonical.proofs.LoopsAgain.{signed-again, signed-kept}
-
-pub flat_map-last : {X Y : Type 0} (f : X → List Y) (xs : List X) (x : X) → flat_map f (xs ++ x ∷ []) ≡ flat_map f xs ++ f x
-flat_map-last {X} {Y} f xs x = flat_map-append f xs (x ∷ []) ∙ ap (λ (l : List Y). flat_map f xs ++ l) (append-nil (f x))
+use Rattle.canonical.proofs.Texts.{flat_map-last}
 
 word-read : (w : CommandWord) → command_word (token.Name (name_of (word_spelling w))) ≡ Some w
 unfolding command_word word_of_name word_spelling

@@ -1,8 +1,7 @@
 -- Statements, one equation for each of them.
 use Rattle.std.proofs.Common.{◌≡◌, ℕ, ◌+◌, List, [], ◌∷◌, ◌++◌, ◌*◌, ◌<◌, ◌==◌, true, refl, sym, ap, ◌∙◌, arith, rules, append-nil, append_assoc, map, length, take, get_or, replicate}
-use Rattle.std.proofs.lemmas.Grind.{flat_map-append}
 use Rattle.std.proofs.lemmas.List.Folds.{flat_map-map}
-use Rattle.canonical.proofs.Texts.{text-nil, text-append, text-line, text-more}
+use Rattle.canonical.proofs.Texts.{flat_map-last, text-nil, text-append, text-line, text-more}
 use Rattle.std.specs.List.{flat_map}
 use Rattle.nest_lang.specs.declared.tree.Expr.{Expr}
 use Rattle.nest_lang.specs.declared.tree.Stmt.{Stmt, the_lemmas}
@@ -58,9 +57,6 @@ pub text-next : (l : Labels) (depth : ℕ) (sts : List Stmt) (i : ℕ) (st : Stm
 text-next l depth sts i st old page new h item so next =
     let f : Stmt → List Piece = λ x. statement_of l x depth in
     text-more f sts i st old page new h item (so ∙ ap (λ (ps : List Piece). old ++ text_of ps) (each-is l (take i sts) depth)) next ∙ sym (ap (λ (ps : List Piece). old ++ text_of ps) (each-is l (take (i + 1) sts) depth))
-
-flat_map-last : {X : Type 0} (f : X → List Piece) (xs : List X) (x : X) → flat_map f (xs ++ x ∷ []) ≡ flat_map f xs ++ f x
-flat_map-last f xs x = flat_map-append f xs (x ∷ []) ∙ ap (λ (l : List Piece). flat_map f xs ++ l) (append-nil (f x))
 
 -- the lines of statements with one more behind them
 pub lines-last : (l : Labels) (sts : List Stmt) (st : Stmt) (depth : ℕ) → statement_lines l (sts ++ st ∷ []) depth ≡ statement_lines l sts depth ++ statement_of l st depth

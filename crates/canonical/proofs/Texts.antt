@@ -56,8 +56,8 @@ pub text-line : (depth : ℕ) (ps : List Piece) → text_of (line depth ps) ≡ 
 unfolding line text_of piece_text
 text-line depth ps = ap (λ (l : List ℕ). replicate (2 * depth) 32 ++ l) (flat_map-append piece_text ps (Newline ∷ []))
 
-flat_map-last : {X : Type 0} (f : X → List Piece) (xs : List X) (x : X) → flat_map f (xs ++ x ∷ []) ≡ flat_map f xs ++ f x
-flat_map-last f xs x = flat_map-append f xs (x ∷ []) ∙ ap (λ (l : List Piece). flat_map f xs ++ l) (append-nil (f x))
+pub flat_map-last : {X Y : Type 0} (f : X → List Y) (xs : List X) (x : X) → flat_map f (xs ++ x ∷ []) ≡ flat_map f xs ++ f x
+flat_map-last {X} {Y} f xs x = flat_map-append f xs (x ∷ []) ∙ ap (λ (l : List Y). flat_map f xs ++ l) (append-nil (f x))
 
 -- the text of pieces with a sign behind them
 pub text-closed : (ps : List Piece) (m : Mark) → text_of (ps ++ Word (token.Plain m) ∷ []) ≡ text_of ps ++ spelling m

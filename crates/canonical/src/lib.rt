@@ -20,7 +20,5 @@ mod loops;
 mod page;
 mod script;
 mod statement;
-#[cfg(test)]
-mod tests;
 
 pub use contents::write_nest;

@@ -8,7 +8,6 @@ use Rattle.nest_lang.specs.declared.tree.Loop.{Loop}
 use Rattle.nest_lang.specs.Blocks.{loop_at}
 use Rattle.nest_lang.specs.Places.{head_places}
 use Rattle.nest_lang.specs.Rules.{loops_keep, IsWithin, BlockKeeps, HeadKeeps, LoopKeeps, NestKeeps}
-use Rattle.nest_lang.proofs.PlaceLaws.{block_size-nil}
 use Rattle.nest_tokens.specs.declared.token.Name.{Name}
 use Rattle.nest_grammar.specs.declared.version.Version.{Version}
 use Rattle.nest_grammar.specs.declared.file.LoopNames.{LoopNames}
@@ -17,9 +16,10 @@ use Rattle.nest_grammar.specs.Sights.{Sight}
 use Rattle.nest_grammar.specs.Names.{Names}
 use Rattle.nest_grammar.specs.Grammar.{IsHeading, IsBlock, IsLoops, IsUnit, IsUnits}
 use Rattle.nest_grammar.specs.Grammar as grammar
-use Rattle.grammar_laws.proofs.RuleAccesses.{block-numbered, heading-numbered, none-numbered}
-use Rattle.grammar_laws.proofs.RulePlaces.{AreWithin, within-inside, block-within, heading-within, none-within}
+use Rattle.grammar_laws.proofs.RuleAccesses.{block-numbered, heading-numbered}
+use Rattle.grammar_laws.proofs.RulePlaces.{AreWithin, within-inside, block-within, heading-within}
 use Rattle.grammar_laws.proofs.RuleSizes.{Left, skip-left, heading-left, block-left, loops-left, units-left}
+use Rattle.nest_lang.proofs.BlocksComputed.{empty-keeps}
 
 -- a sight from which on a text is short enough
 abbrev pub Short : Sight → Type 0
@@ -27,9 +27,6 @@ Short s = Left s < 2 ^ 20
 
 block-keeps : {scalars level : ℕ} {names : Names} {s t : Sight} {xs : List Stmt} {lets : List Name} → AreWithin scalars level names → Short s → IsBlock names s xs lets t → BlockKeeps scalars level xs
 block-keeps {scalars} {level} all short b = let left = block-left b in record { accesses = block-numbered b; places = block-within scalars level all b; size = omega (arith, left, short) }
-
-none-keeps : (scalars level : ℕ) → BlockKeeps scalars level []
-none-keeps scalars level = record { accesses = none-numbered; places = none-within scalars level; size = let none = block_size-nil in omega (arith, none) }
 
 heading-keeps : {scalars level : ℕ} {names : Names} {s t : Sight} {h : Head} {n : Option Name} → AreWithin scalars level names → IsHeading names s h n t → HeadKeeps scalars (suc level) h
 heading-keeps {scalars} {level} {h = h} all i =
@@ -58,7 +55,7 @@ levels-keep {scalars} all short (grammar.innermost {d} {level} {names} {h} {n} {
     let brace = skip-left t in
     let in_body = within-inside scalars level names n all in
     levels-cons scalars level (record { head = h; pre = pre; post = [] }) []
-    (record { head = heading-keeps all i; pre = block-keeps in_body (omega (arith, head, brace, short)) b; post = none-keeps scalars (suc level) }) (levels-none scalars (suc level))
+    (record { head = heading-keeps all i; pre = block-keeps in_body (omega (arith, head, brace, short)) b; post = empty-keeps scalars (suc level) }) (levels-none scalars (suc level))
 levels-keep {scalars} all short (grammar.outer {d} {level} {names} {h} {n} {pre} {post} {lets} {post_lets} {ls} {ns} {s} {t} {u} {v} {w} i o b l q c) =
     let head = heading-left i in
     let brace = skip-left t in

@@ -1,5 +1,5 @@
 -- Steps: what each small reading gives where the grammar goes on, and what stood there where it gave that.
-use Rattle.std.proofs.Common.{◌≡◌, ℕ, ◌<◌, ℤ, pos, refl, ◌∙◌, ap, subst, Option, Some, None, Result, Ok, Err, Bool, true, false, cond, nat_lt}
+use Rattle.std.proofs.Common.{◌≡◌, ℕ, ◌<◌, ℤ, pos, refl, ◌∙◌, ap, subst, Option, Some, None, Result, Ok, Bool, true, false, cond, nat_lt}
 use Rattle.std.proofs.lemmas.Bool.{lt-ltb, ltb-true}
 use Rattle.nest_lang.specs.declared.tree.Place.{Place}
 use Rattle.nest_lang.specs.declared.tree.Place.TheVariants as place
@@ -19,6 +19,7 @@ use Rattle.nest_grammar.specs.Readings.{Reading, after, ◌>>=◌, gives, refuse
 use Rattle.nest_grammar.specs.Names.{Names, place_of, fresh, fresh_at, unless_known, target, if_scalar}
 use Rattle.nest_grammar.specs.Expressions.{taken, closed, access}
 use Rattle.nest_grammar.specs.Grammar.{Room, AccessRoom, SeesNumber, SeesName, IsSigned, unsigned, negative}
+use Rattle.nest_grammar.proofs.Many.{bind_ok}
 
 -- What each gives.
 
@@ -83,10 +84,6 @@ end-is s h = rw h
 
 pub given : {A : Type 0} (a : A) (s : Sight) (x : A × Sight) → gives a s ≡ Ok x → x ≡ (a, s)
 given a s x h = cc
-
-pub read-then : {A B : Type 0} (r : Result (A × Sight) TextFault) (go : A → Reading B) (y : B × Sight) → after r go ≡ Ok y → (x : A × Sight) × (r ≡ Ok x) × (go x.0 x.1 ≡ Ok y)
-read-then (Ok x) go y h = (x, refl, h)
-read-then (Err e) go y h = absurd (cc)
 
 pub need-then : {B : Type 0} (m : Mark) (go : Unit {0} → Reading B) (s : Sight) (y : B × Sight) → after (need m s) go ≡ Ok y → Sees m s × (go tt (skip s) ≡ Ok y)
 unfolding need refused
@@ -153,12 +150,12 @@ pub signed-then : {B : Type 0} (rule : ℤ → Bool) (what : TextKind) (go : ℤ
 unfolding signed_where minus
 signed-then {B} rule what go s y h = elim (is_mark mark.Minus (stands s)) as (λ b. is_mark mark.Minus (stands s) ≡ b → after (after (cond b (Ok (true, skip s)) (Ok (false, s))) (λ negative. number_where (λ n. rule (with_sign negative n)) what >>= λ n. gives (with_sign negative n))) go ≡ Ok y → (v : ℤ) × (t : Sight) × IsSigned s v t × (rule v ≡ true) × (go v t ≡ Ok y)) [
   | true ↦ λ e k. (
-      let f = read-then (after (number_where (λ n. rule (with_sign true n)) what (skip s)) (λ n. gives (with_sign true n))) go y k in
+      let f = bind_ok (after (number_where (λ n. rule (with_sign true n)) what (skip s)) (λ n. gives (with_sign true n))) go y k in
       let g = number-then (λ n. rule (with_sign true n)) what (λ n. gives (with_sign true n)) (skip s) f.0 f.1 in
       let q = given (with_sign true g.0) (skip (skip s)) f.0 g.3 in
       (with_sign true g.0, skip (skip s), negative (is_mark-true mark.Minus (stands s) e) g.1, g.2, subst (λ (x : ℤ × Sight). go x.0 x.1 ≡ Ok y) q f.2))
   | false ↦ λ e k. (
-      let f = read-then (after (number_where (λ n. rule (with_sign false n)) what s) (λ n. gives (with_sign false n))) go y k in
+      let f = bind_ok (after (number_where (λ n. rule (with_sign false n)) what s) (λ n. gives (with_sign false n))) go y k in
       let g = number-then (λ n. rule (with_sign false n)) what (λ n. gives (with_sign false n)) s f.0 f.1 in
       let q = given (with_sign false g.0) (skip s) f.0 g.3 in
       (pos g.0, skip s, unsigned g.1, g.2, subst (λ (x : ℤ × Sight). go x.0 x.1 ≡ Ok y) q f.2))

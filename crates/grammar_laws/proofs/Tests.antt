@@ -1,6 +1,6 @@
 -- Tests: what the tests of the readings tell of numbers and tokens.
-use Rattle.std.proofs.Common.{◌≡◌, ℕ, refl, ap, Some, None, Bool, true, false, cond}
-use Rattle.std.specs.Prelude.{◌≢◌, ◌==◌, ◌&&◌, not}
+use Rattle.std.proofs.Common.{◌≡◌, ℕ, refl, ap, Some, None, true, false, cond}
+use Rattle.std.specs.Prelude.{◌≢◌, ◌==◌, not}
 use Rattle.std.proofs.lemmas.Bool.{eq-eqb, eqb-true}
 use Rattle.nest_tokens.specs.declared.token.Mark.{Mark}
 use Rattle.nest_tokens.specs.Tokens.{is_mark}
@@ -8,11 +8,6 @@ use Rattle.nest_tokens.proofs.Marks.{is_mark-true}
 use Rattle.nest_grammar.specs.Sights.{Sight, stands, Sees}
 use Rattle.nest_grammar.specs.Readings.{at_mark}
 use Rattle.grammar_laws.proofs.Steps.{sees-is}
-
-pub both : (a b : Bool) → (a && b) ≡ true → (a ≡ true) × (b ≡ true)
-both true true h = (refl, refl)
-both true false h = absurd (cc)
-both false b h = absurd (cc)
 
 pub not-equal : (a b : ℕ) → a ≢ b → not (a == b) ≡ true
 not-equal a b h = elim (a == b) as (λ c. (a == b) ≡ c → not c ≡ true) [ true ↦ λ e. absurd (h (eqb-true a b e)) | false ↦ λ e. refl ] refl

@@ -1,5 +1,5 @@
 -- The accesses of each expression, statement and block, one level at a time.
-use Rattle.std.proofs.Common.{append-nil, append_assoc, length-append, ◌≡◌, refl, ap, ◌∙◌, sym, ℕ, ℤ, ◌<◌, ◌≤◌, ◌+◌, length, drop, get_or, List, [], ◌∷◌, ◌++◌, map, rules}
+use Rattle.std.proofs.Common.{append-nil, append_assoc, length-append, ◌≡◌, refl, ap, ◌∙◌, sym, ℕ, ℤ, ◌<◌, ◌≤◌, ◌+◌, length, drop, get_or, List, [], ◌∷◌, ◌++◌, map, Option, Some, None, rules, arith}
 use Rattle.std.specs.List.{flat_map}
 use Rattle.std.proofs.lemmas.List.Folds.{flat_map-map}
 use Rattle.std.proofs.lemmas.List.Concat.{flat_map-append}
@@ -13,7 +13,13 @@ use Rattle.nest_lang.specs.declared.tree.Place.{Place}
 use Rattle.nest_lang.specs.declared.tree.Stmt.{Stmt}
 use Rattle.nest_lang.specs.declared.tree.Stmt as stmt
 use Rattle.nest_lang.specs.declared.tree.Stmt.TheVariants as statement
-use Rattle.nest_lang.specs.Accesses.{load, store, expression_accesses, statement_accesses, block_accesses}
+use Rattle.nest_lang.specs.declared.tree.BlockRef.{BlockRef}
+use Rattle.nest_lang.specs.declared.tree.Loop.{Loop}
+use Rattle.nest_lang.specs.declared.tree.Part.{Part}
+use Rattle.nest_lang.specs.declared.tree.Part.TheVariants as part
+use Rattle.nest_lang.specs.Accesses.{load, store, expression_accesses, statement_accesses, block_accesses, part_accesses, accesses_by, accesses_of}
+use Rattle.nest_lang.specs.Blocks.{loop_at}
+use Rattle.nest_lang.specs.Rules.{LoopKeeps, NestKeeps}
 
 pub expression_accesses-number : (n : ℤ) → expression_accesses (Number n) ≡ []
 unfolding expression_accesses
@@ -78,3 +84,16 @@ pub ruleset statement_levels = (expression_levels, block_accesses-nil, block_acc
 pub block_accesses-push : (xs : List Stmt) (x : Stmt) → block_accesses (xs ++ x ∷ []) ≡ block_accesses xs ++ statement_accesses x
 unfolding block_accesses
 block_accesses-push xs x = flat_map-append statement_accesses xs (x ∷ []) ∙ ap (λ (ys : List Access). flat_map statement_accesses xs ++ ys) (append-nil (statement_accesses x))
+
+-- a block of a nest that keeps the rules has at most 64 accesses
+part_accesses-within : {scalars level : ℕ} (p : Part) (l : Loop) → LoopKeeps scalars level l → length (part_accesses p l) ≤ 64
+part_accesses-within part.Head l k = k.head.accesses.1
+part_accesses-within part.Pre l k = k.pre.accesses.1
+part_accesses-within part.Post l k = k.post.accesses.1
+
+found-within : {scalars level : ℕ} (p : Part) (found : Option Loop) → ((l : Loop) → found ≡ Some l → LoopKeeps scalars level l) → length (accesses_by p found) ≤ 64
+found-within p None k = omega arith
+found-within p (Some l) k = part_accesses-within p l (k l refl)
+
+pub accesses_of-within : {scalars : ℕ} {loops : List Loop} → NestKeeps scalars loops → (block : BlockRef) → length (accesses_of loops block) ≤ 64
+accesses_of-within {loops = loops} k block = found-within block.part (loop_at loops block.level) (k.each block.level)

@@ -15,6 +15,7 @@ use Rattle.nest_lang.specs.Statements.{instance_trace}
 use Rattle.nest_lang.specs.Heads.{Yield, Bounds, Tested, head_of, head_step, headed}
 use Rattle.nest_lang.specs.Loops.{Around, outside, frame_of, turn_trace, turns_from, turns_of, turn_if, whiles_from, loop_by, loops_trace}
 use Rattle.nest_lang.specs.Runs.{nest_trace, nests_trace}
+use Rattle.plain_lemmas.proofs.ListLaws.{take-same}
 
 -- both have m entries, the same ones
 pub record BothLong (m : ℕ) (t u : Trace) : Type 0 where
@@ -36,24 +37,15 @@ alike-same m t = inl refl
 pub alike-zero : (t u : Trace) → Alike 0 t u
 alike-zero t u = inr (record { same = refl; first = omega arith; second = omega arith })
 
-pub take-less : {A : Type 0} (k m : ℕ) (xs ys : List A) → k ≤ m → take m xs ≡ take m ys → take k xs ≡ take k ys
-take-less k m xs ys h e = sym (take-take k m xs h) ∙ ap (take k) e ∙ take-take k m ys h
-  where
-    take-take : {A : Type 0} (k m : ℕ) (xs : List A) → k ≤ m → take k (take m xs) ≡ take k xs
-    take-take zero m xs h = refl
-    take-take (suc k) zero xs h = absurd (omega arith)
-    take-take (suc k) (suc m) [] h = refl
-    take-take (suc k) (suc m) (x ∷ xs) h = ap (λ z. x ∷ z) (take-take k m xs (omega arith))
-
 pub alike-less : (k m : ℕ) (t u : Trace) → k ≤ m → Alike m t u → Alike k t u
 alike-less k m t u h (inl e) = inl e
-alike-less k m t u h (inr b) = inr (record { same = take-less k m t.entries u.entries h b.same; first = omega (arith, b.first); second = omega (arith, b.second) })
+alike-less k m t u h (inr b) = inr (record { same = take-same k m t.entries u.entries h b.same; first = omega (arith, b.first); second = omega (arith, b.second) })
 
 -- after a common beginning
 long-behind : (m : ℕ) (es : List Entry) (xs ys : List Entry) → take m xs ≡ take m ys → take m (es ++ xs) ≡ take m (es ++ ys)
 long-behind m [] xs ys e = e
 long-behind zero (x ∷ es) xs ys e = refl
-long-behind (suc m) (x ∷ es) xs ys e = ap (λ z. x ∷ z) (long-behind m es xs ys (take-less m (suc m) xs ys (omega arith) e))
+long-behind (suc m) (x ∷ es) xs ys e = ap (λ z. x ∷ z) (long-behind m es xs ys (take-same m (suc m) xs ys (omega arith) e))
 
 alike-joined : (m : ℕ) (halt : Option Halt) (es : List Entry) (t u : Trace) → Alike m t u → Alike m (joined halt es t) (joined halt es u)
 alike-joined m (Some halt) es t u a = inl refl
@@ -98,11 +90,11 @@ pub alike-headed : (m : ℕ) (f : Frame) (head : Head) (p q : Yield → List (St
 alike-headed m f head p q s a = alike-traced m _ (head_of f head s).seen (head_of f head s).value p q s a
 
 -- a turn, from what is inside of it
-alike-around : (m : ℕ) (pre post f g : Store → Trace) → AlikeOn m f g → AlikeOn m (in_turn (pre ∷ f ∷ post ∷ [])) (in_turn (pre ∷ g ∷ post ∷ []))
+pub alike-around : (m : ℕ) (pre post f g : Store → Trace) → AlikeOn m f g → AlikeOn m (in_turn (pre ∷ f ∷ post ∷ [])) (in_turn (pre ∷ g ∷ post ∷ []))
 alike-around m pre post f g inner s =
     alike-and_then m s (pre s) (pre s) (in_turn (f ∷ post ∷ [])) (in_turn (g ∷ post ∷ [])) (inl refl) (alike-two m f g post post inner (λ t. inl refl))
 
-alike-turn : (m : ℕ) (x : Expectation) (level : ℕ) (l : Loop) (f g : Around → Store → Trace) (a : Around) → AlikeOn m (f a) (g a) → AlikeOn m (turn_trace x level l f a) (turn_trace x level l g a)
+pub alike-turn : (m : ℕ) (x : Expectation) (level : ℕ) (l : Loop) (f g : Around → Store → Trace) (a : Around) → AlikeOn m (f a) (g a) → AlikeOn m (turn_trace x level l f a) (turn_trace x level l g a)
 unfolding turn_trace
 alike-turn m x level l f g a inner s =
     alike-around m (instance_trace (frame_of x part.Pre level a) l.pre) (instance_trace (frame_of x part.Post level a) l.post) (f a) (g a) inner s
@@ -171,7 +163,7 @@ pub cut-alike : (t u : Trace) (s : Store) (left used : ℕ) → Alike (left + 1)
 cut-alike t u s left used (inl e) = ap (λ z. cut z s left used) e
 cut-alike t u s left used (inr b) =
     cut-long t s left used (omega (arith, b.first))
-    ∙ ap (λ es. cut_of (after_all s es) 0 (used + left) Limited) (take-less left (left + 1) t.entries u.entries (omega arith) b.same)
+    ∙ ap (λ es. cut_of (after_all s es) 0 (used + left) Limited) (take-same left (left + 1) t.entries u.entries (omega arith) b.same)
     ∙ sym (cut-long u s left used (omega (arith, b.second)))
 
 seen_of-take : (es : List Entry) (n : ℕ) → seen_of (take (suc n) es) n ≡ seen_of es n
@@ -185,5 +177,5 @@ unfolding seen_in
 seen-alike t u left (inl e) = ap (λ z. seen_of z.entries left) e
 seen-alike t u left (inr b) =
     sym (seen_of-take t.entries left)
-    ∙ ap (λ es. seen_of es left) (take-less (suc left) (left + 1) t.entries u.entries (omega arith) b.same)
+    ∙ ap (λ es. seen_of es left) (take-same (suc left) (left + 1) t.entries u.entries (omega arith) b.same)
     ∙ seen_of-take u.entries left

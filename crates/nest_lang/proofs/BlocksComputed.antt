@@ -38,7 +38,7 @@ head-keeps : (scalars level : ℕ) (head : Head) (accesses : List Access) (place
 head-keeps scalars level head accesses places is numbered are within =
     record { accesses = subst AreNumbered (sym is) numbered; places = subst (All (IsWithin scalars (level - 1))) (sym are) within }
 
-empty-keeps : (scalars level : ℕ) → BlockKeeps scalars level []
+pub empty-keeps : (scalars level : ℕ) → BlockKeeps scalars level []
 empty-keeps scalars level = block-keeps scalars level [] [] [] 0 (simp statement_levels refl) (refl, omega arith) (simp place_levels refl) (All-nil (IsWithin scalars level)) (simp size_levels refl) (omega arith)
 
 guarded-outer : (l : Loop) → loop_of (While (Var (Scalar 0))) [] (statement.Set 0 (Number (pos 0)) ∷ []) ≡ l → LoopKeeps 1 1 l

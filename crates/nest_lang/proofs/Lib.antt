@@ -14,6 +14,7 @@ pub mod RunLemmas
 pub mod RunsComputed
 pub mod Sizes
 pub mod StatementLemmas
+pub mod StepLaws
 pub mod StopsShort
 pub mod TraceLaws
 pub mod TurnLaws

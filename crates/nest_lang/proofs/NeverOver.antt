@@ -1,12 +1,12 @@
 -- Expressions, blocks and loops never halt since there is no further turn of the outermost loop.
-use Rattle.std.proofs.Common.{◌≡◌, sym, subst, ℕ, ℤ, pos, zero, suc, ◌+◌, Bool, true, false, List, [], ◌∷◌, map, Option, Some, None, Result, Ok, Err}
+use Rattle.std.proofs.Common.{sym, subst, ℕ, ℤ, pos, zero, suc, ◌+◌, Bool, true, false, List, [], ◌∷◌, map, Option, Some, None, Result, Ok, Err}
 use Rattle.std.specs.Prelude.{if◌then◌else◌}
 use Rattle.nest_lang.specs.declared.tree.Expr.{Expr, map-Expr, roll-Expr}
 use Rattle.nest_lang.specs.declared.tree.Expr.TheOpen.{Expr-F}
-use Rattle.nest_lang.specs.declared.tree.Expr.TheFolds.{fold-roll-Expr, ind-Expr}
+use Rattle.nest_lang.specs.declared.tree.Expr.TheFolds.{ind-Expr}
 use Rattle.nest_lang.specs.declared.tree.Stmt.{Stmt, map-Stmt, roll-Stmt}
 use Rattle.nest_lang.specs.declared.tree.Stmt.TheOpen.{Stmt-F}
-use Rattle.nest_lang.specs.declared.tree.Stmt.TheFolds.{fold-roll-Stmt, ind-Stmt}
+use Rattle.nest_lang.specs.declared.tree.Stmt.TheFolds.{ind-Stmt}
 use Rattle.nest_lang.specs.declared.tree.Head.{Head}
 use Rattle.nest_lang.specs.declared.tree.Head.TheVariants.{For, While}
 use Rattle.nest_lang.specs.declared.tree.Loop.{Loop}
@@ -22,6 +22,7 @@ use Rattle.nest_lang.specs.Expressions.{Frame, Told, then_tell, or_trapped, or_s
 use Rattle.nest_lang.specs.Statements.{with_value, stored, statement_level, statement_trace, block_trace, started, instance_trace}
 use Rattle.nest_lang.specs.Heads.{Yield, Bounds, Tested, Headed, then_head, head_of, head_step, headed}
 use Rattle.nest_lang.specs.Loops.{Around, inward, frame_of, turn_trace, turns_from, turns_of, turn_if, whiles_from, loop_by, loops_trace}
+use Rattle.nest_lang.proofs.StepLaws.{told-rolled, statement-rolled}
 
 -- a halt, or none, for another reason
 abbrev pub IsOther : Halt → Type 0
@@ -59,10 +60,6 @@ module _ (f : Frame) (scalars locals : List ℤ) (find : ℕ → ℤ → Result 
   Tells : Expr → Type 0
   Tells e = FailsElse (told_by f scalars locals find e).value
 
-  told-rolled : (y : Expr-F Expr) → told_by f scalars locals find (roll-Expr y) ≡ expression_level f scalars locals find (map-Expr _ _ (told_by f scalars locals find) y)
-  unfolding told_by
-  told-rolled y = fold-roll-Expr Told (expression_level f scalars locals find) y
-
   level-else : (y : Expr-F ((e : Expr) × Tells e)) → FailsElse (expression_level f scalars locals find (map-Expr _ _ (told_by f scalars locals find) (map-Expr _ _ (λ e. e.0) y))).value
   unfolding Tells
   level-else (Expr-F.Number n) = tt
@@ -74,7 +71,7 @@ module _ (f : Frame) (scalars locals : List ℤ) (find : ℕ → ℤ → Result 
   tells : (e : Expr) → Tells e
   unfolding Tells
   tells = ind-Expr Tells (λ y z is. subst (λ w. Tells (roll-Expr w)) is
-      (subst (λ (p : Told). FailsElse p.value) (sym (told-rolled (map-Expr _ _ (λ e. e.0) z))) (level-else z)))
+      (subst (λ (p : Told). FailsElse p.value) (sym (told-rolled f scalars locals find (map-Expr _ _ (λ e. e.0) z))) (level-else z)))
 
 told-else : (f : Frame) (s : Store) (e : Expr) → FailsElse (told f s e).value
 unfolding Tells
@@ -107,10 +104,6 @@ module _ (f : Frame) where
   Runs : Stmt → Type 0
   Runs x = (s : Store) → GoesOn (statement_trace f x s).halt
 
-  statement-rolled : (y : Stmt-F Stmt) → statement_trace f (roll-Stmt y) ≡ (λ s. traced (statement_level f (map-Stmt _ _ (statement_trace f) y) s) s)
-  unfolding statement_trace
-  statement-rolled y = fold-roll-Stmt (Store → Trace) (λ z s. traced (statement_level f z s) s) y
-
   all-go : (xs : List ((x : Stmt) × Runs x)) (s : Store) → GoesOn (in_turn (map (statement_trace f) (map (λ e. e.0) xs)) s).halt
   unfolding Runs
   all-go [] s = tt
@@ -137,7 +130,7 @@ module _ (f : Frame) where
   statements-go : (x : Stmt) → Runs x
   unfolding Runs
   statements-go = ind-Stmt Runs (λ y z is. subst (λ w. Runs (roll-Stmt w)) is
-      (λ s. subst (λ (p : Store → Trace). GoesOn (p s).halt) (sym (statement-rolled (map-Stmt _ _ (λ e. e.0) z))) (level-goes z s)))
+      (λ s. subst (λ (p : Store → Trace). GoesOn (p s).halt) (sym (statement-rolled f (map-Stmt _ _ (λ e. e.0) z))) (level-goes z s)))
 
   pub instance-goes : (block : List Stmt) (s : Store) → GoesOn (instance_trace f block s).halt
   unfolding instance_trace block_trace Runs

@@ -1,5 +1,5 @@
 -- What runs depends on what is expected of its own accesses alone.
-use Rattle.std.proofs.Common.{◌≡◌, refl, ap, ap₂, ◌∙◌, sym, subst, ℕ, ℤ, pos, Bool, not, List, [], ◌∷◌, ◌++◌, map, Option, None, Result, Ok, arith}
+use Rattle.std.proofs.Common.{◌≡◌, refl, ap, ap₂, ◌∙◌, sym, subst, ℤ, pos, Bool, not, List, [], ◌∷◌, ◌++◌, map, Option, None, Result, Ok, arith}
 use Rattle.std.specs.Prelude.{if◌then◌else◌}
 use Rattle.std.specs.List.{Contains, flat_map}
 use Rattle.std.proofs.lemmas.List.Elements.{Contains-append_left, Contains-append_right}
@@ -25,6 +25,7 @@ use Rattle.nest_lang.specs.Statements as statements
 use Rattle.nest_lang.specs.Heads.{Bounds, Tested, as_number, heading, then_head, head_of}
 use Rattle.nest_lang.specs.Accesses.{load, store, expression_level, expression_accesses, all_in, statement_level, statement_accesses, block_accesses, head_accesses}
 use Rattle.nest_lang.specs.AccessLaws.{AgreeOn, frame_with, InstancesHaveOwnAccesses, HeadsHaveOwnAccesses}
+use Rattle.nest_lang.proofs.StepLaws.{told-rolled, statement-rolled}
 
 accesses-rolled : (y : Expr-F Expr) → expression_accesses (roll-Expr y) ≡ expression_level (map-Expr _ _ expression_accesses y)
 unfolding expression_accesses
@@ -33,14 +34,6 @@ accesses-rolled y = fold-roll-Expr (List Access) expression_level y
 statement_accesses-rolled : (y : Stmt-F Stmt) → statement_accesses (roll-Stmt y) ≡ statement_level (map-Stmt _ _ statement_accesses y)
 unfolding statement_accesses
 statement_accesses-rolled y = fold-roll-Stmt (List Access) statement_level y
-
-told-rolled : (h : Frame) (scalars locals : List ℤ) (find : ℕ → ℤ → Result ℤ Stop) (y : Expr-F Expr) → told_by h scalars locals find (roll-Expr y) ≡ expressions.expression_level h scalars locals find (map-Expr _ _ (told_by h scalars locals find) y)
-unfolding told_by
-told-rolled h scalars locals find y = fold-roll-Expr Told (expressions.expression_level h scalars locals find) y
-
-statement-rolled : (h : Frame) (y : Stmt-F Stmt) → statement_trace h (roll-Stmt y) ≡ (λ s. traced (statements.statement_level h (map-Stmt _ _ (statement_trace h) y) s) s)
-unfolding statement_trace
-statement-rolled h y = fold-roll-Stmt (Store → Trace) (λ z s. traced (statements.statement_level h z s) s) y
 
 contains-only : (x : Access) → Contains (x ∷ []) x
 contains-only x = (0, omega arith, refl)

@@ -14,13 +14,14 @@ use Rattle.nest_lang.specs.declared.tree.Part.TheVariants as part
 use Rattle.nest_lang.specs.declared.tree.BlockRef.{BlockRef}
 use Rattle.nest_lang.specs.Blocks.{present_blocks, outermost, opening, closing, block_if_any, block_ref, same_part, same_block, rank_of, loop_at}
 use Rattle.nest_lang.specs.BlockLaws.{IsPresentHead, IsPresentPart, PresentBlocksHaveRanks, RanksAreNumbers}
+use Rattle.std.proofs.lemmas.Bool.{and_parts}
 
-same_part-self : (a : Part) → same_part a a ≡ true
+pub same_part-self : (a : Part) → same_part a a ≡ true
 same_part-self part.Head = refl
 same_part-self part.Pre = refl
 same_part-self part.Post = refl
 
-same_part-exact : (a b : Part) → same_part a b ≡ true → a ≡ b
+pub same_part-exact : (a b : Part) → same_part a b ≡ true → a ≡ b
 same_part-exact part.Head part.Head h = refl
 same_part-exact part.Pre part.Pre h = refl
 same_part-exact part.Post part.Post h = refl
@@ -31,10 +32,6 @@ same_part-exact part.Pre part.Post h = absurd (cc)
 same_part-exact part.Post part.Head h = absurd (cc)
 same_part-exact part.Post part.Pre h = absurd (cc)
 
-both : (a b : Bool) → a && b ≡ true → (a ≡ true) × (b ≡ true)
-both true b h = (refl, h)
-both false b h = absurd (cc)
-
 pub same_block-self : (b : BlockRef) → same_block b b ≡ true
 same_block-self b =
     let even : nat_eq b.level b.level ≡ true = grind (arith, nat_tests) in
@@ -42,7 +39,7 @@ same_block-self b =
 
 pub same_block-exact : (a b : BlockRef) → same_block a b ≡ true → a ≡ b
 same_block-exact a b h =
-    let t = both (same_part a.part b.part) (nat_eq a.level b.level) h in
+    let t = and_parts (same_part a.part b.part) (nat_eq a.level b.level) h in
     let level : a.level ≡ b.level = let e = t.1 in grind (arith, nat_tests) in
     ap (λ (z : Part). block_ref z a.level) (same_part-exact a.part b.part t.0) ∙ ap (block_ref b.part) level
 
@@ -114,7 +111,7 @@ module _ (D : ℕ) where
   abbrev Above : BlockRef → BlockRef → Type 0
   Above a b = place a < place b
 
-  same_block-above : (a b : BlockRef) → Above a b → same_block a b ≡ false
+  pub same_block-above : (a b : BlockRef) → Above a b → same_block a b ≡ false
   same_block-above a b h = at (same_block a b) refl
     where
       at : (z : Bool) → same_block a b ≡ z → same_block a b ≡ false

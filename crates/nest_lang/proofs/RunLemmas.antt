@@ -6,26 +6,19 @@ use Rattle.nest_lang.specs.Stores.{Store, Effect, Nothing, Local, Scalar, Word, 
 use Rattle.nest_lang.specs.Traces.{Entry, Trace, Limited, finish_of, cut_of, cut, after_all}
 use Rattle.nest_lang.specs.Runs.{nests_trace, plain_run, run_of}
 use Rattle.nest_lang.specs.Laws.{LongerRunBegins, FinishedRunStays, SizesStay}
-use Rattle.nest_lang.proofs.Agree.{Alike, alike-nests, take-less, cut-long}
-
-take-more : {A : Type 0} (n m : ℕ) (xs : List A) → n ≤ m → (more : List A) × (take m xs ≡ take n xs ++ more)
-take-more zero m xs h = (take m xs, refl)
-take-more (suc n) zero xs h = absurd (omega arith)
-take-more (suc n) (suc m) [] h = ([], refl)
-take-more (suc n) (suc m) (x ∷ xs) h =
-    let p = take-more n m xs (omega arith) in
-    (p.0, ap (λ z. x ∷ z) p.1)
+use Rattle.nest_lang.proofs.Agree.{Alike, alike-nests, cut-long}
+use Rattle.plain_lemmas.proofs.ListLaws.{take-same, take-begins}
 
 runs-alike : (nests : List Nest) (s : Store) (n m : ℕ) → n ≤ m → Alike (n + 1) (nests_trace (n + 1) nests s) (nests_trace (m + 1) nests s)
 runs-alike nests s n m h = alike-nests (n + 1) (n + 1) (m + 1) nests (omega arith) (omega arith) s
 
 begins-alike : (t u : Trace) (n m : ℕ) → n ≤ m → Alike (n + 1) t u → (more : List Entry) × (take m u.entries ≡ take n t.entries ++ more)
 begins-alike t u n m h (inl e) =
-    let p = take-more n m u.entries h in
+    let p = take-begins n m u.entries h in
     (p.0, p.1 ∙ ap (λ z. take n z.entries ++ p.0) (sym e))
 begins-alike t u n m h (inr b) =
-    let p = take-more n m u.entries h in
-    (p.0, p.1 ∙ ap (λ z. z ++ p.0) (sym (take-less n (n + 1) t.entries u.entries (omega arith) b.same)))
+    let p = take-begins n m u.entries h in
+    (p.0, p.1 ∙ ap (λ z. z ++ p.0) (sym (take-same n (n + 1) t.entries u.entries (omega arith) b.same)))
 
 pub longer_run-begins : LongerRunBegins
 longer_run-begins nests s n m h = begins-alike (nests_trace (n + 1) nests s) (nests_trace (m + 1) nests s) n m h (runs-alike nests s n m h)
@@ -64,7 +57,7 @@ pub finished_run-stays : FinishedRunStays
 unfolding plain_run
 finished_run-stays nests s n m h other = stays-alike (nests_trace (n + 1) nests s) (nests_trace (m + 1) nests s) s n m h (runs-alike nests s n m h) other
 
-length-slice_set : (xs : List ℤ) (i : ℕ) (v : ℤ) → length (set xs i v) ≡ length xs
+pub length-slice_set : (xs : List ℤ) (i : ℕ) (v : ℤ) → length (set xs i v) ≡ length xs
 length-slice_set xs i v = grind (arith, common_steps)
 
 -- a step changes no number of words or scalars

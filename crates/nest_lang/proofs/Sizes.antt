@@ -13,6 +13,7 @@ use Rattle.nest_lang.specs.Expressions.{Frame, told}
 use Rattle.nest_lang.specs.Statements.{with_value, stored, statement_level, statement_trace, block_trace, started, announced, shown_before, instance_trace}
 use Rattle.nest_lang.specs.Places.{size_level, statement_size, block_size}
 use Rattle.nest_lang.specs.BlockLaws.{StepsWithinStatements}
+use Rattle.nest_lang.proofs.StepLaws.{statement-rolled}
 
 -- a trace of at most n steps
 abbrev pub HasSteps : ℕ → Trace → Type 0
@@ -47,10 +48,6 @@ module _ (f : Frame) where
   Fits : Stmt → Type 0
   Fits x = (s : Store) → HasSteps (statement_size x) (statement_trace f x s)
 
-  statement-rolled : (y : Stmt-F Stmt) → statement_trace f (roll-Stmt y) ≡ (λ s. traced (statement_level f (map-Stmt _ _ (statement_trace f) y) s) s)
-  unfolding statement_trace
-  statement-rolled y = fold-roll-Stmt (Store → Trace) (λ z s. traced (statement_level f z s) s) y
-
   size-rolled : (y : Stmt-F Stmt) → statement_size (roll-Stmt y) ≡ size_level (map-Stmt _ _ statement_size y)
   unfolding statement_size
   size-rolled y = fold-roll-Stmt ℕ size_level y
@@ -76,7 +73,7 @@ module _ (f : Frame) where
   unfolding Fits
   statements-fit = ind-Stmt Fits (λ y z is. subst (λ w. Fits (roll-Stmt w)) is
       (λ s. subst (λ (n : ℕ). HasSteps n (statement_trace f (roll-Stmt (map-Stmt _ _ (λ e. e.0) z)) s)) (sym (size-rolled (map-Stmt _ _ (λ e. e.0) z)))
-      (subst (λ (p : Store → Trace). HasSteps (size_level (map-Stmt _ _ statement_size (map-Stmt _ _ (λ e. e.0) z))) (p s)) (sym (statement-rolled (map-Stmt _ _ (λ e. e.0) z))) (level-fits z s))))
+      (subst (λ (p : Store → Trace). HasSteps (size_level (map-Stmt _ _ statement_size (map-Stmt _ _ (λ e. e.0) z))) (p s)) (sym (statement-rolled f (map-Stmt _ _ (λ e. e.0) z))) (level-fits z s))))
 
   block-fits : (block : List Stmt) (s : Store) → HasSteps (block_size block) (block_trace f block s)
   unfolding block_trace block_size Fits

@@ -1,5 +1,5 @@
 -- What each statement does, one level at a time, and how blocks go on.
-use Rattle.std.proofs.Common.{◌≡◌, refl, ap, ◌∙◌, sym, ℕ, ℤ, map, ◌<◌, ◌+◌, ◌≤◌, List, [], ◌∷◌, ◌++◌, length, drop, get_or, None, Result, Ok, Err, rules}
+use Rattle.std.proofs.Common.{◌≡◌, refl, ap, ◌∙◌, sym, ℕ, map, ◌<◌, ◌+◌, ◌≤◌, List, [], ◌∷◌, ◌++◌, length, drop, get_or, None, rules}
 use Rattle.std.proofs.lemmas.List.{drop_all, drop_more}
 use Rattle.nest_lang.specs.declared.tree.Expr.{Expr}
 use Rattle.nest_lang.specs.declared.tree.Stmt.{Stmt, the_lemmas}
@@ -8,25 +8,18 @@ use Rattle.nest_lang.specs.declared.tree.Stmt.TheVariants.{Let, Set, If}
 use Rattle.nest_lang.specs.declared.tree.Stmt.TheVariants as stmt
 use Rattle.nest_lang.specs.declared.tree.Stmt.TheFolds.{fold_out-Stmt}
 use Rattle.nest_lang.specs.Stores.{Store}
-use Rattle.nest_lang.specs.Traces.{Observation, Halt, Trace, in_turn, Transition, traced, Finish, Done, Limited, Cut, cut_of, cut, seen_in}
+use Rattle.nest_lang.specs.Traces.{Trace, in_turn, traced, Finish, Done, Limited, Cut, cut_of, cut, seen_in}
 use Rattle.nest_lang.specs.Expressions.{Frame, told}
-use Rattle.nest_lang.specs.Statements.{with_value, stored, statement_level, statement_trace, block_trace}
+use Rattle.nest_lang.specs.Statements.{statement_level, statement_trace, block_trace}
 use Rattle.nest_lang.proofs.Cuts.{cut-due, cut-end, cut-turn, resumed, resumed-not, seen-due, seen-turn, rest_seen}
+use Rattle.nest_lang.proofs.StepLaws.{with_value-before, stored-before}
 
 -- a statement shows nothing before its step is due
-with-before : (seen : List Observation) (r : Result ℤ Halt) (go : ℤ → Transition) → ((v : ℤ) → (go v).entry.before ≡ []) → (with_value seen r go).entry.before ≡ []
-with-before seen (Ok v) go h = h v
-with-before seen (Err halt) go h = refl
-
-stored-before : (seen : List Observation) (address v : ℤ) (r : Result ℤ Halt) → (stored seen address v r).entry.before ≡ []
-stored-before seen address v (Ok old) = refl
-stored-before seen address v (Err halt) = refl
-
 level-before : (f : Frame) (x : Stmt-F (Store → Trace)) (s : Store) → (statement_level f x s).entry.before ≡ []
-level-before f (Stmt-F.Let number e) s = with-before _ (told f s e).value _ (λ v. refl)
-level-before f (Stmt-F.Set number e) s = with-before _ (told f s e).value _ (λ v. refl)
-level-before f (Stmt-F.Store access a e) s = with-before _ (told f s a).value _ (λ address. with-before _ (told f s e).value _ (λ v. stored-before _ address v _))
-level-before f (Stmt-F.If e first second) s = with-before _ (told f s e).value _ (λ v. refl)
+level-before f (Stmt-F.Let number e) s = with_value-before _ (told f s e).value _ (λ v. refl)
+level-before f (Stmt-F.Set number e) s = with_value-before _ (told f s e).value _ (λ v. refl)
+level-before f (Stmt-F.Store access a e) s = with_value-before _ (told f s a).value _ (λ address. with_value-before _ (told f s e).value _ (λ v. stored-before _ address v _))
+level-before f (Stmt-F.If e first second) s = with_value-before _ (told f s e).value _ (λ v. refl)
 
 seen-level-due : (f : Frame) (x : Stmt-F (Store → Trace)) (s : Store) (left : ℕ) → left ≡ 0 → seen_in (traced (statement_level f x s) s) left ≡ []
 seen-level-due f x s left e = seen-due (statement_level f x s) s left e ∙ level-before f x s

@@ -3,16 +3,15 @@ use Rattle.std.proofs.Common.{◌≡◌, refl, ap, ◌∙◌, sym, subst, ℕ, �
 use Rattle.std.specs.Prelude.{if◌then◌else◌, ◌&&◌}
 use Rattle.nest_lang.specs.declared.tree.Expr.{Expr, map-Expr, roll-Expr}
 use Rattle.nest_lang.specs.declared.tree.Expr.TheOpen.{Expr-F}
-use Rattle.nest_lang.specs.declared.tree.Expr.TheFolds.{fold-roll-Expr, ind-Expr}
+use Rattle.nest_lang.specs.declared.tree.Expr.TheFolds.{ind-Expr}
 use Rattle.nest_lang.specs.declared.tree.Stmt.{Stmt, map-Stmt, roll-Stmt}
 use Rattle.nest_lang.specs.declared.tree.Stmt.TheOpen.{Stmt-F}
-use Rattle.nest_lang.specs.declared.tree.Stmt.TheFolds.{fold-roll-Stmt, ind-Stmt}
+use Rattle.nest_lang.specs.declared.tree.Stmt.TheFolds.{ind-Stmt}
 use Rattle.nest_lang.specs.declared.tree.Head.{Head}
 use Rattle.nest_lang.specs.declared.tree.Head.TheVariants.{For, While}
 use Rattle.nest_lang.specs.declared.tree.Loop.{Loop}
 use Rattle.nest_lang.specs.declared.tree.Part.{Part}
 use Rattle.nest_lang.specs.declared.tree.Part.TheVariants as part
-use Rattle.nest_lang.specs.declared.observe.Stop.{Stop}
 use Rattle.nest_lang.specs.declared.observe.Stop.TheVariants.{Unexpected}
 use Rattle.nest_lang.specs.declared.observe.Seen.TheVariants.{Address}
 use Rattle.nest_lang.specs.declared.state.Outer.{Outer}
@@ -27,6 +26,7 @@ use Rattle.nest_lang.specs.Loops.{Around, inward, outside, frame_of, turn_trace,
 use Rattle.nest_lang.specs.Turns.{counted_turns, turn_or_over, tested_turns, turns_by, turns_trace}
 use Rattle.nest_lang.specs.TurnLaws.{UnstoppedTurnsArePlain}
 use Rattle.nest_lang.proofs.StopsShort.{UpTo, UpToOn, up-joined, up-and_then, up-ends, up-only, up-two, up-stops, up-same}
+use Rattle.nest_lang.proofs.StepLaws.{told-rolled, statement-rolled, with_value-before, stored-before, value_step, store_step, value_step-before, store_step-before, head_step-before}
 
 -- a result that stops
 abbrev Stops : {A : Type 0} → Result A Halt → Type 0
@@ -78,14 +78,6 @@ then_head-up p q go go' (inl e) each = subst (λ (r : Told). HeadedUpTo (then_he
 then_head-up p q go go' (inr stop) each = inr (stop.0, stop.1, stop.2, ap (λ (v : Result ℤ Halt). (then_head p.seen v go).value) stop.3)
 
 -- a step that follows from a value
-with_value-before : (seen : List Observation) (v : Result ℤ Halt) (go : ℤ → Transition) → ((z : ℤ) → (go z).entry.before ≡ []) → (with_value seen v go).entry.before ≡ []
-with_value-before seen (Ok z) go each = each z
-with_value-before seen (Err halt) go each = refl
-
-stored-before : (seen : List Observation) (z v : ℤ) (r : Result ℤ Halt) → (stored seen z v r).entry.before ≡ []
-stored-before seen z v (Ok old) = refl
-stored-before seen z v (Err halt) = refl
-
 with_value-stops : (seen : List Observation) (v : Result ℤ Halt) (go : ℤ → Transition) (b : Transition) (s : Store) → Stops v → b.entry.before ≡ [] → UpTo (traced (with_value seen v go) s) (traced b s)
 with_value-stops seen v go b s stop none =
     up-stops (with_value seen v go) b s stop.0 stop.1 stop.2 (ap (λ (r : Result ℤ Halt). (with_value seen r go).halt) stop.3)
@@ -101,10 +93,6 @@ stored-up seen z v r r' s (inr stop) =
     up-stops (stored seen z v r) (stored seen z v r') s stop.0 stop.1 stop.2 (ap (λ (k : Result ℤ Halt). (stored seen z v k).halt) stop.3)
     (stored-before seen z v r ∙ sym (stored-before seen z v r'))
 
-head_step-before : (before seen : List Observation) (r : Result Yield Halt) (go : Yield → List (Store → Trace)) → (head_step before seen r go).entry.before ≡ before
-head_step-before before seen (Ok yield) go = refl
-head_step-before before seen (Err halt) go = refl
-
 -- an instance, where its addresses are verified and where not
 module _ (at : Occurrence) (values : List ℤ) (x : Expectation) where
   f : Frame
@@ -116,10 +104,6 @@ module _ (at : Occurrence) (values : List ℤ) (x : Expectation) where
   module _ (scalars locals memory : List ℤ) where
     Tells : Expr → Type 0
     Tells e = ToldUpTo (told_by f scalars locals (look_load x memory) e) (told_by g scalars locals (look_load plain memory) e)
-
-    told-rolled : (h : Frame) (find : ℕ → ℤ → Result ℤ Stop) (y : Expr-F Expr) → told_by h scalars locals find (roll-Expr y) ≡ expression_level h scalars locals find (map-Expr _ _ (told_by h scalars locals find) y)
-    unfolding told_by
-    told-rolled h find y = fold-roll-Expr Told (expression_level h scalars locals find) y
 
     level-up : (y : Expr-F ((e : Expr) × Tells e))
         → ToldUpTo (expression_level f scalars locals (look_load x memory) (map-Expr _ _ (told_by f scalars locals (look_load x memory)) (map-Expr _ _ (λ e. e.0) y)))
@@ -134,8 +118,8 @@ module _ (at : Occurrence) (values : List ℤ) (x : Expectation) where
     tells : (e : Expr) → Tells e
     unfolding Tells
     tells = ind-Expr Tells (λ y z is. subst (λ w. Tells (roll-Expr w)) is
-        (subst (λ (p : Told). ToldUpTo p (told_by g scalars locals (look_load plain memory) (roll-Expr (map-Expr _ _ (λ e. e.0) z)))) (sym (told-rolled f (look_load x memory) (map-Expr _ _ (λ e. e.0) z)))
-        (subst (λ (q : Told). ToldUpTo (expression_level f scalars locals (look_load x memory) (map-Expr _ _ (told_by f scalars locals (look_load x memory)) (map-Expr _ _ (λ e. e.0) z))) q) (sym (told-rolled g (look_load plain memory) (map-Expr _ _ (λ e. e.0) z))) (level-up z))))
+        (subst (λ (p : Told). ToldUpTo p (told_by g scalars locals (look_load plain memory) (roll-Expr (map-Expr _ _ (λ e. e.0) z)))) (sym (told-rolled f scalars locals (look_load x memory) (map-Expr _ _ (λ e. e.0) z)))
+        (subst (λ (q : Told). ToldUpTo (expression_level f scalars locals (look_load x memory) (map-Expr _ _ (told_by f scalars locals (look_load x memory)) (map-Expr _ _ (λ e. e.0) z))) q) (sym (told-rolled g scalars locals (look_load plain memory) (map-Expr _ _ (λ e. e.0) z))) (level-up z))))
 
   told-up : (s : Store) (e : Expr) → ToldUpTo (told f s e) (told g s e)
   unfolding Tells f g
@@ -171,38 +155,21 @@ module _ (at : Occurrence) (values : List ℤ) (x : Expectation) where
       (with_value q.seen q.value (λ v. step_of [] q.seen Nothing None (if same v (pos 0) then second' else first'))) s stop
       (with_value-before q.seen q.value (λ v. step_of [] q.seen Nothing None (if same v (pos 0) then second' else first')) (λ z. refl))
 
-  abbrev value_step : ℕ → Told → Told → (ℤ → Result ℤ Halt) → ℤ → Transition
-  value_step access a e found address = with_value (a.seen ++ e.seen) e.value (λ v. stored (a.seen ++ e.seen ++ shown f (Address access) address ∷ []) address v (found address))
-
-  abbrev store_step : ℕ → Told → Told → (ℤ → Result ℤ Halt) → Transition
-  store_step access a e found = with_value a.seen a.value (value_step access a e found)
-
-  value-before : (access : ℕ) (a e : Told) (found : ℤ → Result ℤ Halt) (z : ℤ) → (value_step access a e found z).entry.before ≡ []
-  value-before access a e found z =
-      with_value-before (a.seen ++ e.seen) e.value (λ v. stored (a.seen ++ e.seen ++ shown f (Address access) z ∷ []) z v (found z)) (λ v. stored-before (a.seen ++ e.seen ++ shown f (Address access) z ∷ []) z v (found z))
-
-  store-before : (access : ℕ) (a e : Told) (found : ℤ → Result ℤ Halt) → (store_step access a e found).entry.before ≡ []
-  store-before access a e found = with_value-before a.seen a.value (value_step access a e found) (value-before access a e found)
-
   value-up : (access : ℕ) (a e e' : Told) (found found' : ℤ → Result ℤ Halt) (s : Store) (z : ℤ) → ToldUpTo e e' → (found z ≡ found' z) ⊎ Stops (found z)
-      → UpTo (traced (value_step access a e found z) s) (traced (value_step access a e' found' z) s)
+      → UpTo (traced (value_step f access a e found z) s) (traced (value_step f access a e' found' z) s)
   value-up access a e e' found found' s z (inr stop) fu =
-      with_value-stops (a.seen ++ e.seen) e.value (λ v. stored (a.seen ++ e.seen ++ shown f (Address access) z ∷ []) z v (found z)) (value_step access a e' found' z) s stop (value-before access a e' found' z)
+      with_value-stops (a.seen ++ e.seen) e.value (λ v. stored (a.seen ++ e.seen ++ shown f (Address access) z ∷ []) z v (found z)) (value_step f access a e' found' z) s stop (value_step-before f access a e' found' z)
   value-up access a e e' found found' s z (inl se) fu =
-      subst (λ (r : Told). UpTo (traced (value_step access a e found z) s) (traced (value_step access a r found' z) s)) se
+      subst (λ (r : Told). UpTo (traced (value_step f access a e found z) s) (traced (value_step f access a r found' z) s)) se
       (with_value-same (a.seen ++ e.seen) e.value (λ v. stored (a.seen ++ e.seen ++ shown f (Address access) z ∷ []) z v (found z)) (λ v. stored (a.seen ++ e.seen ++ shown f (Address access) z ∷ []) z v (found' z)) s
       (λ v. stored-up (a.seen ++ e.seen ++ shown f (Address access) z ∷ []) z v (found z) (found' z) s fu))
 
   store-up : (access : ℕ) (a a' e e' : Told) (found found' : ℤ → Result ℤ Halt) (s : Store) → ToldUpTo a a' → ToldUpTo e e' → ((z : ℤ) → (found z ≡ found' z) ⊎ Stops (found z))
-      → UpTo (traced (store_step access a e found) s) (traced (store_step access a' e' found') s)
-  store-up access a a' e e' found found' s (inr stop) eu fu = with_value-stops a.seen a.value (value_step access a e found) (store_step access a' e' found') s stop (store-before access a' e' found')
+      → UpTo (traced (store_step f access a e found) s) (traced (store_step f access a' e' found') s)
+  store-up access a a' e e' found found' s (inr stop) eu fu = with_value-stops a.seen a.value (value_step f access a e found) (store_step f access a' e' found') s stop (store_step-before f access a' e' found')
   store-up access a a' e e' found found' s (inl sa) eu fu =
-      subst (λ (r : Told). UpTo (traced (store_step access a e found) s) (traced (store_step access r e' found') s)) sa
-      (with_value-same a.seen a.value (value_step access a e found) (value_step access a e' found') s (λ z. value-up access a e e' found found' s z eu (fu z)))
-
-  statement-rolled : (h : Frame) (y : Stmt-F Stmt) → statement_trace h (roll-Stmt y) ≡ (λ s. traced (statement_level h (map-Stmt _ _ (statement_trace h) y) s) s)
-  unfolding statement_trace
-  statement-rolled h y = fold-roll-Stmt (Store → Trace) (λ z s. traced (statement_level h z s) s) y
+      subst (λ (r : Told). UpTo (traced (store_step f access a e found) s) (traced (store_step f access r e' found') s)) sa
+      (with_value-same a.seen a.value (value_step f access a e found) (value_step f access a e' found') s (λ z. value-up access a e e' found found' s z eu (fu z)))
 
   statement_level-up : (y : Stmt-F ((st : Stmt) × Runs st)) → UpToOn (λ s. traced (statement_level f (map-Stmt _ _ (statement_trace f) (map-Stmt _ _ (λ e. e.0) y)) s) s) (λ s. traced (statement_level g (map-Stmt _ _ (statement_trace g) (map-Stmt _ _ (λ e. e.0) y)) s) s)
   unfolding Runs f g

@@ -3,7 +3,7 @@
 //! A nest is a list of loops, the outermost first, each with a head and with the statements before
 //! and after the loop inside it. This crate has the types of the tree, the arithmetic of its values,
 //! the state that a nest reads and changes, and the budget of steps that a run counts down. It
-//! stands on the kit's `sqlite_items` (trees that lead back to themselves) and `arrayvec`.
+//! stands on `plain_lemmas` and on the kit's `sqlite_items` (trees that lead back to themselves) and `arrayvec`.
 //!
 //! Its `specs/` hold the meaning that every layer above cites: the *trace* of a block, with one entry
 //! for each step, the trace of a nest, and the *plain run*, which is that trace cut after so many
@@ -28,7 +28,4 @@ pub use state::{Outer, State};
 pub use tree::{
     Access, AccessKind, AccessRef, BlockRef, Expr, Head, Loop, Nest, Op, Part, Place, Stmt, Trap,
 };
-pub use value::{apply, negate, trip_of};
-
-#[cfg(test)]
-mod tests;
+pub use value::{apply, negate, trip_of, value_of_turn};

@@ -1,7 +1,8 @@
 //! Values, over exact whole numbers (docs/DEFINITIONS.md, Values).
 
-ghost use Rattle.std.specs.Prelude.{◌≡◌, ◌≢◌, ◌↔◌, ℕ, ◌<◌, pos, ◌-ℤ◌};
-ghost use Rattle.nest_lang.specs.Values.{apply_of, negate_of, trip_count, steps_over, IsTurn};
+ghost use Rattle.std.specs.Prelude.{◌≡◌, ◌≢◌, ◌↔◌, ℕ, ◌<◌, pos, ◌-ℤ◌, FitsSigned};
+ghost use Rattle.std.specs.Int.{w64};
+ghost use Rattle.nest_lang.specs.Values.{apply_of, negate_of, trip_count, steps_over, turn_value, IsTurn};
 
 use crate::tree::{Op, Trap};
 
@@ -68,4 +69,13 @@ fn turns_between(from: i64, to: i64, size: u64) -> u64
     } else {
         0
     }
+}
+
+/// The value of a `for`'s name in a turn, where it is an i64, as it is in each of its turns: so many strides
+/// behind the lower bound.
+pub fn value_of_turn(lower: i64, stride: i64, turn: u64) -> i64
+    requires { FitsSigned w64 (turn_value lower stride turn) }
+    ensures { result ≡ turn_value lower stride turn }
+{
+    (i128::from(lower) + i128::from(stride) * i128::from(turn)) as i64
 }

@@ -1,5 +1,5 @@
 -- Loops within loops.
-use Rattle.std.proofs.Common.{◌≡◌, ℕ, zero, suc, ◌+◌, ◌-◌, ◌<◌, List, [], ◌∷◌, ◌++◌, length, take, refl, sym, ◌∙◌, ap, arith, add-one, Option, Some, None, Err, false, not, ◌&&◌, ◌==◌}
+use Rattle.std.proofs.Common.{◌≡◌, ℕ, zero, suc, ◌+◌, ◌-◌, ◌<◌, List, [], ◌∷◌, length, take, refl, sym, ◌∙◌, ap, arith, add-one, Option, Some, None, Err, false, not, ◌&&◌, ◌==◌}
 use Rattle.std.proofs.lemmas.List.{append-nil as append_nil}
 use Rattle.nest_lang.specs.declared.tree.Stmt.{Stmt}
 use Rattle.nest_lang.specs.declared.tree.Loop.{Loop}
@@ -10,6 +10,7 @@ use Rattle.nest_grammar.specs.Sights.{Sight, here, stands}
 use Rattle.nest_grammar.specs.Readings.{refused, unexpected}
 use Rattle.nest_grammar.specs.Names.{Names}
 use Rattle.nest_grammar.specs.Loops.{loop_keyword, loop_of, loops, inside, has_any}
+use Rattle.std.proofs.Math.Seq.{take-append_seam}
 
 -- a loop where a level is left
 pub loops-below : (d level : ℕ) (names : Names) (w : LoopKeyword) (s : Sight) → 0 < d → loop_keyword (stands s) ≡ Some w → loops d level names s ≡ loop_of (loops (d - 1) (level + 1)) level names w s
@@ -31,14 +32,10 @@ unfolding loops refused
 loops-wrong zero level names s e = rw e refl
 loops-wrong (suc d) level names s e = rw e refl
 
-take-all : (xs ys : Names) → take (length xs) (xs ++ ys) ≡ xs
-take-all [] ys = refl
-take-all (x ∷ xs) ys = ap (λ (l : Names). x ∷ l) (take-all xs ys)
-
 -- the name of a loop's turns stands behind the others
 pub inside-kept : (names : Names) (level : ℕ) (counter : Option Name) → take (length names) (inside names level counter) ≡ names
-inside-kept names level None = ap (take (length names)) (sym (append_nil names)) ∙ take-all names []
-inside-kept names level (Some n) = take-all names _
+inside-kept names level None = ap (take (length names)) (sym (append_nil names)) ∙ take-append_seam names []
+inside-kept names level (Some n) = take-append_seam names _
 
 -- an empty body
 pub has_any-is : (pre : List Stmt) (ls : List Loop) → has_any pre ls ≡ not ((length pre == 0) && (length ls == 0))

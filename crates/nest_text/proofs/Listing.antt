@@ -13,6 +13,7 @@ use Rattle.nest_grammar.proofs.Productions.{IsPart, starts, part-skipped, part-r
 use Rattle.nest_grammar.proofs.Chains.{statement-goes, statement-fails, statement-shorter}
 use Rattle.nest_text.specs.Parts.{choice}
 use Rattle.nest_text.proofs.Steps.{statements-are}
+use Rattle.std.proofs.Math.Seq.{take-append_seam}
 
 -- the statements behind these, where d choices may stand within one another
 abbrev pub Going : Type 0
@@ -55,10 +56,6 @@ kept-long start names more h e = omega (arith, length-take (length names) more, 
 pub kept-more : (start names more : Names) → length start ≤ length names → take (length start) names ≡ start → take (length names) more ≡ names → take (length start) more ≡ start
 kept-more start names more h k e = sym (take-take (length start) (length names) more h) ∙ ap (take (length start)) e ∙ k
 
-pub kept-one : (xs ys : Names) → take (length xs) (xs ++ ys) ≡ xs
-kept-one [] ys = refl
-kept-one (x ∷ xs) ys = ap (λ (l : Names). x ∷ l) (kept-one xs ys)
-
-pub ruleset keeping = (kept-one)
+pub ruleset keeping = (take-append_seam)
 
 pub ruleset listings = (listing-goes, listing-fails, listing-shorter, listing-ends, kept-more, kept-long)

@@ -16,7 +16,7 @@ use Rattle.nest_grammar.specs.Sights.{Sight, stands, skip}
 use Rattle.nest_grammar.specs.Readings.{Reading, at_mark, many, always}
 use Rattle.nest_grammar.specs.Names.{Names, declared, scalars_from, names_of}
 use Rattle.nest_grammar.specs.Loops.{loop_keyword}
-use Rattle.nest_grammar.specs.Scripts.{Script, row_begins, next_row, command, next_command, candidate}
+use Rattle.nest_grammar.specs.Scripts.{Script, command, next_command, candidate}
 use Rattle.nest_grammar.specs.Contents.{scalar, item_keyword, item, item_of, data_value, next_value, next_unit}
 use Rattle.nest_grammar.proofs.Many.{many-stop}
 use Rattle.nest_grammar.proofs.Chains.{scalar-goes, scalar-fails, scalar-shorter, item-goes, item-fails, item-shorter, value-goes, value-fails, value-shorter, row-goes, row-fails, row-shorter, command-goes, command-fails, command-shorter, candidate-goes, candidate-fails, candidate-shorter, unit-goes, unit-fails, unit-shorter}
@@ -83,16 +83,7 @@ pub ruleset item_loop = (items-next, items-fail, items-shorter, worded-ends)
 
 -- Rows
 
-pub rows-next : (depth : ℕ) (ns ms : List ℕ) (s t : Sight) (u : Unit {0}) (whole : Result (List ℕ × Sight) TextFault) → row_begins (stands s) ≡ Some u → next_row depth ns s ≡ Ok (ms, t) → many row_begins (always (next_row depth)) ns s ≡ whole → many row_begins (always (next_row depth)) ms t ≡ whole
-rows-next depth ns ms s t u whole e h w = row-goes depth ns ms s t u whole e h w
-
-pub rows-fail : (depth : ℕ) (ns : List ℕ) (s : Sight) (u : Unit {0}) (f : TextFault) (whole : Result (List ℕ × Sight) TextFault) → row_begins (stands s) ≡ Some u → next_row depth ns s ≡ Err f → many row_begins (always (next_row depth)) ns s ≡ whole → whole ≡ Err f
-rows-fail depth ns s u f whole e h w = row-fails depth ns s u f whole e h w
-
-pub rows-shorter : (depth : ℕ) (ns ms : List ℕ) (s t : Sight) (u : Unit {0}) → row_begins (stands s) ≡ Some u → next_row depth ns s ≡ Ok (ms, t) → length t.left < length s.left
-rows-shorter depth ns ms s t u e h = row-shorter depth ns ms s t u e h
-
-pub ruleset row_loop = (rows-next, rows-fail, rows-shorter, worded-ends)
+pub ruleset row_loop = (row-goes, row-fails, row-shorter, worded-ends)
 
 -- Commands
 

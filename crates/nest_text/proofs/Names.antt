@@ -1,11 +1,10 @@
 -- The names of a file's scalars.
-use Rattle.std.proofs.Common.{◌≡◌, ◌∙◌, ap, sym, subst, ℕ, zero, suc, ◌<◌, List, [], ◌∷◌, Option, Some, option_map, true, arith}
+use Rattle.std.proofs.Common.{◌≡◌, ◌∙◌, ap, sym, subst, ℕ, zero, suc, ◌<◌, List, [], ◌∷◌, Option, option_map, true, arith}
 use Rattle.std.specs.Prelude.{slice_get}
-use Rattle.std.specs.List.{All}
 use Rattle.std.specs.Option.{option_copied}
 use Rattle.std.specs.Borrow.{Bor}
 use Rattle.std.specs.Str.{IsUtf8, IsAscii}
-use Rattle.std.proofs.lemmas.Option.{slice_get-map, slice_get_within, get_or_from_slice_get}
+use Rattle.std.proofs.lemmas.Option.{slice_get-map}
 use Rattle.std.proofs.lemmas.Str.{IsUtf8-from_ascii}
 use Rattle.nest_tokens.specs.declared.token.Name.{Name}
 use Rattle.nest_tokens.specs.Lexing.{is_name_byte}
@@ -26,10 +25,6 @@ name-found file inner found k same h = ap (λ (f : File). slice_get (scalar_name
 -- the nest at a number is that of the unit there
 pub nest-found : (file inner : File) (found : Option (Bor NestUnit)) (k : ℕ) → inner ≡ file → option_copied found ≡ slice_get inner.units k → slice_get (nests_of file) k ≡ option_map (λ u. u.nest) (option_copied found)
 nest-found file inner found k same h = ap (λ (f : File). slice_get (nests_of f) k) (sym same) ∙ (slice_get-map (λ (u : NestUnit). u.nest) inner.units k ∙ ap (option_map (λ (u : NestUnit). u.nest)) (sym h))
-
--- what holds of all holds of the one at a number
-pub All-found : {X : Type 0} (P : X → Type 0) (xs : List X) (k : ℕ) (x : X) → All P xs → slice_get xs k ≡ Some x → P x
-All-found P xs k x h e = subst P (get_or_from_slice_get xs k x x e) (h k x (slice_get_within xs k x e))
 
 -- the bytes of a name are ASCII
 name_byte-ascii : (b : ℕ) → is_name_byte b ≡ true → b < 128

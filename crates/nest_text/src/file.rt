@@ -14,7 +14,7 @@ ghost use Rattle.nest_text.specs.Files.{ByGrammar, IsOfText, scalar_names, scrip
 use crate::refusal::ReadRefusal;
 use crate::whole::read_whole;
 use nest_grammar::{File, Item, Scalar};
-use nest_lang::{Command, Nest, State};
+use nest_lang::{Command, Nest, State, value_of_turn};
 use nest_tokens::Name;
 use std::alloc::{AllocError, Global};
 use std::marker::Model;
@@ -204,21 +204,13 @@ fn set_words(first: u64, values: &[i64], memory: &mut [i64])
 }
 
 /// Sets `count` words, from `first` on and each `stride` behind the last, to values from `start` on that
-/// grow by `growth`.
+/// grow by `growth`: those of the name of a `for` from `start` whose stride is `growth`.
 fn set_ramp(first: u64, count: u64, stride: u64, start: i64, growth: i64, memory: &mut [i64])
     requires { ramp_fits (length memory.old) first count stride start growth ≡ true }
     ensures { memory.new ≡ set_ramp count first stride start growth memory.old }
 {
     'words: for number in 0..count {
         let address = first + stride * number;
-        memory[address as usize] = ramp_value(start, growth, number);
+        memory[address as usize] = value_of_turn(start, growth, number);
     }
-}
-
-/// The value of a word of a ramp, which is an i64.
-fn ramp_value(start: i64, growth: i64, number: u64) -> i64
-    requires { FitsSigned w64 (start +ℤ growth *ℤ pos number) }
-    ensures { result ≡ start +ℤ growth *ℤ pos number }
-{
-    (i128::from(start) + i128::from(growth) * i128::from(number)) as i64
 }

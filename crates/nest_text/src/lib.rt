@@ -21,8 +21,6 @@ mod reader;
 mod refusal;
 mod script;
 mod statement;
-#[cfg(test)]
-mod tests;
 mod visible;
 mod whole;
 

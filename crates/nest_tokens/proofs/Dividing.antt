@@ -7,7 +7,7 @@ use Rattle.nest_tokens.specs.declared.token.Spot.{Spot}
 use Rattle.nest_tokens.specs.Tokens.{spelling, sign_at}
 use Rattle.nest_tokens.specs.Lexing.{is_letter, is_digit, is_name_byte, is_blank, between, gap, Lexed, lexed, spelled_by, sign_or_byte, named, numbered, spots, spots_at, tokens_from}
 use Rattle.nest_tokens.specs.Division.{Gap, none, blank, opens, inside, closes, Begins, Stops, AllPass, IsSign, StandsAt, Spells, name, number, sign, bad_byte, Divides, ends, goes_on, TokensDivide}
-use Rattle.nest_tokens.proofs.Places.{lexed-moves, gap-no_longer, spelling-moves}
+use Rattle.nest_tokens.proofs.Places.{gap-stays, letter-named, lexed-moves, gap-no_longer, spelling-moves}
 use Rattle.nest_tokens.proofs.SignLaws.{found_len, sign_at-sign, sign_at-longest}
 use Rattle.nest_tokens.proofs.Names.{sign-begins}
 
@@ -22,10 +22,6 @@ record Parted (c : Bool) (bs : List ℕ) : Type 0 where
 gap-goes : (c d : Bool) (b : ℕ) (bs : List ℕ) → between c b ≡ Some d → gap c (b ∷ bs) ≡ gap d bs
 unfolding gap
 gap-goes c d b bs h = rw h
-
-gap-stays : (b : ℕ) (bs : List ℕ) → between false b ≡ None → gap false (b ∷ bs) ≡ b ∷ bs
-unfolding gap
-gap-stays b bs h = rw h
 
 more-gap : (c k : Bool) (b : ℕ) (bs : List ℕ) → between c b ≡ Some k → ((g : List ℕ) (d : Bool) → Gap k g d → Gap c (b ∷ g) d) → Parted k bs → Parted c (b ∷ bs)
 more-gap c k b bs h up p = record {
@@ -81,9 +77,6 @@ run-begins : (p q : ℕ → Bool) (b : ℕ) (bs : List ℕ) → p b ≡ true →
 run-begins p q b bs h k =
     let n : prefix_len p (b ∷ bs) ≡ suc (prefix_len p bs) = rw h (omega arith) in
     rw n k
-
-letter-named : (b : ℕ) → is_letter b ≡ true → is_name_byte b ≡ true
-letter-named b h = rw h
 
 -- a token is spelled by the bytes that it takes
 abbrev SpelledAs : List ℕ → Lexed → Type 0

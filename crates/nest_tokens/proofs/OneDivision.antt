@@ -13,7 +13,7 @@ use Rattle.nest_tokens.specs.Lexing.{is_letter, is_digit, is_blank, between, gap
 use Rattle.nest_tokens.specs.Division.{Gap, none, blank, opens, inside, closes, IsOneOf, IsSign, StandsAt, Spells, name, number, sign, bad_byte, Divides, ends, goes_on, OneDivision}
 use Rattle.nest_tokens.proofs.Marks.{same-mark}
 use Rattle.nest_tokens.proofs.Names.{sign-begins}
-use Rattle.nest_tokens.proofs.Places.{tokens-nil, tokens-gap, tokens-cons, spelling-moves}
+use Rattle.nest_tokens.proofs.Places.{gap-stays, tokens-nil, tokens-gap, tokens-cons, spelling-moves}
 use Rattle.nest_tokens.proofs.SignLaws.{found_len, sign_at-sign, sign_at-longest}
 use Rattle.nest_tokens.proofs.Spelled.{take-front, drop-front, lexed-other, lexed-run, lexed-digits}
 
@@ -38,18 +38,14 @@ gap-whole (opens {b} e i) = let k : is_blank b ≡ false = grind arith in rw (k,
 gap-whole (inside e i) = rw e (gap-whole i)
 gap-whole (closes e i) = rw e (gap-whole i)
 
-gap-stays : (b : ℕ) (bs : List ℕ) → between false b ≡ None → gap false (b ∷ bs) ≡ b ∷ bs
-unfolding gap
-gap-stays b bs h = rw h refl
-
 solid : (b : ℕ) → is_blank b ≡ false → (b == 35) ≡ false → between false b ≡ None
 unfolding between
 solid b h k = rw (h, k) refl
 
-letter-solid : (b : ℕ) → is_letter b ≡ true → between false b ≡ None
+pub letter-solid : (b : ℕ) → is_letter b ≡ true → between false b ≡ None
 letter-solid b h = let k : is_blank b ≡ false = grind arith in let l : (b == 35) ≡ false = grind arith in solid b k l
 
-digit-solid : (b : ℕ) → is_digit b ≡ true → between false b ≡ None
+pub digit-solid : (b : ℕ) → is_digit b ≡ true → between false b ≡ None
 digit-solid b h = let k : is_blank b ≡ false = grind arith in let l : (b == 35) ≡ false = grind arith in solid b k l
 
 -- how a spelled token begins, and what it lexes as

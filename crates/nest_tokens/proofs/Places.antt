@@ -74,7 +74,11 @@ sign-moves None = omega arith
 prefix-moves : (p : ℕ → Bool) (b : ℕ) (bs : List ℕ) → p b ≡ true → 0 < prefix_len p (b ∷ bs)
 prefix-moves p b bs h = rw h (omega arith)
 
-letter-named : (b : ℕ) → is_letter b ≡ true → is_name_byte b ≡ true
+pub gap-stays : (b : ℕ) (bs : List ℕ) → between false b ≡ None → gap false (b ∷ bs) ≡ b ∷ bs
+unfolding gap
+gap-stays b bs h = rw h refl
+
+pub letter-named : (b : ℕ) → is_letter b ≡ true → is_name_byte b ≡ true
 letter-named b h = rw h
 
 pub lexed-moves : (b : ℕ) (bs : List ℕ) → 0 < (lexed (b ∷ bs)).len

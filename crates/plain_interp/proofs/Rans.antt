@@ -11,6 +11,7 @@ use Rattle.nest_lang.proofs.Cuts.{cut-and_then, cut-ends, cut-step, cut-due, res
 use Rattle.block_exec.specs.Watches.{Chain}
 use Rattle.block_exec.specs.Moments.{Moment, moment, Ran, Evaluated, where_left, shown_where_left}
 use Rattle.block_exec.proofs.ChainLaws.{chain-append}
+use Rattle.nest_lang.proofs.StepLaws.{head_step-before}
 
 module _ {W : Type 0} (may : W → Observation → W → Type 0) where
   -- nothing is run
@@ -85,10 +86,6 @@ module _ {W : Type 0} (may : W → Observation → W → Type 0) where
         shown = subst (λ (os : List Observation). Chain may w os w') (sym (seen-step step s (suc n) left' (omega arith) fewer ∙ append-nil (before ++ seen))) shown;
       })
 
-  head-due : (before seen : List Observation) (r : Result Yield Halt) (go : Yield → List (Store → Trace)) → (head_step before seen r go).entry.before ≡ before
-  head-due before seen (Ok y) go = refl
-  head-due before seen (Err h) go = refl
-
   step-limited : (before seen : List Observation) (r : Result Yield Halt) (go : Yield → List (Store → Trace)) (s : Store) (left used left' used' : ℕ) (w w' : W)
       → None ≡ where_left left r → left' ≡ left - 1 → used' ≡ used + min 1 left → Chain may w (before ++ shown_where_left left seen) w'
       → Ran may (λ t. traced (head_step before seen r go) s) (moment s left used w) (moment s left' used' w') Limited
@@ -99,7 +96,7 @@ module _ {W : Type 0} (may : W → Observation → W → Type 0) where
       let b : used' ≡ used = omega arith in
       record {
         cut = rw (a, b) (sym (cut-due step s 0 used refl));
-        shown = subst (λ (os : List Observation). Chain may w os w') (append-nil before ∙ sym (seen-due step s 0 refl ∙ head-due before seen r go)) shown;
+        shown = subst (λ (os : List Observation). Chain may w os w') (append-nil before ∙ sym (seen-due step s 0 refl ∙ head_step-before before seen r go)) shown;
       }
 
   -- a head was evaluated, and what follows from what it yields was run

@@ -14,6 +14,3 @@ mod plain;
 
 pub use outer::{Entered, enter, run_turns};
 pub use plain::{run_nest, run_plain};
-
-#[cfg(test)]
-mod tests;

@@ -11,8 +11,8 @@ ghost use Rattle.block_exec.specs.Halts.{TurnsFit, finish_of};
 ghost use Rattle.block_exec.specs.Runs.{Kept, outside};
 ghost use Rattle.plain_interp.specs.Levels.{IsLevel, level_trace, level_turn};
 
-use block_exec::{Bounds, Cut, Places, Port, Run, Watch, value_of_turn};
-use nest_lang::{BlockRef, Expr, Head, Loop, Part, Stmt};
+use block_exec::{Bounds, Cut, Places, Port, Run, Watch};
+use nest_lang::{BlockRef, Expr, Head, Loop, Part, Stmt, value_of_turn};
 
 /// A level of a nest: a loop, the loops inside of it, the outermost first, and the number of those around
 /// it.

@@ -12,8 +12,8 @@ ghost use Rattle.plain_interp.specs.Levels.{IsLevel, level_turn};
 ghost use Rattle.plain_interp.specs.Entries.{IsEntry};
 
 use crate::loops::{Level, run_turn};
-use block_exec::{Cut, Halt, Places, Port, Run, Watch, value_of_turn};
-use nest_lang::{BlockRef, Head, Nest, Outer, Part, Trap, Turned};
+use block_exec::{Cut, Halt, Places, Port, Run, Watch};
+use nest_lang::{BlockRef, Head, Nest, Outer, Part, Trap, Turned, value_of_turn};
 
 /// The head of the outermost loop.
 const HEAD: BlockRef = BlockRef {

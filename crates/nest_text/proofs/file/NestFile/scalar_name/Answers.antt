@@ -3,12 +3,13 @@ use Rattle.std.specs.Option.{option_copied}
 use Rattle.grammar_laws.specs.Rules.{IsSpelled}
 use Rattle.grammar_laws.proofs.Rules.{reading-keeps}
 use Rattle.nest_tokens.specs.Spellings.{name_text}
-use Rattle.nest_text.proofs.Names.{All-found, name-found}
+use Rattle.nest_text.proofs.Names.{name-found}
 use Rattle.nest_text.proofs.file.NestFile.scalar_name.Goals as goal
+use Rattle.plain_lemmas.proofs.ListLaws.{All-slice_get}
 
 pub text_of_name-requires : goal.text_of_name-requires
 text_of_name-requires c =
-    All-found (λ s. IsSpelled s.name) c.self.inside.file.scalars c.args.number c.in-Some.scalar.now (reading-keeps c.self.invariant.0 c.self.inside.file c.self.invariant.1).spelled (sym c.get.ensures.value ∙ ap option_copied c.in-Some.is)
+    All-slice_get (λ s. IsSpelled s.name) c.self.inside.file.scalars c.args.number c.in-Some.scalar.now (reading-keeps c.self.invariant.0 c.self.inside.file c.self.invariant.1).spelled (sym c.get.ensures.value ∙ ap option_copied c.in-Some.is)
 
 pub returns-in-Some : goal.returns-in-Some
 returns-in-Some c =
