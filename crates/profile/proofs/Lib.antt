@@ -1,4 +1,5 @@
 pub mod EndLaws
+pub mod ExampleLaws
 pub mod FitLaws
 pub mod FitParts
 pub mod GatherLaws

@@ -1,4 +1,5 @@
 pub mod Data
+pub mod Examples
 pub mod Fits
 pub mod Gathered
 pub mod Keeping

@@ -1,11 +1,16 @@
 //! Profiles that are worked by hand: what is shown, and the forms that it has.
 
+ghost use Rattle.std.specs.Prelude.{◌≡◌, IfOk};
+ghost use Rattle.profile.specs.Examples.{AreOfPre, filling};
+
 use crate::log::Item;
-use crate::{Sampler, Samples};
+use crate::{FitEnd, Sampler, Samples, Unfit, UnfitWhy, fit};
 use affine::Form;
 use block_exec::Watch;
+use domain::{Instance, Prediction, What};
 use line_fit::{Miss, NoFit, Tube};
-use nest_lang::{BlockRef, Part, Seen};
+use nest_lang::{BlockRef, Expr, Head, Loop, Nest, Part, Place, Seen, Stmt};
+use sqlite_items::Items;
 use std::alloc::{AllocError, Global};
 use std::mem::size_of;
 use std::test::Fail;
@@ -155,4 +160,75 @@ fn longest_trip_is_kept(rt: HostRuntime) -> Result<(), Fail> {
 #[test]
 fn item_has_two_words(rt: HostRuntime) {
     assert_eq!(rt; size_of::<Item>(), 16);
+}
+
+/// `for i = 0 below 8 { [i] = 5 }`.
+fn filling(alloc: Global) -> Result<Nest, AllocError>
+    ensures { IfOk result (λ nest. nest.loops ≡ filling) }
+{
+    let mut block = Items::new(alloc);
+    block.push(Stmt::Store(1, Expr::Var(Place::Counter(0)), Expr::Number(5)))?;
+    let mut loops = Items::new(alloc);
+    loops.push(Loop {
+        head: Head::For(Expr::Number(0), Expr::Number(8), 1),
+        pre: block,
+        post: Items::new(alloc),
+    })?;
+    Ok(Nest { loops })
+}
+
+/// What was shown of the block of one loop in its turns from 0 on: these values of a datum.
+fn shown(alloc: Global, what: Seen, values: &[i128]) -> Result<Samples, AllocError>
+    ensures { IfOk result (λ samples. AreOfPre samples) }
+{
+    let mut sampler = Sampler::new(alloc);
+    for (turn, value) in values.iter().enumerate() {
+        sampler.see(PRE1, &[turn as i64], what, *value);
+    }
+    sampler.finish()
+}
+
+/// The fit of that nest, with one scalar.
+fn fitted(alloc: Global, samples: &Samples) -> Result<Prediction<1>, FitEnd<1>>
+    requires { AreOfPre samples.now }
+{
+    let nest = filling(alloc)?;
+    fit(alloc, &nest, 1, samples)
+}
+
+/// The answer where a datum of the block has no fit.
+fn unfit(what: What, why: UnfitWhy<1>) -> Option<FitEnd<1>> {
+    Some(FitEnd::Unfit(Unfit {
+        block: 0,
+        what,
+        why,
+    }))
+}
+
+#[test]
+fn squares_lie_in_a_tube(rt: HostRuntime) -> Result<(), Fail> {
+    let alloc = rt.alloc();
+    let pred = fitted(alloc, &shown(alloc, Seen::Address(1), &[0, 1, 4, 9])?).expect(&rt, "a fit");
+    let line = Form { coef: [1], cst: 0 };
+    assert_eq!(rt; pred.form(0, What::Address(1)), Some(line));
+    assert_eq!(rt; pred.tube(0, 1), Some((0, 6)));
+    assert_eq!(rt; pred.form(0, What::Scalar(0)), None);
+    Ok(())
+}
+
+#[test]
+fn a_tube_of_65_and_a_wide_coefficient_are_unfit(rt: HostRuntime) -> Result<(), Fail> {
+    let alloc = rt.alloc();
+    let wide = fitted(alloc, &shown(alloc, Seen::Address(1), &[0, 10, 20, 95])?);
+    let why = UnfitWhy::Line {
+        at: Instance { block: 0, at: [3] },
+        line: 30,
+        seen: 95,
+    };
+    assert_eq!(rt; wide.err(), unfit(What::Address(1), why));
+    let steep = [0, 2_000_000_000_000, 4_000_000_000_000];
+    let large = fitted(alloc, &shown(alloc, Seen::Scalar(0), &steep)?);
+    let why = UnfitWhy::Large(2_000_000_000_000);
+    assert_eq!(rt; large.err(), unfit(What::Scalar(0), why));
+    Ok(())
 }
