@@ -1,20 +1,18 @@
 -- Arounds: where an instance of a nest runs.
-use Rattle.std.proofs.Common.{◌≡◌, refl, sym, ap, ap₂, ◌∙◌, subst, ℕ, zero, suc, ◌<◌, ◌≤◌, ◌-◌, ◌+◌, ℤ, pos, ◌≤ℤ◌, Bool, true, false, List, [], ◌∷◌, ◌++◌, Option, Some, None, length, take, cond, nat_le, append_assoc, append-nil, arith}
+use Rattle.std.proofs.Common.{◌≡◌, refl, sym, ap, ap₂, ◌∙◌, subst, ℕ, suc, ◌<◌, ◌≤◌, ◌-◌, ◌+◌, ℤ, pos, ◌≤ℤ◌, Bool, true, false, List, [], ◌∷◌, ◌++◌, Option, Some, length, nat_le, append_assoc, append-nil, arith}
 use Rattle.std.specs.Prelude.{slice_get, unsigned_abs, if◌then◌else◌}
 use Rattle.std.specs.List.{AllByRecursion}
 use Rattle.std.proofs.lemmas.Int.{ints}
 use Rattle.std.proofs.lemmas.Bool.Decides.{nat_tests}
 use Rattle.std.proofs.lemmas.Option.{slice_get_within}
-use Rattle.nest_lang.specs.declared.tree.Stmt.{Stmt}
 use Rattle.nest_lang.specs.declared.tree.Head.{Head}
 use Rattle.nest_lang.specs.declared.tree.Head.TheVariants.{For, While}
-use Rattle.nest_lang.specs.declared.tree.Expr.{Expr}
 use Rattle.nest_lang.specs.declared.tree.Loop.{Loop}
 use Rattle.nest_lang.specs.declared.tree.Part.{Part}
 use Rattle.nest_lang.specs.declared.tree.Part.TheVariants as part
 use Rattle.nest_lang.specs.declared.state.Outer.{Outer}
-use Rattle.nest_lang.specs.Blocks.{statements_by, counters_by}
-use Rattle.nest_lang.specs.Loops.{Around, inward, outside}
+use Rattle.nest_lang.specs.Blocks.{counters_by}
+use Rattle.nest_lang.specs.Loops.{Around, inward}
 use Rattle.follow.specs.Forecasts.{Forecast}
 use Rattle.follow.specs.Plans.{item, Item, Evaluates}
 use Rattle.follow.specs.Instances.{value_in, into, block_item, head_item, item_here, item_from}

@@ -1,6 +1,6 @@
 -- Conflicts: the footprint of an instance, and of what it runs.
-use Rattle.std.proofs.Common.{◌≡◌, refl, sym, ap, ap₂, ◌∙◌, subst, ℕ, zero, suc, ◌<◌, ◌≤◌, ◌+◌, ◌-◌, ◌⊎◌, ℤ, pos, negsuc, ◌+ℤ◌, ◌≤ℤ◌, ◌<ℤ◌, Bool, true, false, List, [], ◌∷◌, length, map, get_or, drop, nat_lt, Option, Some, None, inl, inr, ⊎_elim, arith}
-use Rattle.std.specs.Prelude.{◌↔◌, ◌&&◌, ◌||◌, slice_get, option_map, int_le, unwrap_or}
+use Rattle.std.proofs.Common.{◌≡◌, refl, sym, ap, ap₂, ◌∙◌, subst, ℕ, zero, suc, ◌<◌, ◌≤◌, ◌+◌, ◌⊎◌, ℤ, pos, negsuc, ◌+ℤ◌, ◌≤ℤ◌, Bool, true, false, List, [], ◌∷◌, length, map, get_or, drop, nat_lt, Option, Some, None, inl, inr, ⊎_elim, arith}
+use Rattle.std.specs.Prelude.{◌&&◌, ◌||◌, slice_get, option_map, int_le}
 use Rattle.std.specs.List.{list_any, range_with_len}
 use Rattle.std.proofs.lemmas.Int.{ints}
 use Rattle.std.proofs.lemmas.Bool.{and_parts}
@@ -12,15 +12,11 @@ use Rattle.nest_lang.specs.declared.tree.Access.{Access as NestAccess}
 use Rattle.nest_lang.specs.declared.tree.AccessKind.{AccessKind}
 use Rattle.nest_lang.specs.declared.tree.AccessKind.TheVariants as kinds
 use Rattle.nest_lang.specs.declared.tree.Loop.{Loop}
-use Rattle.nest_lang.specs.declared.tree.Stmt.{Stmt}
-use Rattle.nest_lang.specs.declared.tree.Part.{Part}
-use Rattle.nest_lang.specs.declared.tree.Part.TheVariants.{Head, Pre, Post}
 use Rattle.nest_lang.specs.declared.state.Outer.{Outer}
-use Rattle.nest_lang.specs.Accesses.{block_accesses, head_accesses, part_accesses, accesses_by, accesses_of}
-use Rattle.nest_lang.specs.Blocks.{block_ref, loop_at}
+use Rattle.nest_lang.specs.Accesses.{accesses_of}
+use Rattle.nest_lang.specs.Blocks.{block_ref}
 use Rattle.nest_lang.specs.Lookups.{Interval, lies_in}
-use Rattle.nest_lang.specs.Rules.{AreNumbered, LoopKeeps}
-use Rattle.nest_lang.specs.Traces.{Occurrence}
+use Rattle.nest_lang.specs.Rules.{AreNumbered}
 use Rattle.domain.specs.declared.chunk.Chunk.{Chunk}
 use Rattle.domain.specs.Tables.{Table, Access, access_at, line_of, tube_by}
 use Rattle.domain.specs.Instances.{Instance, block_of, Predicted, IsSuccessor}
@@ -30,14 +26,12 @@ use Rattle.domain.specs.Footprints as table
 use Rattle.domain.specs.Shapes.{is_store}
 use Rattle.domain.proofs.LaunchedLaws.{launched_words}
 use Rattle.domain.proofs.OriginalLaws.{successor-law}
-use Rattle.follow.specs.Forecasts.{Forecast}
-use Rattle.follow.specs.Plans.{Item, Work, Runs, Evaluates}
-use Rattle.follow.specs.Instances.{item_of}
+use Rattle.follow.specs.Plans.{Item}
 use Rattle.follow.specs.Footprints.{same_kind, work_accesses, lies_in_one, item_reads, item_writes}
 use Rattle.follow.specs.ReorderLaws.{item_touches}
 use Rattle.follow.specs.ReorderLaws as list
-use Rattle.follow_chunk.specs.Predicted.{occurrence_of, instance_of, interval_about, interval_at, forecast_of}
-use Rattle.follow_chunk.specs.Items.{item_at, idle}
+use Rattle.follow_chunk.specs.Predicted.{instance_of, interval_about, interval_at, forecast_of}
+use Rattle.follow_chunk.specs.Items.{item_at}
 use Rattle.follow_chunk.specs.Tasks.{IsTask}
 use Rattle.follow_chunk.specs.Laws.{InstancesReturn, InstancesHaveItems, NextIsSuccessor, ConflictsAgree}
 use Rattle.follow_chunk.proofs.Points.{instance-occurrence, successor-is}

@@ -1,15 +1,13 @@
 -- Launched: what a launch makes sure of, where an instance is run.
-use Rattle.std.proofs.Common.{◌≡◌, refl, sym, ap, ap₂, ◌∙◌, subst, ℕ, zero, suc, ◌*◌, ◌<◌, ◌≤◌, ◌-◌, ◌+◌, ℤ, pos, negsuc, ◌+ℤ◌, ◌-ℤ◌, ◌*ℤ◌, ◌≤ℤ◌, ◌<ℤ◌, FitsSigned, w64, Bool, true, false, List, [], ◌∷◌, Option, Some, None, length, map, get_or, nat_lt, ltb, ⊎_elim, inl, inr, ◌⊎◌, arith}
-use Rattle.std.specs.Prelude.{◌^◌, int_lt, unsigned_abs, if◌then◌else◌}
+use Rattle.std.proofs.Common.{◌≡◌, refl, sym, ap, ap₂, ◌∙◌, subst, ℕ, zero, suc, ◌*◌, ◌<◌, ◌≤◌, ◌-◌, ◌+◌, ℤ, pos, negsuc, ◌+ℤ◌, ◌-ℤ◌, ◌*ℤ◌, ◌≤ℤ◌, ◌<ℤ◌, FitsSigned, w64, Bool, true, false, List, [], ◌∷◌, Option, Some, None, map, get_or, nat_lt, inr, arith}
+use Rattle.std.specs.Prelude.{if◌then◌else◌}
 use Rattle.std.proofs.lemmas.Int.{ints}
-use Rattle.std.proofs.lemmas.Bool.{cases_lt}
 use Rattle.std.proofs.lemmas.Bool.Decides.{nat_tests}
 use Rattle.std.proofs.Math.IntN.{pos-*ℤ-pos, negsuc-*ℤ-pos}
 use Rattle.std.proofs.Math.Nat.{mul-le-mul_left}
-use Rattle.plain_lemmas.proofs.IntegerLaws.{int_lt-true, int_lt-false}
 use Rattle.affine.specs.Forms.{Affine, value_at}
 use Rattle.nest_lang.specs.declared.tree.Part.{Part}
-use Rattle.nest_lang.specs.declared.tree.Part.TheVariants.{Head, Pre, Post}
+use Rattle.nest_lang.specs.declared.tree.Part.TheVariants.{Head}
 use Rattle.nest_lang.specs.declared.tree.Loop.{Loop}
 use Rattle.nest_lang.specs.declared.state.Outer.{Outer}
 use Rattle.nest_lang.specs.Values.{is_i64, same, turn_value}
@@ -17,14 +15,13 @@ use Rattle.domain.specs.declared.chunk.Chunk.{Chunk}
 use Rattle.domain.specs.declared.held.HeldWhy.{HeldWhy}
 use Rattle.domain.specs.declared.held.HeldWhy.TheVariants.{Lower, Last, Scalar}
 use Rattle.domain.specs.declared.table.LoopKind.{LoopKind}
-use Rattle.domain.specs.declared.table.LoopKind.TheVariants.{For, While}
-use Rattle.domain.specs.Tables.{Table, block_at, level_at, is_while, repeats, counters, counters_by, turning, turning_by, cut, trip, IsTable}
-use Rattle.domain.specs.Instances.{Instance, instance, block_of, counter, InTurn, Predicted}
+use Rattle.domain.specs.declared.table.LoopKind.TheVariants.{For}
+use Rattle.domain.specs.Tables.{Table, level_at, turning, cut, trip}
+use Rattle.domain.specs.Instances.{Instance, instance, block_of, counter, Predicted}
 use Rattle.domain.specs.Launches.{first_of, scalar_failure, scalars_failure, stores_failure, trip_failure, lower_failure, last_failure, loop_failure, head_by, data_failure}
 use Rattle.domain.proofs.LaunchedLaws.{launched-data}
 use Rattle.domain.proofs.PointLaws.{length-cut, cut-before, cut-after, trip-cut, trip-none}
 use Rattle.domain.proofs.RankLaws.{Stands}
-use Rattle.domain.proofs.WithinLaws.{trip-same}
 use Rattle.domain.proofs.LeadLaws.{entered}
 use Rattle.follow.proofs.Yields.{same-exact}
 use Rattle.follow_chunk.specs.Predicted.{value_or_zero}

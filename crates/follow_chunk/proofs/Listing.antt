@@ -1,15 +1,13 @@
 -- Listing: a list of instances that is followed one after another.
-use Rattle.std.proofs.Common.{◌≡◌, refl, sym, ap, ap₂, ◌∙◌, subst, ℕ, zero, suc, ◌<◌, ◌≤◌, ◌+◌, ◌*◌, ℤ, pos, List, [], ◌∷◌, ◌++◌, length, map, take, drop, get_or, Option, Some, None, inl, inr, arith}
-use Rattle.std.specs.Prelude.{◌^◌, Result, Ok, Err}
+use Rattle.std.proofs.Common.{◌≡◌, refl, sym, ap, ◌∙◌, ℕ, zero, suc, ◌<◌, ◌+◌, ℤ, List, [], ◌∷◌, ◌++◌, length, take, drop, get_or, Option, Some, None, arith}
 use Rattle.std.specs.List.{AllByRecursion}
 use Rattle.std.proofs.lemmas.List.{take_more, map-append}
 use Rattle.nest_lang.specs.declared.tree.Loop.{Loop}
 use Rattle.nest_lang.specs.declared.state.Outer.{Outer}
 use Rattle.orders.specs.Runs.{Outcome, plus, and_then}
-use Rattle.orders.proofs.Swaps.{then-plus, then-then}
-use Rattle.domain.specs.declared.chunk.Chunk.{Chunk}
+use Rattle.orders.proofs.Swaps.{then-then}
 use Rattle.domain.specs.Tables.{Table}
-use Rattle.domain.specs.Instances.{Instance, Predicted}
+use Rattle.domain.specs.Instances.{Instance}
 use Rattle.follow.specs.declared.how.How.{How}
 use Rattle.follow.specs.Forecasts.{Forecast}
 use Rattle.follow.specs.Plans.{Item}

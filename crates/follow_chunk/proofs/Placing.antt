@@ -1,6 +1,6 @@
 -- Placing: where an instance of a launched chunk runs.
-use Rattle.std.proofs.Common.{◌≡◌, refl, sym, ap, ap₂, ◌∙◌, subst, ℕ, zero, suc, ◌*◌, ◌<◌, ◌≤◌, ◌-◌, ◌+◌, max, ℤ, pos, negsuc, ◌+ℤ◌, ◌≤ℤ◌, ◌<ℤ◌, FitsSigned, w64, Bool, true, false, List, [], ◌∷◌, Option, Some, None, length, map, take, nat_le, length-take-le, ⊎_elim, inl, inr, ◌⊎◌, arith}
-use Rattle.std.specs.Prelude.{◌^◌, slice_get, slice_index_or, option_map, unwrap_or, unsigned_abs, is_some, if◌then◌else◌}
+use Rattle.std.proofs.Common.{◌≡◌, refl, sym, ap, ap₂, ◌∙◌, subst, ℕ, zero, suc, ◌<◌, ◌≤◌, ◌-◌, ◌+◌, max, ℤ, pos, ◌+ℤ◌, ◌≤ℤ◌, ◌<ℤ◌, FitsSigned, w64, Bool, true, false, List, [], ◌∷◌, Option, Some, None, length, map, take, nat_le, length-take-le, ⊎_elim, arith}
+use Rattle.std.specs.Prelude.{slice_get, slice_index_or, option_map, unwrap_or, unsigned_abs, if◌then◌else◌}
 use Rattle.std.proofs.lemmas.Int.{ints}
 use Rattle.std.proofs.lemmas.Bool.Decides.{nat_tests}
 use Rattle.std.specs.List.{AllByRecursion}
@@ -9,7 +9,6 @@ use Rattle.std.proofs.lemmas.List.{take_more}
 use Rattle.std.specs.Option.{option_and_then}
 use Rattle.std.proofs.lemmas.Bool.{cases_lt}
 use Rattle.affine.specs.Forms.{Affine, value_at}
-use Rattle.nest_lang.specs.declared.tree.BlockRef.{BlockRef}
 use Rattle.nest_lang.specs.declared.tree.Expr.{Expr}
 use Rattle.nest_lang.specs.declared.tree.Head as tree
 use Rattle.nest_lang.specs.declared.tree.Head.TheVariants as head
@@ -25,8 +24,7 @@ use Rattle.nest_lang.specs.Blocks as blocks
 use Rattle.domain.specs.declared.chunk.Chunk.{Chunk}
 use Rattle.domain.specs.declared.prediction.What.TheVariants.{Lower}
 use Rattle.domain.specs.declared.table.LoopKind.{LoopKind}
-use Rattle.domain.specs.declared.table.LoopKind.TheVariants.{For, While}
-use Rattle.domain.specs.Tables.{Table, Level, Block, no_level, depth, block_at, level_at, is_while, repeats, rank_of, counters, counters_by, turning, turning_by, cut, trip, head_level_by, loop_of}
+use Rattle.domain.specs.Tables.{Table, Level, no_level, depth, level_at, is_while, repeats, rank_of, counters, counters_by, turning, turning_by, cut, head_level_by, loop_of}
 use Rattle.domain.specs.Instances.{Instance, instance, block_of, counter, Predicted}
 use Rattle.domain.specs.Expected.{form_of, expected_of}
 use Rattle.domain.specs.Shapes.{kind_of}
@@ -43,7 +41,7 @@ use Rattle.follow_chunk.specs.Tasks.{IsTask}
 use Rattle.follow_chunk.proofs.Points.{padded-take_of}
 use Rattle.follow_chunk.proofs.Ranks.{rank-same, depth-same}
 use Rattle.follow_chunk.proofs.Arounds.{inside-none, inside-more, inside-counters}
-use Rattle.follow_chunk.proofs.Launched.{name-fits, between-fits}
+use Rattle.follow_chunk.proofs.Launched.{name-fits}
 
 -- the level of a table with this loop
 level-some : (levels : List Level) (k : ℕ) (l : Level) → slice_get levels k ≡ Some l → slice_index_or levels k no_level ≡ l

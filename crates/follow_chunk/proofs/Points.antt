@@ -1,10 +1,9 @@
 -- Points: the instance of an occurrence of an instance.
-use Rattle.std.proofs.Common.{◌≡◌, refl, sym, ap, ap₂, subst, ◌∙◌, ℕ, zero, suc, ◌<◌, ◌≤◌, ℤ, pos, ◌+ℤ◌, ◌⊎◌, ⊎_elim, List, [], ◌∷◌, Option, Some, length, take, arith}
+use Rattle.std.proofs.Common.{◌≡◌, refl, sym, ap, ap₂, subst, ◌∙◌, ℕ, zero, suc, ◌<◌, ℤ, pos, ◌+ℤ◌, ◌⊎◌, ⊎_elim, List, [], ◌∷◌, Option, Some, length, take}
 use Rattle.std.specs.Prelude.{unwrap_or}
 use Rattle.nest_lang.specs.declared.tree.Part.{Part}
-use Rattle.nest_lang.specs.Traces.{Occurrence}
 use Rattle.domain.specs.declared.chunk.Chunk.{Chunk}
-use Rattle.domain.specs.Tables.{Table, depth, block_at, rank_of, counters, cut, IsTable}
+use Rattle.domain.specs.Tables.{Table, depth, rank_of, counters, cut, IsTable}
 use Rattle.domain.specs.Instances.{Instance, instance, block_of, IsInstance, IsSuccessor, Predicted, Precedes, original_key, opening_at}
 use Rattle.domain.specs.Steps.{next}
 use Rattle.domain.proofs.PointLaws.{cut_same}

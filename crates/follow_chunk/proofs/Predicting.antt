@@ -1,11 +1,11 @@
 -- Predicting: the data of an instance, one after another.
-use Rattle.std.proofs.Common.{◌≡◌, refl, sym, ap, ap₂, ◌∙◌, subst, ℕ, zero, suc, ◌<◌, ◌≤◌, ◌-◌, ◌+◌, ℤ, pos, List, [], ◌∷◌, ◌++◌, Option, Some, None, length, take, get_or, ⊎_elim, arith}
+use Rattle.std.proofs.Common.{◌≡◌, refl, sym, ap, ◌∙◌, ℕ, zero, suc, ◌<◌, ◌≤◌, ◌+◌, ℤ, pos, List, [], ◌∷◌, ◌++◌, Option, Some, None, length, take, get_or, ⊎_elim, arith}
 use Rattle.std.specs.Prelude.{slice_get, option_map, unwrap_or}
 use Rattle.std.proofs.lemmas.Bool.{cases_lt}
 use Rattle.std.proofs.lemmas.List.{get_or-map, length-map, take_more}
 use Rattle.std.proofs.lemmas.Option.{slice_get_past}
 use Rattle.affine.specs.Forms.{Affine, value_at}
-use Rattle.domain.specs.declared.prediction.What.TheVariants.{Scalar, Address}
+use Rattle.domain.specs.declared.prediction.What.TheVariants.{Scalar}
 use Rattle.domain.specs.Tables.{Table, Access, line_of, tube_by}
 use Rattle.domain.specs.Instances.{Instance, block_of}
 use Rattle.domain.specs.Expected.{form_of, expected_of, tube_of}

@@ -1,9 +1,8 @@
 -- Premises: a task that can be met.
-use Rattle.std.proofs.Common.{◌≡◌, refl, sym, ap, ap₂, ◌∙◌, subst, ℕ, zero, suc, ◌<◌, ◌≤◌, ◌+◌, ◌-◌, ℤ, pos, ◌≤ℤ◌, ◌<ℤ◌, ◌+ℤ◌, List, [], ◌∷◌, ◌++◌, length, get_or, Some, None, inl, inr, arith}
-use Rattle.std.specs.Prelude.{◌^◌, ◌↔◌, slice_get, Contains}
+use Rattle.std.proofs.Common.{◌≡◌, refl, sym, ap, ap₂, subst, ℕ, zero, suc, ◌<◌, ◌≤◌, ◌-◌, ℤ, pos, ◌≤ℤ◌, ◌<ℤ◌, ◌+ℤ◌, List, [], ◌∷◌, ◌++◌, length, get_or, Some, None, inl, inr, arith}
+use Rattle.std.specs.Prelude.{◌^◌, slice_get}
 use Rattle.std.specs.List.{All}
 use Rattle.std.proofs.lemmas.Int.{ints}
-use Rattle.std.proofs.lemmas.Option.{slice_get_within}
 use Rattle.std.proofs.lemmas.List.{length-append}
 use Rattle.std.proofs.lemmas.List.Elements.{All-nil, All-cons}
 use Rattle.plain_lemmas.proofs.MembershipLaws.{Has, has_from_contains, contains_from_has}
@@ -11,7 +10,7 @@ use Rattle.nest_lang.specs.declared.tree.BlockRef.{BlockRef}
 use Rattle.nest_lang.specs.declared.tree.Loop.{Loop}
 use Rattle.nest_lang.specs.declared.tree.Part.TheVariants.{Pre}
 use Rattle.nest_lang.specs.declared.tree.Place.TheVariants.{Counter}
-use Rattle.nest_lang.specs.Accesses.{accesses_of, block_accesses}
+use Rattle.nest_lang.specs.Accesses.{block_accesses}
 use Rattle.nest_lang.specs.Blocks.{block_ref, present_blocks, loop_at}
 use Rattle.nest_lang.specs.declared.tree.Expr.TheVariants.{Number, Var}
 use Rattle.nest_lang.specs.declared.tree.Head.TheVariants.{For}
@@ -22,9 +21,8 @@ use Rattle.nest_lang.specs.Places.{block_places, head_places, block_size}
 use Rattle.nest_lang.specs.Rules.{loops_keep, AreNumbered, IsWithin, BlockKeeps, HeadKeeps, LoopKeeps, NestKeeps}
 use Rattle.nest_lang.proofs.AccessLaws.{statement_levels}
 use Rattle.nest_lang.proofs.PlaceLaws.{place_levels, size_levels}
-use Rattle.domain.specs.declared.chunk.Chunk.{Chunk}
 use Rattle.domain.specs.declared.table.LoopKind.TheVariants as kinds
-use Rattle.domain.specs.Tables.{Table, Level, block_at, level_at}
+use Rattle.domain.specs.Tables.{block_at, level_at}
 use Rattle.domain.specs.Instances.{Instance, instance, counter, Predicted}
 use Rattle.domain.specs.Launches.{failure}
 use Rattle.domain.specs.Examples.{row}

@@ -1,16 +1,14 @@
 -- Ranks: the blocks of a table are the present blocks of its nest.
-use Rattle.std.proofs.Common.{◌≡◌, refl, sym, ap, ap₂, ◌∙◌, subst, ℕ, zero, suc, ◌<◌, ◌≤◌, ◌-◌, ◌+◌, Bool, true, false, List, [], ◌∷◌, Option, Some, None, length, map, get_or, cond, nat_lt, nat_eq, arith}
+use Rattle.std.proofs.Common.{◌≡◌, refl, sym, ap, ap₂, ◌∙◌, ℕ, zero, suc, ◌<◌, ◌+◌, Bool, List, [], ◌∷◌, Some, None, length, get_or, cond, nat_lt, nat_eq, arith}
 use Rattle.std.specs.Prelude.{slice_get, not, ◌&&◌}
 use Rattle.std.specs.List.{position, position_or_len}
 use Rattle.std.proofs.lemmas.List.{length-map}
 use Rattle.nest_lang.specs.declared.tree.Part.{Part}
 use Rattle.nest_lang.specs.declared.tree.BlockRef.{BlockRef}
-use Rattle.nest_lang.specs.declared.tree.Head.{Head}
 use Rattle.nest_lang.specs.declared.tree.Loop.{Loop}
 use Rattle.nest_lang.specs.Blocks.{same_part, same_block, block_ref, present_blocks}
 use Rattle.nest_lang.specs.Blocks as blocks
-use Rattle.domain.specs.declared.table.LoopKind.{LoopKind}
-use Rattle.domain.specs.Tables.{Table, Level, Block, depth, block_at, level_at, no_block, is_block, rank_of}
+use Rattle.domain.specs.Tables.{Table, Level, depth, block_at, no_block, is_block, rank_of}
 use Rattle.domain.specs.Shapes.{kind_of, IsBlockOf, IsTableOf}
 
 get-here : {X : Type 0} (xs : List X) (k : ℕ) (d : X) → k < length xs → slice_get xs k ≡ Some (get_or xs k d)

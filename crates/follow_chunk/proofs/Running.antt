@@ -1,8 +1,7 @@
 -- Running: an instance that was followed at its site is a run of it.
-use Rattle.std.proofs.Common.{◌≡◌, refl, sym, ap, ap₂, ◌∙◌, subst, ℕ, zero, suc, ◌<◌, ◌≤◌, ◌-◌, ◌+◌, ◌⊎◌, ℤ, pos, ◌<ℤ◌, FitsSigned, w64, Bool, true, false, List, [], ◌∷◌, Option, Some, None, length, take, get_or, nat_le, length-take-le, inl, inr, ⊎_elim, arith}
-use Rattle.std.specs.Prelude.{◌^◌, ◌||◌, Result, Ok, Err, slice_get, slice_index_or, option_map, unwrap_or, int_lt}
+use Rattle.std.proofs.Common.{◌≡◌, refl, sym, ap, ap₂, ◌∙◌, subst, ℕ, zero, suc, ◌<◌, ◌≤◌, ◌-◌, ℤ, pos, FitsSigned, w64, Bool, List, [], ◌∷◌, Option, Some, None, length, take, get_or, nat_le, length-take-le, arith}
+use Rattle.std.specs.Prelude.{◌^◌, ◌||◌, Result, slice_get, slice_index_or, option_map, unwrap_or, int_lt}
 use Rattle.std.specs.Option.{option_and_then}
-use Rattle.std.proofs.lemmas.Int.{ints}
 use Rattle.affine.specs.Forms.{Affine, value_at}
 use Rattle.nest_lang.specs.declared.tree.Expr.{Expr}
 use Rattle.nest_lang.specs.declared.tree.Head as tree
@@ -10,13 +9,13 @@ use Rattle.nest_lang.specs.declared.tree.Head.TheVariants as head
 use Rattle.nest_lang.specs.declared.tree.Loop.{Loop}
 use Rattle.nest_lang.specs.declared.tree.Stmt.{Stmt}
 use Rattle.nest_lang.specs.declared.tree.Part.{Part}
-use Rattle.nest_lang.specs.declared.tree.Part.TheVariants.{Head, Pre, Post}
+use Rattle.nest_lang.specs.declared.tree.Part.TheVariants.{Head}
 use Rattle.nest_lang.specs.declared.state.Outer.{Outer}
 use Rattle.nest_lang.specs.Accesses.{accesses_of}
 use Rattle.nest_lang.specs.Blocks.{block_ref}
 use Rattle.nest_lang.specs.Blocks as blocks
 use Rattle.nest_lang.specs.Lookups.{Expectation, plain}
-use Rattle.nest_lang.specs.Stores.{Store, store_of}
+use Rattle.nest_lang.specs.Stores.{store_of}
 use Rattle.nest_lang.specs.Traces.{Occurrence, Trace}
 use Rattle.nest_lang.specs.Expressions.{Frame}
 use Rattle.nest_lang.specs.Statements.{instance_trace}
@@ -28,15 +27,14 @@ use Rattle.domain.specs.declared.prediction.What.TheVariants.{Lower, Trip}
 use Rattle.domain.specs.Tables.{Table, Level, no_level, depth, level_at, counters, cut, trip, head_level_by, loop_of}
 use Rattle.domain.specs.Instances.{Instance, instance, block_of, counter, Predicted, IsSuccessor}
 use Rattle.domain.specs.Expected.{form_of, expected_of}
-use Rattle.domain.specs.Shapes.{IsBlockOf}
 use Rattle.domain.specs.Steps.{next}
-use Rattle.domain.proofs.PointLaws.{trip-some, trip-none, trip-cut, length-cut}
+use Rattle.domain.proofs.PointLaws.{trip-some, trip-none, trip-cut}
 use Rattle.domain.proofs.RankLaws.{Stands}
 use Rattle.follow.specs.declared.how.How.{How}
 use Rattle.follow.specs.declared.how.Turning.{Turning}
 use Rattle.follow.specs.declared.how.Turning.TheVariants.{Bounds, Holds}
 use Rattle.follow.specs.declared.verify.Interval.{Interval}
-use Rattle.follow.specs.Forecasts.{Forecast, expectation_at, expects_turn, last_of, around_last}
+use Rattle.follow.specs.Forecasts.{Forecast, expectation_at, last_of, around_last}
 use Rattle.follow.specs.Intervals.{interval_of}
 use Rattle.follow.specs.Plans.{item, occurrence, Item, Work, Runs, Evaluates, frame_with, work_trace, item_trace}
 use Rattle.follow.specs.Followed.{Foretold, IsFollowed, occurrence_at}

@@ -1,6 +1,6 @@
 -- Standing: what an instance of a launched chunk runs, and where.
-use Rattle.std.proofs.Common.{◌≡◌, refl, sym, ap, ap₂, ◌∙◌, subst, ℕ, zero, suc, ◌<◌, ◌≤◌, ◌-◌, ◌+◌, ◌⊎◌, ℤ, pos, ◌+ℤ◌, ◌<ℤ◌, Bool, true, false, List, [], ◌∷◌, Option, Some, None, length, map, take, get_or, length-take-le, inl, inr, ⊎_elim, arith}
-use Rattle.std.specs.Prelude.{◌≢◌, ◌^◌, ◌&&◌, slice_get, option_map, unwrap_or}
+use Rattle.std.proofs.Common.{◌≡◌, refl, sym, ap, ap₂, ◌∙◌, subst, ℕ, zero, suc, ◌<◌, ◌≤◌, ◌-◌, ◌+◌, ◌⊎◌, ℤ, ◌+ℤ◌, true, List, [], ◌∷◌, Option, Some, None, length, take, get_or, length-take-le, inl, inr, arith}
+use Rattle.std.specs.Prelude.{◌≢◌, ◌^◌, slice_get, option_map, unwrap_or}
 use Rattle.std.specs.Option.{option_and_then}
 use Rattle.std.proofs.lemmas.Int.{ints}
 use Rattle.std.proofs.lemmas.List.{length-map}
@@ -25,17 +25,17 @@ use Rattle.nest_lang.proofs.Ranks.{ranks-are_numbers, present_blocks-have_ranks}
 use Rattle.domain.specs.declared.chunk.Chunk.{Chunk}
 use Rattle.domain.specs.declared.table.LoopKind.{LoopKind}
 use Rattle.domain.specs.Tables.{Table, Block, Access, block_at, level_at, is_while, counters, counters_by}
-use Rattle.domain.specs.Instances.{Instance, block_of, counter, Predicted, IsInstance, opening_at}
+use Rattle.domain.specs.Instances.{Instance, block_of, Predicted, IsInstance, opening_at}
 use Rattle.domain.specs.Shapes.{kind_of, is_store, IsBlockOf}
 use Rattle.domain.specs.Steps.{next, CanTurn}
 use Rattle.domain.proofs.OriginalLaws.{successor-law, opening-is}
-use Rattle.follow.specs.Plans.{item, occurrence, Item, Work, Runs, Evaluates}
+use Rattle.follow.specs.Plans.{item, occurrence, Item, Runs, Evaluates}
 use Rattle.follow.specs.Footprints.{work_accesses}
 use Rattle.follow.specs.Instances.{block_item, item_of}
 use Rattle.follow_chunk.specs.Predicted.{occurrence_of, forecast_of}
 use Rattle.follow_chunk.specs.Items.{item_at, idle, around_of}
 use Rattle.follow_chunk.specs.Tasks.{IsTask}
-use Rattle.follow_chunk.proofs.Ranks.{block-of, depth-same}
+use Rattle.follow_chunk.proofs.Ranks.{depth-same}
 use Rattle.follow_chunk.proofs.Arounds.{part_item, item-inside, inside-counters}
 use Rattle.follow_chunk.proofs.Placing.{up, below, counters-deep, fronts-up, loop-kind}
 

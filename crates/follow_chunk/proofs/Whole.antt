@@ -1,7 +1,6 @@
 -- Whole: an instance is never cut short, and one that deviates has no follow run.
-use Rattle.std.proofs.Common.{◌≡◌, refl, sym, ap, ap₂, ◌∙◌, subst, ℕ, zero, suc, ◌<◌, ◌≤◌, ◌+◌, ◌-◌, leb, ℤ, pos, Bool, true, false, List, [], ◌∷◌, ◌++◌, length, Option, Some, None, ⊎_elim, inl, inr, ◌⊎◌, arith}
+use Rattle.std.proofs.Common.{◌≡◌, refl, sym, ap, ap₂, ◌∙◌, subst, ℕ, ◌<◌, ◌≤◌, ◌+◌, ◌-◌, leb, ℤ, Bool, true, false, List, [], ◌∷◌, length, Option, Some, None, arith}
 use Rattle.std.specs.Prelude.{◌≢◌, ◌^◌, ◌&&◌, if◌then◌else◌, nat_le, Result, Ok, Err}
-use Rattle.std.proofs.lemmas.Bool.{and_parts}
 use Rattle.std.proofs.lemmas.Bool.Decides.{nat_tests}
 use Rattle.nest_lang.specs.declared.observe.Seen.{Seen}
 use Rattle.nest_lang.specs.declared.observe.Seen.TheVariants as see
@@ -18,23 +17,22 @@ use Rattle.nest_lang.proofs.Sizes.{steps-within}
 use Rattle.nest_lang.specs.declared.state.Outer.{Outer}
 use Rattle.nest_lang.specs.Lookups.{line_of}
 use Rattle.nest_lang.specs.Stores.{Store, effect_on}
-use Rattle.nest_lang.specs.Traces.{Occurrence, Observation, Halt, Trapped, Stopped, Over, Entry, Trace, Finish, Done, Halted, Limited, finish_of, traced, Cut, cut, seen_of, seen_in}
+use Rattle.nest_lang.specs.Traces.{Occurrence, Halt, Trapped, Stopped, Over, Entry, Trace, Limited, finish_of, traced, Cut, cut, seen_of, seen_in}
 use Rattle.orders.specs.Chains.{State}
 use Rattle.orders.specs.Runs.{Outcome}
 use Rattle.follow.specs.declared.how.How.{How}
 use Rattle.follow.specs.declared.how.How.TheVariants as how
 use Rattle.follow.specs.Forecasts.{agrees, all_agree, same_all, Forecast}
-use Rattle.follow.specs.Reaches.{plus, here, reach_by, reach, Reached}
+use Rattle.follow.specs.Reaches.{plus, reach_by, reach, Reached}
 use Rattle.domain.specs.declared.chunk.Chunk.{Chunk}
 use Rattle.domain.specs.Tables.{Table}
 use Rattle.domain.specs.Instances.{Instance, block_of, Predicted}
 use Rattle.domain.specs.Steps.{next}
 use Rattle.follow.specs.Plans.{item, Item, Work, Runs, Evaluates, work_trace, item_trace}
 use Rattle.follow.specs.FollowRuns.{state_of, ended_with, item_step, follow_one}
-use Rattle.follow.specs.ChunkRuns.{ChunkRun, chunk_run}
+use Rattle.follow.specs.ChunkRuns.{chunk_run}
 use Rattle.follow.specs.Deviations.{Deviation, Differs, Halts, Limit, IsDeviation, FollowsPrediction}
-use Rattle.follow.specs.Hows.{how_refused, how_turning, how_by, how_seen, how_halted, how_of}
-use Rattle.follow.specs.Followed.{IsFollowed}
+use Rattle.follow.specs.Hows.{how_refused, how_by, how_halted, how_of}
 use Rattle.follow.proofs.Undeviated.{is_done}
 use Rattle.follow.proofs.Budgets.{enough, went, went-reach}
 use Rattle.follow.proofs.Deviating.{tests-follow, not-both}

@@ -1,5 +1,5 @@
 -- Examples, computed: what small tables forecast, and what their instances are.
-use Rattle.std.specs.Prelude.{◌≡◌, refl, ℤ, pos, List, [], ◌∷◌, Some, None}
+use Rattle.std.specs.Prelude.{◌≡◌, refl, pos, List, [], ◌∷◌, Some, None}
 use Rattle.nest_lang.specs.declared.tree.Expr.TheVariants.{Number, Var}
 use Rattle.nest_lang.specs.declared.tree.Head.TheVariants.{For}
 use Rattle.nest_lang.specs.declared.tree.Loop.{Loop}

@@ -1,4 +1,4 @@
-use Rattle.std.proofs.Common.{◌≡◌, ◌<◌, ◌∙◌, sym, ℕ, suc, length, arith}
+use Rattle.std.proofs.Common.{arith}
 use Rattle.follow_chunk.proofs.Predicting.{intervals-all}
 use Rattle.follow_chunk.proofs.expect.intervals_at.Goals as goal
 

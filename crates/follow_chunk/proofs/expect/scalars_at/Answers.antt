@@ -1,4 +1,4 @@
-use Rattle.std.proofs.Common.{◌≡◌, ◌<◌, ◌∙◌, ap, ap₂, sym, pos, Option, ℕ, List, ℤ, length, ◌++◌, ◌∷◌, [], arith, rules}
+use Rattle.std.proofs.Common.{◌∙◌, ap, ap₂, sym, pos, Option, List, ℤ, ◌++◌, ◌∷◌, [], arith, rules}
 use Rattle.std.specs.Prelude.{unwrap_or}
 use Rattle.std.specs.Int.{w128}
 use Rattle.std.proofs.lemmas.Int.{to_z-of_z}

@@ -1,4 +1,4 @@
-use Rattle.std.proofs.Common.{◌≡◌, refl, sym, ◌∙◌, ap, subst, Result, Ok, Err, ℕ, length, pos}
+use Rattle.std.proofs.Common.{refl, subst, Result, ℕ, length, pos}
 use Rattle.follow.specs.declared.how.How.{How}
 use Rattle.follow_chunk.specs.Followed.{IsRun}
 use Rattle.follow_chunk.proofs.Whole.{follows-by, deviates-by}

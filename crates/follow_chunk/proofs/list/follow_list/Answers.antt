@@ -1,9 +1,7 @@
-use Rattle.std.proofs.Common.{◌≡◌, ◌≤◌, ◌<◌, ◌+◌, ◌*◌, refl, sym, ◌∙◌, ap, subst, ℕ, length, pos, take, get_or, false, arith, rules}
-use Rattle.std.specs.Prelude.{◌^◌}
+use Rattle.std.proofs.Common.{sym, ◌∙◌, ap, subst, ℕ, length, pos, arith, rules}
 use Rattle.nest_lang.specs.Lookups.{Expectation}
 use Rattle.domain.specs.Instances.{Instance, Predicted}
 use Rattle.follow_chunk.specs.declared.task.Followed.{Followed}
-use Rattle.follow_chunk.specs.declared.task.Followed.TheVariants.{Same, Differs}
 use Rattle.follow_chunk.specs.Tasks.{IsTask}
 use Rattle.follow_chunk.specs.Followed.{FirstDeviates, IsInstanceFollowed}
 use Rattle.follow_chunk.proofs.Whole.{follows-few}

@@ -1,7 +1,6 @@
-use Rattle.std.proofs.Common.{◌≡◌, ap, sym, ◌∙◌, Some, None}
+use Rattle.std.proofs.Common.{ap, sym, ◌∙◌}
 use Rattle.std.specs.Prelude.{slice_get}
 use Rattle.nest_lang.specs.Blocks.{present_blocks}
-use Rattle.follow_chunk.proofs.Running.{trip-value}
 use Rattle.domain.specs.Instances.{Instance}
 use Rattle.follow_chunk.proofs.Standing.{block-here}
 use Rattle.follow_chunk.proofs.task.Task.block.Goals as goal

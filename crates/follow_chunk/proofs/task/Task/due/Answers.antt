@@ -1,8 +1,7 @@
-use Rattle.std.proofs.Common.{◌≡◌, ◌≤◌, ◌<◌, sym, ◌∙◌, ap, subst, ℕ, List, ℤ, pos, FitsSigned, w64, get_or, length, arith, rules}
+use Rattle.std.proofs.Common.{◌≡◌, ◌≤◌, sym, ◌∙◌, ap, subst, List, ℤ, pos, FitsSigned, w64, get_or, length, arith, rules}
 use Rattle.nest_lang.specs.declared.tree.BlockRef.{BlockRef}
 use Rattle.nest_lang.specs.Accesses.{accesses_of}
 use Rattle.domain.specs.Instances.{Instance, block_of}
-use Rattle.domain.specs.Steps.{next}
 use Rattle.follow_chunk.specs.Predicted.{scalars_at}
 use Rattle.follow_chunk.proofs.Standing.{can-turn, accesses-here}
 use Rattle.follow_chunk.proofs.Running.{count-here, count-next, few-scalars, few-accesses, fits-here, next-is}

@@ -1,4 +1,4 @@
-use Rattle.std.proofs.Common.{◌≡◌, sym, ◌∙◌, Option, Some, None, ℕ}
+use Rattle.std.proofs.Common.{sym, ◌∙◌, Some, None}
 use Rattle.follow_chunk.proofs.Placing.{head-rank, head-is}
 use Rattle.follow_chunk.proofs.task.Task.head_rank.Goals as goal
 

@@ -1,4 +1,4 @@
-use Rattle.std.proofs.Common.{◌≡◌, ◌≤◌, ◌<◌, sym, ◌∙◌, ap, subst, Option, Some, None, ℕ, ◌+◌, List, ℤ, pos, FitsSigned, w64, to_z, of_z, take, arith, rules}
+use Rattle.std.proofs.Common.{◌≤◌, sym, ◌∙◌, ap, subst, Option, List, ℤ, pos, FitsSigned, w64, to_z, of_z, arith, rules}
 use Rattle.std.specs.Prelude.{unwrap_or}
 use Rattle.std.specs.Int.{w128}
 use Rattle.std.proofs.lemmas.Int.{to_z-of_z}
@@ -7,8 +7,6 @@ use Rattle.domain.specs.declared.prediction.What.TheVariants.{Lower}
 use Rattle.domain.specs.Tables.{cut}
 use Rattle.domain.specs.Instances.{Instance, instance}
 use Rattle.domain.specs.Expected.{expected_of}
-use Rattle.follow.specs.Instances.{lower_at}
-use Rattle.follow_chunk.specs.Predicted.{forecast_of}
 use Rattle.follow_chunk.proofs.Placing.{lower-inner}
 use Rattle.follow_chunk.proofs.task.Task.lower.Goals as goal
 

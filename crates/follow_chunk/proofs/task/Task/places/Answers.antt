@@ -1,10 +1,10 @@
-use Rattle.std.proofs.Common.{◌≡◌, ◌<◌, refl, sym, ◌∙◌, ap, ap₂, ℕ, ℤ, ◌+◌, w64, to_z, of_z, take, arith, rules}
+use Rattle.std.proofs.Common.{refl, sym, ◌∙◌, ap, ap₂, ℕ, ℤ, ◌+◌, w64, to_z, of_z, take, arith, rules}
 use Rattle.std.specs.Prelude.{unsigned_abs}
-use Rattle.std.proofs.lemmas.Int.{to_z-of_z, fits_signed_from_abs}
+use Rattle.std.proofs.lemmas.Int.{to_z-of_z}
 use Rattle.nest_lang.specs.Loops.{Around, inward}
 use Rattle.nest_lang.specs.Blocks.{head_at}
 use Rattle.domain.specs.Instances.{Instance, counter}
-use Rattle.follow_chunk.specs.Items.{around_of, name_value}
+use Rattle.follow_chunk.specs.Items.{around_of}
 use Rattle.follow_chunk.proofs.Placing.{around-next, around-none, counter-fits, counters-deep}
 use Rattle.follow_chunk.proofs.task.Task.places.Goals as goal
 

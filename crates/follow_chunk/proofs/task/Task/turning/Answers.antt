@@ -1,4 +1,4 @@
-use Rattle.std.proofs.Common.{◌≡◌, ◌≤◌, ◌<◌, ◌-◌, refl, sym, ◌∙◌, ap, ap₂, subst, ℕ, List, ℤ, pos, Bool, true, false, Option, Some, w64, to_z, of_z, get_or, nat_le, arith, rules}
+use Rattle.std.proofs.Common.{◌≡◌, ◌-◌, sym, ◌∙◌, ap, ap₂, subst, ℕ, List, ℤ, pos, Bool, true, false, Option, Some, w64, to_z, of_z, get_or, nat_le, arith, rules}
 use Rattle.std.specs.Prelude.{unwrap_or, int_lt, ◌||◌}
 use Rattle.std.specs.Int.{w128}
 use Rattle.std.proofs.lemmas.Int.{to_z-of_z}
@@ -7,11 +7,10 @@ use Rattle.nest_lang.specs.declared.tree.BlockRef.{BlockRef}
 use Rattle.nest_lang.specs.declared.tree.Head.{Head}
 use Rattle.nest_lang.specs.declared.tree.Head.TheVariants.{For, While}
 use Rattle.nest_lang.specs.Blocks.{head_at}
-use Rattle.domain.specs.declared.prediction.What.TheVariants.{Lower, Trip}
+use Rattle.domain.specs.declared.prediction.What.TheVariants.{Trip}
 use Rattle.domain.specs.Tables.{cut, trip}
 use Rattle.domain.specs.Instances.{Instance, instance, block_of, counter}
 use Rattle.domain.specs.Expected.{expected_of}
-use Rattle.follow.specs.declared.how.Turning.{Turning}
 use Rattle.follow.specs.declared.how.Turning.TheVariants.{Bounds, Holds}
 use Rattle.follow.specs.Turnings.{IsTurning}
 use Rattle.follow_chunk.specs.Predicted.{occurrence_of, forecast_of}

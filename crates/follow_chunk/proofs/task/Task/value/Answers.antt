@@ -1,6 +1,6 @@
-use Rattle.std.proofs.Common.{◌≡◌, ◌≤◌, ◌<◌, ◌+◌, sym, ◌∙◌, ap, ap₂, subst, Option, Some, None, ℕ, ℤ, pos, FitsSigned, w64, to_z, of_z, get_or, take, arith, rules}
+use Rattle.std.proofs.Common.{◌≡◌, ◌+◌, sym, ◌∙◌, ap, ap₂, subst, Some, ℤ, FitsSigned, w64, to_z, of_z, take, arith, rules}
 use Rattle.std.specs.Prelude.{option_map, unsigned_abs}
-use Rattle.std.proofs.lemmas.Int.{to_z-of_z, fits_signed_from_abs}
+use Rattle.std.proofs.lemmas.Int.{to_z-of_z}
 use Rattle.nest_lang.specs.declared.tree.Head.{Head}
 use Rattle.nest_lang.specs.declared.tree.Head.TheVariants.{For, While}
 use Rattle.nest_lang.specs.Blocks.{head_at}
