@@ -189,27 +189,42 @@ same-end : (tr : Trace) (s : Store) (left used : ℕ) → ((cut tr s left used).
 unfolding cut
 same-end tr s left used = (refl, refl)
 
+-- a comparison keeps what is predicted of which chunk
+pub keeps : (t : Table) (chunk : Chunk) (shown : List Observation) (x : Instance) (c : Comparison) → Shown t chunk shown x c → (c.table ≡ t) × (c.chunk ≡ chunk)
+keeps t chunk shown x c (inl h) = (ap (λ (z : Comparison). z.table) h.1, ap (λ (z : Comparison). z.chunk) h.1)
+keeps t chunk shown x c (inr h) = (ap (λ (z : Comparison). z.table) h.2.1, ap (λ (z : Comparison). z.chunk) h.2.1)
+
 -- a result that is right whatever agrees, or was found first, is the deviation of each run that was watched
 pub watched : (D : ℕ) (c : Comparison) (finish : Finish) (scalars : List ℤ) (result : Option (code.Deviation D))
     → ((os : List Observation) → Shown c.table c.chunk os (opening_at c.table c.chunk.first) c → IsDeviationOf {D = D} c.table c.chunk (record { observations = os ++ closing_at (occurrence_of c.table (behind c.table c.chunk)) finish scalars; finish = finish }) result)
     → IsFirstDeviation {D = D} c finish scalars result
-watched D c finish scalars result right x k loops o a b w =
-    subst (λ (run : ChunkRun). IsDeviationOf {D = D} c.table c.chunk run result) (sym same) (right os shown)
+watched D c finish scalars result right t chunk x k loops o a b w =
+    subst (λ (run : ChunkRun). IsDeviationOf {D = D} t chunk run result) (sym same)
+    (subst (λ (z : Table). Is z chunk) is.0 (subst (λ (z : Chunk). Is c.table z) is.1 (right os (subst (λ (z : Table). Mine z c.chunk) (sym is.0) (subst (λ (z : Chunk). Mine t z) (sym is.1) shown)))))
   where
     tr : Trace
-    tr = turns_trace x k loops o (unsigned_abs c.chunk.turns) a.store
+    tr = turns_trace x k loops o (unsigned_abs chunk.turns) a.store
 
     os : List Observation
-    os = seen_in (turns_trace x k loops o (unsigned_abs c.chunk.turns) a.store) a.left
+    os = seen_in (turns_trace x k loops o (unsigned_abs chunk.turns) a.store) a.left
 
-    shown : Shown c.table c.chunk os (opening_at c.table c.chunk.first) c
+    Mine : Table → Chunk → Type 0
+    Mine u q = Shown u q os (opening_at u q.first) c
+
+    Is : Table → Chunk → Type 0
+    Is u q = IsDeviationOf {D = D} u q (record { observations = os ++ closing_at (occurrence_of u (behind u q)) finish scalars; finish = finish }) result
+
+    shown : Shown t chunk os (opening_at t chunk.first) c
     shown =
-        shows c.table c.chunk os (opening_at c.table c.chunk.first) c (turns-tell x k loops o (unsigned_abs c.chunk.turns) a.store a.left)
-        (subst (λ (z : Comparison). Chain MayCompare (fresh c.table c.chunk) os z) w.ends (subst (λ (z : Comparison). Chain MayCompare z os b.watch) w.begins w.ran.shown))
+        shows t chunk os (opening_at t chunk.first) c (turns-tell x k loops o (unsigned_abs chunk.turns) a.store a.left)
+        (subst (λ (z : Comparison). Chain MayCompare (fresh t chunk) os z) w.ends (subst (λ (z : Comparison). Chain MayCompare z os b.watch) w.begins w.ran.shown))
 
-    same : run_of_chunk c.table c.chunk (turns_trace x k loops o (unsigned_abs c.chunk.turns) a.store) a.store a.left ≡ record { observations = os ++ closing_at (occurrence_of c.table (behind c.table c.chunk)) finish scalars; finish = finish }
+    is : (c.table ≡ t) × (c.chunk ≡ chunk)
+    is = keeps t chunk os (opening_at t chunk.first) c shown
+
+    same : run_of_chunk t chunk (turns_trace x k loops o (unsigned_abs chunk.turns) a.store) a.store a.left ≡ record { observations = os ++ closing_at (occurrence_of t (behind t chunk)) finish scalars; finish = finish }
     same =
         let e = same-end tr a.store a.left a.used in
-        ap₂ (λ (f : Finish) (vs : List ℤ). let run : ChunkRun = record { observations = os ++ closing_at (occurrence_of c.table (behind c.table c.chunk)) f vs; finish = f } in run)
+        ap₂ (λ (f : Finish) (vs : List ℤ). let run : ChunkRun = record { observations = os ++ closing_at (occurrence_of t (behind t chunk)) f vs; finish = f } in run)
         (sym e.0 ∙ sym (ap (λ (z : Cut). z.ending) w.ran.cut))
         (ap (λ (z : Store). z.scalars) (sym e.1) ∙ sym (ap (λ (z : Cut). z.store.scalars) w.ran.cut) ∙ w.closes)

@@ -21,6 +21,11 @@ use Rattle.compare.specs.Comparisons.{Comparison, fresh, IsOfTurns, MayCompare}
 use Rattle.compare.specs.Compared.{due_after}
 use Rattle.compare.specs.Chunks.{IsWatchable}
 
+-- it is still about what is predicted of that chunk
+pub record StillAbout (t : Table) (chunk : Chunk) (c : Comparison) : Type 0 where
+  pub same_table : c.table ≡ t
+  pub same_chunk : c.chunk ≡ chunk
+
 -- all of it agrees, nothing was found, and the instance of the last observation is running or due
 pub record FoundNothing (t : Table) (chunk : Chunk) (shown : List Observation) (c : Comparison) : Type 0 where
   pub agree : all_agree (forecast_of t) shown ≡ true
@@ -36,7 +41,7 @@ pub record FoundFirst (t : Table) (shown : List Observation) (c : Comparison) : 
 -- a new comparison that was shown a list of things, as turns show them, found the first that doesn't agree, if there is one
 abbrev pub ComparisonFindsFirst : Type 0
 ComparisonFindsFirst = (t : Table) (chunk : Chunk) (shown : List Observation) (c : Comparison) → AllByRecursion IsOfTurns shown → Chain MayCompare (fresh t chunk) shown c
-    → FoundNothing t chunk shown c ⊎ FoundFirst t shown c
+    → StillAbout t chunk c × (FoundNothing t chunk shown c ⊎ FoundFirst t shown c)
 
 -- turns show no trip of an outermost loop
 abbrev pub TurnsShowInnerTrips : Type 0

@@ -36,16 +36,17 @@ IsDeviationOf t chunk run None = FollowsPrediction (forecast_of t) run
 IsDeviationOf t chunk run (Some d) =
     (e : Deviation) × IsDeviation (forecast_of t) run e × (d.at ≡ instance_in t chunk run.observations e) × (d.how ≡ how_of (forecast_of t) (kept_deviation e))
 
--- the turns of a chunk ran from one moment to another, watched by a comparison that was new, to these scalars
-pub record Watched (x : Expectation) (k : ℕ) (loops : List Loop) (o : Outer) (a b : Moment Comparison) (finish : Finish) (c : Comparison) (scalars : List ℤ) : Type 0 where
-  pub begins : a.watch ≡ fresh c.table c.chunk
+-- the turns of a chunk ran from one moment to another, watched by a comparison that was new, up to this comparison and to
+-- these scalars
+pub record Watched (t : Table) (chunk : Chunk) (x : Expectation) (k : ℕ) (loops : List Loop) (o : Outer) (a b : Moment Comparison) (finish : Finish) (c : Comparison) (scalars : List ℤ) : Type 0 where
+  pub begins : a.watch ≡ fresh t chunk
   pub ends : b.watch ≡ c
   pub closes : b.store.scalars ≡ scalars
-  pub ran : Ran MayCompare (turns_trace x k loops o (unsigned_abs c.chunk.turns)) a b finish
+  pub ran : Ran MayCompare (turns_trace x k loops o (unsigned_abs chunk.turns)) a b finish
 
--- whatever turns of the chunk it watched, and however they finished, this is the deviation of their run from the state
--- and the steps left at their start
+-- whatever turns of a chunk it watched, and however they finished, this is the deviation of their run from the state and
+-- the steps left at their start
 abbrev pub IsFirstDeviation : {D : ℕ} → Comparison → Finish → List ℤ → Option (code.Deviation D) → Type 0
 IsFirstDeviation c finish scalars result =
-    (x : Expectation) (k : ℕ) (loops : List Loop) (o : Outer) (a b : Moment Comparison) → Watched x k loops o a b finish c scalars
-    → IsDeviationOf c.table c.chunk (run_of_chunk c.table c.chunk (turns_trace x k loops o (unsigned_abs c.chunk.turns) a.store) a.store a.left) result
+    (t : Table) (chunk : Chunk) (x : Expectation) (k : ℕ) (loops : List Loop) (o : Outer) (a b : Moment Comparison) → Watched t chunk x k loops o a b finish c scalars
+    → IsDeviationOf t chunk (run_of_chunk t chunk (turns_trace x k loops o (unsigned_abs chunk.turns) a.store) a.store a.left) result

@@ -7,3 +7,4 @@ pub mod Comparisons
 pub mod Compared
 pub mod Occurrences
 pub mod CompareLaws
+pub mod Examples

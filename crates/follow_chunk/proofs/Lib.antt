@@ -9,3 +9,4 @@ pub mod Running
 pub mod Whole
 pub mod Listing
 pub mod Conflicts
+pub mod Premises

@@ -1,11 +1,16 @@
 -- What holds of the instances of a task.
-use Rattle.std.specs.Prelude.{◌≡◌, ◌↔◌, ℕ, pos, List, Some}
+use Rattle.std.specs.Prelude.{◌≡◌, ◌↔◌, ℕ, pos, List, [], ◌∷◌, Some}
+use Rattle.nest_lang.specs.declared.tree.Expr.TheVariants.{Number, Var}
+use Rattle.nest_lang.specs.declared.tree.Head.TheVariants.{For}
+use Rattle.nest_lang.specs.declared.tree.Place.TheVariants.{Counter}
+use Rattle.nest_lang.specs.declared.tree.Stmt.TheVariants.{Store}
 use Rattle.nest_lang.specs.declared.tree.Loop.{Loop}
 use Rattle.nest_lang.specs.declared.state.Outer.{Outer}
 use Rattle.domain.specs.declared.chunk.Chunk.{Chunk}
 use Rattle.domain.specs.Tables.{Table, IsTable}
 use Rattle.domain.specs.Instances.{Instance, IsInstance, Predicted, IsSuccessor}
 use Rattle.domain.specs.Steps.{next}
+use Rattle.domain.specs.Examples.{row}
 use Rattle.domain.specs.Footprints as table
 use Rattle.follow.specs.Instances.{item_of}
 use Rattle.follow.specs.ReorderLaws as list
@@ -32,3 +37,14 @@ abbrev pub ConflictsAgree : Type 0
 ConflictsAgree =
     (D scalars words : ℕ) (loops : List Loop) (t : Table) (o : Outer) (chunk : Chunk) (x y : Instance) → IsTask D scalars loops t o chunk (pos words) → Predicted t chunk x → Predicted t chunk y
     → list.Conflict (forecast_of t) words (item_at t loops o x) (item_at t loops o y) ↔ table.Conflict t (pos words) x y
+
+-- for i = 0 below 40 { [i] = 1 }
+abbrev pub one_row : List Loop
+one_row = record { head = For (Number (pos 0)) (Number (pos 40)) (pos 1); pre = Store 1 (Var (Counter 0)) (Number (pos 1)) ∷ []; post = [] } ∷ []
+
+abbrev pub one_turn : Chunk
+one_turn = record { first = pos 0; turns = pos 1 }
+
+-- the premises of the contracts can be met: by the first turn of that nest, over 40 words
+abbrev pub PremisesCanHold : Type 0
+PremisesCanHold = IsTask 1 0 one_row row (record { lower = pos 0; next = pos 0; left = Some 40 }) one_turn (pos 40)

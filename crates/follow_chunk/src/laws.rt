@@ -1,6 +1,6 @@
 //! Laws: functions that do nothing, each with a law of the definitions as its contract.
 
-ghost use Rattle.follow_chunk.specs.Laws.{InstancesReturn, InstancesHaveItems, NextIsSuccessor, ConflictsAgree};
+ghost use Rattle.follow_chunk.specs.Laws.{InstancesReturn, InstancesHaveItems, NextIsSuccessor, ConflictsAgree, PremisesCanHold};
 
 /// An instance is that of its occurrence.
 pub fn instances_return()
@@ -20,4 +20,9 @@ pub fn next_is_successor()
 /// Two predicted instances of a launched chunk conflict by their footprints exactly where what they run does.
 pub fn conflicts_agree()
     ensures { ConflictsAgree }
+{}
+
+/// The premises of the contracts can be met.
+pub fn premises_can_hold()
+    ensures { PremisesCanHold }
 {}

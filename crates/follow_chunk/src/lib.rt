@@ -8,8 +8,8 @@
 //!
 //! The crate stands on `follow`, whose calls run one block or head against lists of what is expected, and on `domain`,
 //! which has predictions, instances and their successors. It takes no memory. `laws` ties its instances to the items
-//! that `follow`'s laws speak of. The layers that run tiles of instances
-//! on several threads use its calls, and its definitions of forecasts and items.
+//! that `follow`'s laws speak of. The layers that run tiles of instances on several threads use its calls, and its
+//! definitions of forecasts and items.
 #![tactic(auto)]
 
 mod expect;
