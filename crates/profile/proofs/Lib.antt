@@ -3,6 +3,7 @@ pub mod FitLaws
 pub mod FitParts
 pub mod GatherLaws
 pub mod LogLaws
+pub mod OneFitLaws
 pub mod ReachLaws
 pub mod SamplerLaws
 pub mod WholeLaws

@@ -42,3 +42,7 @@ FormIsOnlyAffine =
     → tube.low ≡ pos 0 → tube.high ≡ pos 0 → ((k : ℕ) → k < D → HasPair k (samples_at D observations block what))
     → ((place : ℕ) → place < length (samples_at D observations block what) → Meets tube.line (samples_at D observations block what) place)
     × ((other : Affine) → length other.coef ≡ D → ((place : ℕ) → place < length (samples_at D observations block what) → Meets other (samples_at D observations block what) place) → other ≡ tube.line)
+
+-- observations have at most one fit
+abbrev pub OneFit : Type 0
+OneFit = (D scalars : ℕ) (loops : List Loop) (observations : List Observation) (t u : Table) → IsFitOf D scalars loops observations t → IsFitOf D scalars loops observations u → t ≡ u

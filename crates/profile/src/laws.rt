@@ -1,6 +1,6 @@
 //! Laws: functions that do nothing, each with a law of the definitions as its contract.
 
-ghost use Rattle.profile.specs.Laws.{FitOrUnfit, FormIsOnlyAffine, SamplesLieInTubes};
+ghost use Rattle.profile.specs.Laws.{FitOrUnfit, FormIsOnlyAffine, OneFit, SamplesLieInTubes};
 ghost use Rattle.profile.specs.Sampled.{SamplerKeepsAll};
 
 /// A sampler that was shown a list of things, one after another, keeps the observations among them, in order, or was
@@ -12,6 +12,11 @@ pub fn sampler_keeps_all()
 /// Observations don't have both a fit and a first datum that has none.
 pub fn fit_or_unfit()
     ensures { FitOrUnfit }
+{}
+
+/// Observations have at most one fit.
+pub fn one_fit()
+    ensures { OneFit }
 {}
 
 /// Every sample of a datum with a form lies in its tube about the line.

@@ -2,9 +2,10 @@
 //!
 //! A `Sampler` is a watch that keeps the observations of the turns that it watched, in order, in about four words
 //! each. What it kept is a `Samples`, which contracts see as the list of these observations. `Samples::fit_of` is
-//! the fit of one datum of a block: of the samples that this list has of the datum, by `line_fit`. The crate stands
-//! on `block_exec` for the watch, on `nest_lang` for blocks and observations, and on `line_fit` and `affine` for
-//! lines. The layer above fits every datum of a nest and predicts with their forms.
+//! the fit of one datum of a block: of the samples that this list has of the datum, by `line_fit`. `fit` is that of a
+//! whole nest: a prediction, or the first datum that has no fit. The crate stands on `block_exec` for the watch, on
+//! `nest_lang` for blocks and observations, on `line_fit` and `affine` for lines, and on `domain` for predictions. The
+//! layer above predicts chunks of turns with what `fit` gives.
 #![tactic(auto)]
 
 mod bounds;
