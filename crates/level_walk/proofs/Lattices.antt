@@ -1,6 +1,6 @@
 -- Points that meet rows, and the levels of their scan.
-use Rattle.std.proofs.Common.{◌≡◌, ℕ, suc, ◌+◌, ◌-◌, ◌<◌, ◌≤◌, ◌^◌, ℤ, pos, ◌≤ℤ◌, int_lt, true, not, List, [], ◌∷◌, ◌++◌, length, length-append, append_assoc, take, get_or, refl, sym, ap, ◌∙◌, subst, inl, inr, arith}
-use Rattle.std.specs.Prelude.{◌⊎◌, unsigned_abs}
+use Rattle.std.proofs.Common.{◌≡◌, ℕ, suc, ◌+◌, ◌≤◌, ◌^◌, ℤ, pos, ◌≤ℤ◌, int_lt, true, not, List, [], ◌∷◌, ◌++◌, length, length-append, take, get_or, refl, sym, ap, subst, inl, arith}
+use Rattle.std.specs.Prelude.{unsigned_abs}
 use Rattle.std.specs.List.{All, AllByRecursion}
 use Rattle.std.proofs.lemmas.Int.{ints}
 use Rattle.std.proofs.lemmas.List.Elements.{All-nil}
@@ -8,16 +8,15 @@ use Rattle.std.proofs.Math.Seq.{get_or-append_seam}
 use Rattle.affine.specs.declared.row.Row.{Row}
 use Rattle.affine.specs.Rows.{Meets, sum_at}
 use Rattle.fourier_motzkin.specs.Elimination.{judged}
-use Rattle.fourier_motzkin.specs.Ranges.{Allowed, IsOpen, IsRange}
+use Rattle.fourier_motzkin.specs.Ranges.{Allowed, IsOpen}
 use Rattle.fourier_motzkin.specs.RowSets.{tidied}
 use Rattle.fourier_motzkin.specs.Verdicts.{Bounds, bounds_of, levels, next, standing}
 use Rattle.fourier_motzkin.proofs.Levels.{points_lie_in_ranges}
 use Rattle.plain_lemmas.proofs.MembershipLaws.{All_from, All_has, all_has, list_all_from, list_all_has}
 use Rattle.fourier_motzkin.proofs.Points.{judged_cases, met_tidied}
 use Rattle.fourier_motzkin.proofs.Runs.{length-levels}
-use Rattle.level_walk.specs.Fronts.{IsExact}
 use Rattle.level_walk.specs.Lattices.{FitsCell, HIGHEST, LOWEST, meets_all}
-use Rattle.level_walk.specs.Spaces.{HasNone, IsWithin, MissesNone}
+use Rattle.level_walk.specs.Spaces.{IsWithin}
 
 -- the test of all rows
 

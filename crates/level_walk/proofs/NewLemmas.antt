@@ -1,16 +1,15 @@
 -- The walk of which nothing was entered.
-use Rattle.std.proofs.Common.{◌≡◌, ◌<◌, ◌≤◌, ◌≤ℤ◌, ℕ, zero, suc, ℤ, pos, Bool, true, false, List, [], ◌∷◌, ◌++◌, map, length, replicate, refl, sym, ap, ap₂, ◌∙◌, subst, arith}
-use Rattle.std.specs.Prelude.{Option, Some, None}
+use Rattle.std.proofs.Common.{◌≡◌, ℕ, zero, suc, ℤ, pos, true, List, [], ◌∷◌, ◌++◌, map, length, replicate, refl, sym, ap, ap₂, subst, arith}
+use Rattle.std.specs.Prelude.{Option, None}
 use Rattle.std.specs.List.{AllByRecursion}
 use Rattle.std.proofs.lemmas.Int.{ints}
-use Rattle.level_walk.specs.Spaces.{IsWithin, Space}
-use Rattle.level_walk.specs.Places.{Place, Stands, left}
-use Rattle.level_walk.specs.Fronts.{fronts}
+use Rattle.level_walk.specs.Spaces.{IsWithin}
+use Rattle.level_walk.specs.Places.{Place, left}
 use Rattle.level_walk.specs.Blocks.{BlockStands, block_left}
 use Rattle.level_walk.specs.Lattices.{HIGHEST, LOWEST}
 use Rattle.level_walk.specs.Merges.{AllOrdered, merged, sorted, tag, tagged}
 use Rattle.level_walk.specs.declared.runs.Run.{Run}
-use Rattle.level_walk.specs.States.{StateStands, head_of, place_of, run_of, state_left}
+use Rattle.level_walk.specs.States.{head_of, place_of, run_of}
 use Rattle.level_walk.specs.Walks.{AllStand, IsBlock, IsBox, IsScanning, StandsIn, all_left, left_in, space_of}
 use Rattle.level_walk.specs.declared.scans.BlockScan.{BlockScan}
 use Rattle.level_walk.specs.declared.scans.Scanning.{Scanning}

@@ -1,27 +1,24 @@
 -- The walks of several blocks side by side.
-use Rattle.std.proofs.Common.{◌≡◌, ◌<◌, ◌≤◌, ◌+◌, ℕ, zero, suc, ℤ, pos, Bool, true, false, List, [], ◌∷◌, ◌++◌, map, length, take, drop, get_or, refl, sym, ap, ap₂, ◌∙◌, subst, arith}
-use Rattle.std.specs.Prelude.{Option, Some, None, IfSome, MatchOption}
+use Rattle.std.proofs.Common.{◌≡◌, ◌<◌, ◌≤◌, ◌+◌, ℕ, zero, suc, ℤ, pos, false, List, [], ◌∷◌, ◌++◌, length, take, drop, get_or, refl, sym, ap, ap₂, ◌∙◌, subst, arith}
+use Rattle.std.specs.Prelude.{Option, None, MatchOption}
 use Rattle.std.specs.List.{AllByRecursion}
 use Rattle.std.proofs.Math.ListN.{set}
 use Rattle.std.proofs.lemmas.List.{drop_more, length-set, take_all, take_more, take_more_set, length-take-le}
 use Rattle.affine.specs.declared.row.Row.{Row}
-use Rattle.level_walk.specs.Spaces.{IsWithin, Space, points}
 use Rattle.orders.specs.Orders.{Ordered}
 use Rattle.level_walk.specs.Orders.{Precedes}
-use Rattle.level_walk.specs.Lattices.{FitsCell, HIGHEST, LOWEST, in_cell}
+use Rattle.level_walk.specs.Lattices.{FitsCell, in_cell}
 use Rattle.level_walk.specs.Merges.{AllOrdered, first, pick, stepped}
 use Rattle.level_walk.specs.declared.merges.Best.{Best}
 use Rattle.level_walk.proofs.Points.{points_ordered}
-use Rattle.level_walk.specs.States.{StateStands, state_left}
-use Rattle.level_walk.specs.Walks.{AllStand, AreBlocks, IsBlock, IsBox, IsScanning, StandsIn, all_left, all_points, left_in, points_in, space_of}
+use Rattle.level_walk.specs.Walks.{AllStand, IsBlock, IsBox, IsScanning, StandsIn, all_left, all_points, left_in, points_in, space_of}
 use Rattle.level_walk.specs.declared.scans.Scanning.{Scanning}
 use Rattle.level_walk.specs.declared.scans.BlockScan.{BlockScan}
 use Rattle.level_walk.specs.declared.scans.BlockScan.TheVariants.{Scanned, Listed}
-use Rattle.level_walk.specs.Listings.{IsListing, listed_in}
+use Rattle.level_walk.specs.Listings.{listed_in}
 use Rattle.level_walk.proofs.ListLemmas.{differ_in, head_listed}
 use Rattle.level_walk.proofs.StateLemmas.{head_scanned}
 use Rattle.level_walk.proofs.ListedLemmas.{left_ordered}
-use Rattle.arrayvec.specs.ArrayVec.{ArrayVec}
 use Rattle.level_walk.specs.States.{head_of}
 use Rattle.level_walk.specs.declared.states.State.{State}
 

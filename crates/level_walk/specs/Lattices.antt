@@ -1,12 +1,12 @@
 -- The whole-number points that meet rows and lie in a box, as a space.
-use Rattle.std.specs.Prelude.{◌≡◌, ℕ, ◌-◌, ◌<◌, ◌≤◌, ◌^◌, ℤ, pos, neg_ℤ, Bool, true, false, not, ◌&&◌, int_lt, ◌≤ℤ◌, List, [], ◌∷◌, ◌++◌, length, slice_index_or}
+use Rattle.std.specs.Prelude.{◌≡◌, ℕ, ◌<◌, ◌≤◌, ◌^◌, ℤ, pos, neg_ℤ, Bool, true, false, not, ◌&&◌, int_lt, ◌≤ℤ◌, List, [], ◌∷◌, length, slice_index_or}
 use Rattle.std.specs.List.{list_all}
 use Rattle.affine.specs.declared.row.Row.{Row}
 use Rattle.affine.specs.Rows.{sum_at}
 use Rattle.fourier_motzkin.specs.Elimination.{AllOver}
 use Rattle.fourier_motzkin.specs.Ranges.{IsOpen}
 use Rattle.fourier_motzkin.specs.Verdicts.{Bounds, bounds_of}
-use Rattle.level_walk.specs.Spaces.{Space, AllWithin, IsWithin}
+use Rattle.level_walk.specs.Spaces.{Space, AllWithin}
 
 -- the least and the greatest value of a level
 abbrev pub LOWEST : ℤ

@@ -1,10 +1,8 @@
 -- A walk over points that are listed in another order: what is left after the last point that was given.
-use Rattle.std.specs.Prelude.{◌≡◌, ℕ, ℤ, Bool, true, false, not, ◌&&◌, if◌then◌else◌, Option, Some, None, List, [], ◌∷◌}
+use Rattle.std.specs.Prelude.{◌≡◌, ℤ, Bool, true, if◌then◌else◌, Option, Some, None, List, [], ◌∷◌}
 use Rattle.std.specs.Ordering.{int_cmp, is_lt}
 use Rattle.std.specs.Cmp.Lexicographic.{slice_cmp}
-use Rattle.std.specs.List.{AllByRecursion}
 use Rattle.orders.specs.Orders.{Ordered}
-use Rattle.level_walk.specs.Orders.{Precedes}
 
 abbrev pub comes_before : List ℤ → List ℤ → Bool
 comes_before first second = is_lt (slice_cmp int_cmp first second)

@@ -1,5 +1,5 @@
 -- The walk of a block in plain numbers.
-use Rattle.std.specs.Prelude.{◌≡◌, ℕ, ℤ, pos, Bool, true, false, if◌then◌else◌, Option, Some, None, List, [], ◌∷◌, ◌++◌, length, take, ◌≤◌}
+use Rattle.std.specs.Prelude.{ℤ, if◌then◌else◌, Option, Some, None, List, [], ◌∷◌, ◌++◌, take, ◌≤◌}
 use Rattle.level_walk.specs.Spaces.{Space}
 use Rattle.level_walk.specs.Places.{Place}
 use Rattle.level_walk.specs.Blocks.{BlockStands, block_left}

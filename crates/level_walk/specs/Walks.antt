@@ -1,14 +1,11 @@
 -- What is left of the walks of several blocks in one cell, and the lists of the cells.
-use Rattle.std.specs.Prelude.{◌≡◌, ℕ, ℤ, ◌<◌, ◌≤◌, Option, Some, None, List, [], ◌∷◌, length, map, slice_index_or}
+use Rattle.std.specs.Prelude.{◌≡◌, ℕ, ℤ, ◌<◌, ◌≤◌, None, List, [], ◌∷◌, length, map, slice_index_or}
 use Rattle.std.specs.List.{AllByRecursion}
-use Rattle.affine.specs.declared.row.Row.{Row}
 use Rattle.fourier_motzkin.specs.Elimination.{AllOver}
 use Rattle.fourier_motzkin.specs.Ranges.{IsOpen}
 use Rattle.fourier_motzkin.specs.Verdicts.{bounds_of}
 use Rattle.level_walk.specs.Spaces.{IsWithin, Space, points}
 use Rattle.level_walk.specs.Lattices.{HIGHEST, LOWEST, in_cell}
-use Rattle.level_walk.specs.Merges.{merged}
-use Rattle.level_walk.specs.declared.merges.Best.{Best}
 use Rattle.level_walk.specs.Listed.{left_after}
 use Rattle.level_walk.specs.States.{StateStands, head_of, state_left}
 use Rattle.level_walk.specs.Listings.{IsListing, after_head, listed_in}

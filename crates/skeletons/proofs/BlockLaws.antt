@@ -1,7 +1,7 @@
 -- In a launched chunk the points whose places lie between the ends of a block are the padded points of its predicted
 -- instances.
-use Rattle.std.proofs.Common.{◌≡◌, refl, sym, ap, ap₂, ◌∙◌, subst, ℕ, zero, suc, ◌<◌, ◌≤◌, ◌+◌, ◌-◌, ◌^◌, ℤ, pos, ◌+ℤ◌, ◌-ℤ◌, ◌≤ℤ◌, ◌<ℤ◌, Bool, true, false, List, [], ◌∷◌, Option, Some, None, map, length, get_or, nat_lt, nat_eq, ◌⊎◌, inl, inr, ⊎_elim, arith, max}
-use Rattle.std.specs.Prelude.{◌↔◌, if◌then◌else◌, ◌&&◌}
+use Rattle.std.proofs.Common.{◌≡◌, refl, sym, ap, ap₂, ◌∙◌, subst, ℕ, zero, suc, ◌<◌, ◌≤◌, ◌+◌, ◌-◌, ℤ, pos, ◌+ℤ◌, ◌-ℤ◌, ◌≤ℤ◌, Bool, true, false, List, [], ◌∷◌, Some, map, length, get_or, nat_lt, nat_eq, ◌⊎◌, inl, inr, ⊎_elim, arith, max}
+use Rattle.std.specs.Prelude.{◌&&◌}
 use Rattle.std.specs.List.{range_with_len}
 use Rattle.std.proofs.lemmas.Int.{ints}
 use Rattle.std.proofs.lemmas.Bool.{cases_lt, and_parts}
@@ -9,9 +9,8 @@ use Rattle.std.proofs.lemmas.Bool.Decides.{nat_tests}
 use Rattle.nest_lang.specs.declared.tree.Part.{Part}
 use Rattle.nest_lang.specs.declared.tree.Part.TheVariants.{Head, Pre, Post}
 use Rattle.domain.specs.declared.chunk.Chunk.{Chunk}
-use Rattle.domain.specs.Tables.{Table, Block, IsTable, IsBlock, block_at, counters, counters_by, cut, depth, is_post, rank_of, repeats, trip, turning, turning_by}
-use Rattle.domain.specs.Instances.{Instance, instance, block_of, counter, turns_of, place, padded, IsInstance, InTurn, Tested, Predicted}
-use Rattle.domain.specs.Launches.{IsLaunched}
+use Rattle.domain.specs.Tables.{Table, Block, IsTable, block_at, counters, counters_by, cut, depth, is_post, rank_of, repeats, trip, turning}
+use Rattle.domain.specs.Instances.{Instance, instance, block_of, counter, place, padded, InTurn, Tested, Predicted}
 use Rattle.domain.proofs.PlaceLaws.{place-counter, place-turns, place-rest, place-zero}
 use Rattle.domain.proofs.PointLaws.{length-cut, cut-before, cut-after, trip-cut}
 use Rattle.domain.proofs.WithinLaws.{trip-same, turns-trip, counters-of, turning-of, head-least}

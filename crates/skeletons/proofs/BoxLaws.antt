@@ -1,11 +1,11 @@
 -- The box of a cell has the places of its points.
-use Rattle.std.proofs.Common.{◌≡◌, refl, sym, ap, ap₂, ◌∙◌, subst, ℕ, zero, suc, ◌<◌, ◌≤◌, ◌+◌, ◌-◌, ◌^◌, ℤ, pos, ◌+ℤ◌, ◌-ℤ◌, ◌*ℤ◌, ◌≤ℤ◌, ◌<ℤ◌, neg_ℤ, int_lt, Bool, true, false, not, ◌&&◌, List, [], ◌∷◌, map, length, get_or, nat_lt, drop, replicate, set, ◌≢◌, ◌⊎◌, inl, inr, ⊎_elim, arith}
+use Rattle.std.proofs.Common.{◌≡◌, refl, sym, ap, ◌∙◌, subst, ℕ, zero, suc, ◌<◌, ◌≤◌, ◌+◌, ◌^◌, ℤ, pos, ◌+ℤ◌, ◌-ℤ◌, ◌*ℤ◌, ◌≤ℤ◌, ◌<ℤ◌, neg_ℤ, int_lt, Bool, true, false, not, ◌&&◌, List, [], ◌∷◌, map, length, nat_lt, drop, replicate, set, ◌≢◌, ◌⊎◌, inl, inr, arith}
 use Rattle.std.specs.Prelude.{◌↔◌, if◌then◌else◌}
 use Rattle.std.specs.Int.{int_div_euclid}
 use Rattle.std.specs.List.{AllByRecursion, range_with_len}
 use Rattle.std.proofs.lemmas.Int.{ints}
 use Rattle.std.proofs.lemmas.Bool.{cases_lt}
-use Rattle.std.proofs.lemmas.List.{drop_all, get_or-replicate, get_or-set_other, get_or-set_same, length-replicate}
+use Rattle.std.proofs.lemmas.List.{drop_all, get_or-set_other, get_or-set_same, length-replicate}
 use Rattle.std.proofs.lemmas.Bool.Decides.{nat_tests}
 use Rattle.std.proofs.Math.ListN.{length-map}
 use Rattle.plain_lemmas.proofs.IntegerLaws.{*ℤ-+ℤ}
@@ -14,7 +14,7 @@ use Rattle.domain.specs.Instances.{counter}
 use Rattle.level_walk.specs.Lattices.{HIGHEST, LOWEST, in_box}
 use Rattle.level_walk.specs.Spaces.{IsWithin}
 use Rattle.level_walk.specs.Walks.{IsBox}
-use Rattle.transform.specs.Schedules.{Line, Schedule, IsSchedule, along, band, line_at, place, tile_along, wave, wave_of, wide_lead, wide_tile}
+use Rattle.transform.specs.Schedules.{Line, Schedule, IsSchedule, along, line_at, place, tile_along, wave, wave_of, wide_lead, wide_tile}
 use Rattle.transform.proofs.LineLaws.{get_or-place, wave_of-drop, wide_lead_is, wide_tile_is}
 use Rattle.skeletons.specs.Boxes.{AgreesAt, IsBoxOf, IsRangeOf}
 use Rattle.skeletons.specs.Cells.{Cell, cell_of}

@@ -1,25 +1,23 @@
 -- The instances of the places that the blocks of a chunk have.
-use Rattle.std.proofs.Common.{◌≡◌, refl, sym, ap, ap₂, ◌∙◌, subst, ℕ, zero, suc, ◌<◌, ◌≤◌, ◌+◌, ◌^◌, ℤ, pos, ◌+ℤ◌, ◌*ℤ◌, unsigned_abs, List, [], ◌∷◌, ◌++◌, map, take, replicate, mul_comm, length, get_or, ◌⊎◌, inl, inr, ⊎_elim, arith}
-use Rattle.std.specs.Prelude.{◌↔◌}
-use Rattle.std.specs.List.{All, AllByRecursion, range_with_len}
+use Rattle.std.proofs.Common.{◌≡◌, refl, sym, ap, ap₂, ◌∙◌, subst, ℕ, zero, suc, ◌<◌, ◌≤◌, ◌+◌, ◌^◌, ℤ, pos, ◌+ℤ◌, ◌*ℤ◌, unsigned_abs, List, [], ◌∷◌, map, take, replicate, length, get_or, ◌⊎◌, inl, inr, ⊎_elim, arith}
+use Rattle.std.specs.List.{AllByRecursion, range_with_len}
 use Rattle.std.proofs.lemmas.Int.{ints}
 use Rattle.std.proofs.lemmas.Bool.{cases_lt}
 use Rattle.std.proofs.lemmas.List.{take_all}
-use Rattle.plain_lemmas.proofs.MembershipLaws.{Has, All_from, All_has, all_has, has_map, map_has}
+use Rattle.plain_lemmas.proofs.MembershipLaws.{All_from, All_has, map_has}
 use Rattle.plain_lemmas.proofs.IntegerLaws.{one-*ℤ}
 use Rattle.plain_lemmas.proofs.ListLaws.{get_or-replicate_default}
-use Rattle.std.proofs.Math.ListN.{length-map}
 use Rattle.affine.specs.Forms.{AllWithinSize}
 use Rattle.affine.specs.Inverses.{across, IsSquare}
 use Rattle.affine.specs.Matrices.{HasSmallEntries, product}
-use Rattle.affine.specs.Sums.{dot, weighted}
+use Rattle.affine.specs.Sums.{dot}
 use Rattle.affine.proofs.InverseLaws.{length-across}
 use Rattle.affine.proofs.SumLemmas.{get_or-weighted}
 use Rattle.domain.specs.Instances.{counter}
 use Rattle.domain.specs.Tables.{cut}
 use Rattle.domain.proofs.PointLaws.{length-cut, cut-before, cut-after}
 use Rattle.skeletons.specs.Frames.{entries, transposed}
-use Rattle.skeletons.proofs.BlockLaws.{same_numbers, get_or-map_range, length-map_range}
+use Rattle.skeletons.proofs.BlockLaws.{same_numbers}
 
 -- ---- the inverse
 

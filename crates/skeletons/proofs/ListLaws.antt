@@ -1,7 +1,7 @@
 -- The instances in a box, by place and then by rank.
-use Rattle.std.proofs.Common.{◌≡◌, refl, sym, ap, ap₂, ◌∙◌, subst, ℕ, zero, suc, ◌<◌, ◌≤◌, ◌+◌, ◌*◌, ◌^◌, ℤ, pos, ◌+ℤ◌, ◌≤ℤ◌, ◌<ℤ◌, neg_ℤ, unsigned_abs, Bool, true, false, ◌&&◌, List, [], ◌∷◌, ◌++◌, map, length, get_or, replicate, ◌⊎◌, inl, inr, ⊎_elim, arith, Ordering, Less, Equal, Greater, int_cmp, is_lt}
-use Rattle.std.specs.Prelude.{◌↔◌, if◌then◌else◌, Option, None}
-use Rattle.std.specs.List.{All, AllByRecursion}
+use Rattle.std.proofs.Common.{◌≡◌, refl, sym, ap, ap₂, ◌∙◌, subst, ℕ, zero, suc, ◌<◌, ◌≤◌, ◌+◌, ◌*◌, ◌^◌, ℤ, pos, ◌≤ℤ◌, ◌<ℤ◌, unsigned_abs, Bool, true, false, ◌&&◌, List, [], ◌∷◌, ◌++◌, map, length, get_or, replicate, inl, inr, ⊎_elim, arith, Ordering, Less, Equal, Greater, int_cmp}
+use Rattle.std.specs.Prelude.{◌↔◌, if◌then◌else◌, None}
+use Rattle.std.specs.List.{AllByRecursion}
 use Rattle.std.specs.Ordering.{nat_cmp, ordering_then}
 use Rattle.std.specs.Cmp.Lexicographic.{slice_cmp}
 use Rattle.std.proofs.lemmas.Int.{ints, fits_signed_from_abs}
@@ -9,7 +9,7 @@ use Rattle.std.specs.Int.{w64}
 use Rattle.std.proofs.Common.{FitsSigned}
 use Rattle.std.proofs.lemmas.Bool.{cases_lt, and_parts}
 use Rattle.arrayvec.specs.ArrayVec.{ArrayVec}
-use Rattle.orders.specs.Orders.{Has, Ordered, SameElements}
+use Rattle.orders.specs.Orders.{Has, Ordered}
 use Rattle.std.specs.Ordering.{is_eq}
 use Rattle.std.proofs.lemmas.Cmp.{int_cmp_total, lists_total, tied_itself}
 use Rattle.std.proofs.lemmas.List.{get_or-replicate, length-replicate}
@@ -24,31 +24,28 @@ use Rattle.orders.proofs.Lists.{all_from, all_has, has_left, has_right, has_case
 use Rattle.plain_lemmas.proofs.OrderLaws.{slice_cmp-append_less, slice_cmp-append_same, slice_cmp-exact, ordering_then-less}
 use Rattle.affine.specs.Forms.{AllWithinSize}
 use Rattle.affine.specs.Matrices.{product}
-use Rattle.affine.specs.Rows.{Meets}
 use Rattle.affine.proofs.SumLemmas.{abs-dot}
-use Rattle.domain.specs.Tables.{IsTable, Table, Block, block_at, counters, cut, depth}
+use Rattle.domain.specs.Tables.{IsTable, block_at, counters, cut, depth}
 use Rattle.domain.specs.Instances.{Instance, instance, block_of, counter, Predicted, padded}
 use Rattle.domain.proofs.PlaceLaws.{place-counter}
 use Rattle.domain.proofs.PointLaws.{length-cut, cut-before, cut-after}
-use Rattle.transform.specs.Schedules.{Line, Schedule, IsSchedule, along, matrix, place}
+use Rattle.transform.specs.Schedules.{Line, IsSchedule, along, matrix, place}
 use Rattle.level_walk.specs.declared.merges.Best.{Best}
 use Rattle.level_walk.specs.declared.scans.BlockScan.{BlockScan}
 use Rattle.level_walk.specs.declared.scans.BlockScan.TheVariants.{Scanned, Listed}
-use Rattle.level_walk.specs.declared.scans.Scanning.{Scanning}
 use Rattle.level_walk.specs.Orders.{Precedes}
 use Rattle.level_walk.specs.Lattices.{HIGHEST, LOWEST, in_box, meets_all}
 use Rattle.level_walk.specs.Listings.{listed_in}
-use Rattle.level_walk.specs.Listed.{left_after}
-use Rattle.level_walk.specs.Merges.{Comes as BestComes, by_place, merged, tag, tagged}
-use Rattle.level_walk.specs.Spaces.{IsPoint, IsWithin, ListsPoints, points}
-use Rattle.level_walk.specs.Walks.{AreBlocks, IsBlock, IsBox, all_points, points_in, space_of}
+use Rattle.level_walk.specs.Merges.{Comes as BestComes, merged, tag, tagged}
+use Rattle.level_walk.specs.Spaces.{IsWithin, ListsPoints, points}
+use Rattle.level_walk.specs.Walks.{IsBlock, IsBox, all_points, points_in, space_of}
 use Rattle.level_walk.proofs.Lattices.{meets_from, meets_to}
 use Rattle.level_walk.proofs.ListedLemmas.{left_from, left_to}
 use Rattle.level_walk.proofs.MergeLemmas.{blocks_merged}
 use Rattle.level_walk.proofs.Points.{lists_points}
 use Rattle.level_walk.proofs.WalkLemmas.{ordered_in}
 use Rattle.skeletons.specs.Boxes.{IsBoxOf}
-use Rattle.skeletons.specs.Cells.{AreListsOf, Cell, Comes, Extent, IsLaunch, IsListOf, LiesIn, cell_of, place_key}
+use Rattle.skeletons.specs.Cells.{AreListsOf, Cell, Comes, Extent, IsLaunch, IsListOf, cell_of, place_key}
 use Rattle.skeletons.specs.Frames.{AllFind, Finds, IsFrame, IsPlaceOf, all_in, chosen, instance_at, is_cell, list_in, list_of, lists_of}
 use Rattle.skeletons.specs.Scans.{IsNear}
 use Rattle.skeletons.proofs.BlockLaws.{length-padded, padded-at, same_numbers}

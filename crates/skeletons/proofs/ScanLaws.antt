@@ -1,22 +1,21 @@
 -- The rows of a block, place by place.
-use Rattle.std.proofs.Common.{◌≡◌, refl, sym, ap, ◌∙◌, subst, ℕ, zero, suc, ◌<◌, ◌≤◌, ◌+◌, ◌^◌, ℤ, pos, ◌+ℤ◌, ◌-ℤ◌, ◌≤ℤ◌, ◌<ℤ◌, neg_ℤ, Bool, true, false, List, [], ◌∷◌, ◌++◌, length, nat_lt, nat_eq, ◌⊎◌, inl, inr, ⊎_elim, arith}
+use Rattle.std.proofs.Common.{◌≡◌, refl, sym, ap, subst, ℕ, ◌<◌, ◌+◌, ◌^◌, ℤ, pos, ◌+ℤ◌, ◌-ℤ◌, ◌≤ℤ◌, ◌<ℤ◌, neg_ℤ, Bool, true, false, List, [], ◌∷◌, ◌++◌, length, nat_lt, nat_eq, ◌⊎◌, inl, inr, ⊎_elim, arith}
 use Rattle.std.specs.Prelude.{◌↔◌, if◌then◌else◌, ◌||◌}
 use Rattle.std.specs.List.{All, Contains}
 use Rattle.std.proofs.lemmas.Int.{ints}
 use Rattle.std.proofs.lemmas.Bool.{cases_lt}
 use Rattle.plain_lemmas.proofs.MembershipLaws.{Has, All_from, All_has, has_cases, has_left, has_right, contains_from_has, has_from_contains}
-use Rattle.affine.specs.Forms.{Affine, value_at}
+use Rattle.affine.specs.Forms.{value_at}
 use Rattle.affine.specs.Inverses.{across}
 use Rattle.affine.specs.Rows.{Meets, coefficient, variables}
 use Rattle.affine.specs.declared.row.Row.{Row}
-use Rattle.fourier_motzkin.specs.Elimination.{AllOver}
 use Rattle.fourier_motzkin.specs.Ranges.{IsAlone}
 use Rattle.fourier_motzkin.specs.RowSets.{IsWithin}
 use Rattle.domain.specs.declared.chunk.Chunk.{Chunk}
 use Rattle.domain.specs.Tables.{Table, Block, counters, depth, trip, turning}
 use Rattle.domain.specs.Instances.{counter}
 use Rattle.skeletons.specs.Places.{flat, greatest, greatest_side, is_turns, least, least_side, trip_less}
-use Rattle.skeletons.specs.Scans.{IsBoxed, IsNear, IsRowsTo, LiesAt}
+use Rattle.skeletons.specs.Scans.{IsBoxed, IsRowsTo, LiesAt}
 use Rattle.skeletons.proofs.SideLaws.{flat-value, trip-value}
 
 -- ---- the sides have the values of the ends

@@ -1,5 +1,5 @@
 -- Sums over a padded point, and their rows over places.
-use Rattle.std.proofs.Common.{◌≡◌, refl, sym, ap, ap₂, ◌∙◌, subst, ℕ, zero, suc, ◌<◌, ◌≤◌, ◌+◌, ◌*◌, ◌^◌, ℤ, pos, ◌+ℤ◌, ◌-ℤ◌, ◌*ℤ◌, negsuc, neg_ℤ, unsigned_abs, List, [], ◌∷◌, ◌++◌, map, take, set, length, get_or, replicate, length-set, get_or-set_other, ◌≤ℤ◌, arith, lit≤, Some, None, Option}
+use Rattle.std.proofs.Common.{◌≡◌, refl, sym, ap, ◌∙◌, subst, ℕ, zero, suc, ◌<◌, ◌≤◌, ◌*◌, ◌^◌, ℤ, pos, ◌+ℤ◌, ◌-ℤ◌, ◌*ℤ◌, neg_ℤ, unsigned_abs, List, [], ◌∷◌, map, set, length, get_or, replicate, length-set, get_or-set_other, ◌≤ℤ◌, arith, lit≤, None}
 use Rattle.std.specs.List.{All}
 use Rattle.std.proofs.lemmas.Int.{ints}
 use Rattle.std.proofs.lemmas.List.Elements.{All-nil, All-cons, All-head, All-tail}
@@ -11,10 +11,10 @@ use Rattle.affine.specs.Inverses.{across, IsSquare}
 use Rattle.affine.proofs.SumLemmas.{abs-dot}
 use Rattle.affine.proofs.MovedSumLaws.{dot-set}
 use Rattle.affine.proofs.PlaceLaws.{form_over_places}
-use Rattle.plain_lemmas.proofs.MembershipLaws.{Has, All_from, All_has, all_has, map_has}
+use Rattle.plain_lemmas.proofs.MembershipLaws.{All_from, All_has, all_has, map_has}
 use Rattle.plain_lemmas.proofs.IntegerLaws.{neg_ℤ-*ℤ, one-*ℤ}
-use Rattle.domain.specs.Tables.{Table, Level, cut, depth, form_or_zero, level_at, trip}
-use Rattle.domain.proofs.PointLaws.{dot-cut, dot-zeros, trip-some, trip-none}
+use Rattle.domain.specs.Tables.{Table, cut, depth, form_or_zero, level_at, trip}
+use Rattle.domain.proofs.PointLaws.{dot-zeros}
 use Rattle.domain.specs.Instances.{counter}
 use Rattle.affine.specs.Rows.{Meets, row_of, sum_at}
 use Rattle.affine.specs.declared.row.Row.{Row}

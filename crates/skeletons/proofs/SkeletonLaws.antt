@@ -1,5 +1,5 @@
 -- The scans of the blocks of a launched chunk find their places.
-use Rattle.std.proofs.Common.{◌≡◌, refl, sym, ap, ◌∙◌, subst, ℕ, zero, suc, ◌<◌, ◌≤◌, ◌+◌, ◌^◌, ℤ, pos, ◌≤ℤ◌, List, [], ◌∷◌, ◌++◌, length, get_or, ◌⊎◌, inl, inr, arith}
+use Rattle.std.proofs.Common.{◌≡◌, refl, sym, ap, ◌∙◌, subst, ℕ, suc, ◌<◌, ◌≤◌, ◌+◌, ℤ, List, [], ◌∷◌, ◌++◌, length, get_or, arith}
 use Rattle.std.specs.Prelude.{◌↔◌}
 use Rattle.std.specs.List.{All, AllByRecursion}
 use Rattle.affine.specs.Inverses.{across, IsInverse}
@@ -16,18 +16,16 @@ use Rattle.fourier_motzkin.proofs.MaybeLaws.{bounded_levels_close}
 use Rattle.fourier_motzkin.proofs.Points.{verdict_unmet}
 use Rattle.fourier_motzkin.proofs.Runs.{length-levels}
 use Rattle.domain.specs.Tables.{Block, Table, block_at, IsTable}
-use Rattle.domain.specs.Instances.{Instance, block_of, counter, Predicted, padded}
+use Rattle.domain.specs.Instances.{counter, padded}
 use Rattle.transform.specs.Schedules.{IsSchedule, matrix, place}
 use Rattle.transform.proofs.LineLaws.{place-product}
 use Rattle.level_walk.specs.declared.scans.BlockScan.{BlockScan}
-use Rattle.level_walk.specs.declared.scans.BlockScan.TheVariants.{Scanned, Listed}
 use Rattle.level_walk.specs.declared.scans.Scanning.{Scanning}
 use Rattle.level_walk.specs.Walks.{IsBlock, IsScanning}
-use Rattle.skeletons.specs.Blocks.{IsPointOf}
 use Rattle.skeletons.specs.Cells.{Extent, IsLaunch}
 use Rattle.skeletons.specs.Frames.{AllFind, Finds, IsPlaceOf, transposed}
 use Rattle.skeletons.specs.Places.{Lies}
-use Rattle.skeletons.specs.Scans.{IsBoxed, IsNear, IsRowsTo, LiesAt}
+use Rattle.skeletons.specs.Scans.{IsNear, IsRowsTo}
 use Rattle.domain.specs.declared.chunk.Chunk.{Chunk}
 use Rattle.fourier_motzkin.specs.Elimination.{AllOver}
 use Rattle.skeletons.proofs.BlockLaws.{length-padded, lie_points, points_lie}

@@ -1,5 +1,5 @@
 -- Boxes: the places of a cell, as a range for each row.
-use Rattle.std.specs.Prelude.{◌≡◌, true, ℕ, ℤ, pos, ◌<◌, ◌≤◌, ◌≤ℤ◌, ◌↔◌, nat_lt, if◌then◌else◌, List}
+use Rattle.std.specs.Prelude.{◌≡◌, true, ℕ, ℤ, pos, ◌<◌, ◌≤ℤ◌, ◌↔◌, nat_lt, if◌then◌else◌, List}
 use Rattle.std.specs.Int.{int_div_euclid}
 use Rattle.domain.specs.Instances.{counter}
 use Rattle.level_walk.specs.Lattices.{HIGHEST, LOWEST, in_box}

@@ -1,5 +1,5 @@
 -- Frames: what a skeleton keeps of a chunk, and the instances of the places that its blocks have.
-use Rattle.std.specs.Prelude.{◌≡◌, Bool, ◌&&◌, if◌then◌else◌, replicate, ℕ, zero, suc, ℤ, pos, ◌≤◌, ◌↔◌, List, [], ◌∷◌, length, map, slice_index_or}
+use Rattle.std.specs.Prelude.{◌≡◌, Bool, ◌&&◌, if◌then◌else◌, replicate, ℕ, suc, ℤ, ◌≤◌, ◌↔◌, List, [], ◌∷◌, length, map}
 use Rattle.std.specs.Ordering.{int_cmp, is_eq}
 use Rattle.std.specs.Cmp.Lexicographic.{slice_cmp}
 use Rattle.level_walk.specs.Lattices.{HIGHEST, LOWEST}

@@ -1,5 +1,5 @@
 -- Places: between which numbers each place of the padded points of a block lies.
-use Rattle.std.specs.Prelude.{Bool, ℕ, ℤ, pos, ◌<◌, ◌≤◌, ◌^◌, ◌+ℤ◌, ◌-ℤ◌, ◌≤ℤ◌, ◌&&◌, ◌||◌, nat_eq, nat_lt, if◌then◌else◌, List, length, map, neg_ℤ, replicate, slice_index_or, slice_set, unsigned_abs}
+use Rattle.std.specs.Prelude.{Bool, ℕ, ℤ, pos, ◌<◌, ◌≤◌, ◌^◌, ◌+ℤ◌, ◌-ℤ◌, ◌≤ℤ◌, ◌&&◌, ◌||◌, nat_eq, nat_lt, if◌then◌else◌, List, map, neg_ℤ, replicate, slice_index_or, slice_set, unsigned_abs}
 use Rattle.affine.specs.Forms.{Affine, AllWithinSize}
 use Rattle.domain.specs.declared.chunk.Chunk.{Chunk}
 use Rattle.domain.specs.Tables.{Table, Block, counters, cut, depth, form_or_zero, is_post, level_at, trip, turning}

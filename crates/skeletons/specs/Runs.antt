@@ -6,7 +6,7 @@ use Rattle.std.specs.Cmp.Lexicographic.{slice_cmp}
 use Rattle.affine.specs.Matrices.{product, unit_row}
 use Rattle.affine.specs.Sums.{weighted}
 use Rattle.orders.specs.Orders.{Has, Ordered}
-use Rattle.domain.specs.Tables.{Table, counters, cut, depth}
+use Rattle.domain.specs.Tables.{counters, cut, depth}
 use Rattle.domain.specs.Instances.{Instance, block_of, padded}
 use Rattle.transform.specs.Schedules.{Schedule, matrix, place}
 use Rattle.skeletons.specs.Cells.{Cell, Extent, LiesIn}

@@ -1,5 +1,5 @@
 -- Scans: the rows of a block over places, and what is known of them.
-use Rattle.std.specs.Prelude.{◌≡◌, ℕ, ℤ, pos, neg_ℤ, ◌<◌, ◌≤◌, ◌^◌, ◌≤ℤ◌, ◌<ℤ◌, ◌↔◌, List, [], length, slice_index_or}
+use Rattle.std.specs.Prelude.{◌≡◌, ℕ, ℤ, pos, neg_ℤ, ◌<◌, ◌^◌, ◌≤ℤ◌, ◌<ℤ◌, ◌↔◌, List, length}
 use Rattle.std.specs.List.{All, Contains}
 use Rattle.affine.specs.Inverses.{across}
 use Rattle.affine.specs.Rows.{Meets, coefficient}
@@ -7,7 +7,6 @@ use Rattle.affine.specs.declared.row.Row.{Row}
 use Rattle.fourier_motzkin.specs.Elimination.{AllOver}
 use Rattle.fourier_motzkin.specs.Ranges.{IsAlone}
 use Rattle.fourier_motzkin.specs.RowSets.{IsWithin}
-use Rattle.fourier_motzkin.specs.Verdicts.{bounds_of}
 use Rattle.domain.specs.declared.chunk.Chunk.{Chunk}
 use Rattle.domain.specs.Tables.{Table, Block, depth}
 use Rattle.domain.specs.Instances.{counter}

@@ -1,4 +1,4 @@
-use Rattle.std.proofs.Common.{rules, ◌≡◌, ◌∙◌, ◌+◌, drop, refl, sym, ap, ap₂, subst, arith}
+use Rattle.std.proofs.Common.{◌≡◌, ◌∙◌, ◌+◌, drop, sym, ap, subst}
 use Rattle.std.specs.Prelude.{None}
 use Rattle.level_walk.specs.Listed.{least_after}
 use Rattle.level_walk.specs.Listings.{items_of, listed_in}

@@ -1,4 +1,4 @@
-use Rattle.std.proofs.Common.{rules, ap, ◌∙◌}
+use Rattle.std.proofs.Common.{ap, ◌∙◌}
 use Rattle.std.specs.Prelude.{None}
 use Rattle.level_walk.specs.Listings.{after_head, listed_in}
 use Rattle.level_walk.proofs.ListLemmas.{differ_in, found_long, next_head}

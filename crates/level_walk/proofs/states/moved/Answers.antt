@@ -1,6 +1,5 @@
-use Rattle.std.proofs.Common.{rules, ◌≡◌, ◌≤◌, length, subst, sym, refl, ◌∙◌}
+use Rattle.std.proofs.Common.{◌≤◌, length, subst, sym, refl, ◌∙◌}
 use Rattle.std.specs.Prelude.{IfSome}
-use Rattle.level_walk.specs.Blocks.{BlockStands}
 use Rattle.level_walk.specs.Lattices.{in_cell}
 use Rattle.level_walk.proofs.StateLemmas.{at_small, front_small, packed_stands, same_space, space_at, taken_left, taken_stands}
 use Rattle.level_walk.proofs.states.moved.Goals as goal

@@ -1,4 +1,4 @@
-use Rattle.std.proofs.Common.{rules, subst, sym, length, ◌≤◌}
+use Rattle.std.proofs.Common.{subst, sym, length, ◌≤◌}
 use Rattle.std.specs.Prelude.{IfSome}
 use Rattle.level_walk.specs.Lattices.{in_cell}
 use Rattle.level_walk.proofs.StateLemmas.{front_small}

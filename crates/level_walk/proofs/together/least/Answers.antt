@@ -1,4 +1,4 @@
-use Rattle.std.proofs.Common.{rules, ◌≡◌, ◌≤◌, ◌<◌, ◌∷◌, [], ◌∙◌, length, drop, get_or, refl, sym, subst, arith}
+use Rattle.std.proofs.Common.{rules, ◌≡◌, ◌≤◌, ◌<◌, ◌∷◌, [], length, drop, get_or, refl, sym, subst}
 use Rattle.std.specs.Prelude.{MatchOption}
 use Rattle.level_walk.proofs.MergeLemmas.{chosen_is}
 use Rattle.level_walk.specs.Walks.{left_in}

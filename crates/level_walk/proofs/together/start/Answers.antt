@@ -1,4 +1,4 @@
-use Rattle.std.proofs.Common.{rules, ◌≡◌, refl, sym, subst, arith}
+use Rattle.std.proofs.Common.{rules, sym, subst}
 use Rattle.level_walk.specs.Merges.{AllOrdered}
 use Rattle.level_walk.proofs.MergeLemmas.{all_at}
 use Rattle.level_walk.specs.Walks.{IsBlock}

@@ -1,4 +1,4 @@
-use Rattle.std.proofs.Common.{rules, ◌≡◌, ◌<◌, length, get_or, refl, sym, subst, arith}
+use Rattle.std.proofs.Common.{rules, ◌<◌, length, get_or, refl}
 use Rattle.level_walk.proofs.MergeLemmas.{all_at}
 use Rattle.level_walk.specs.Walks.{IsBlock}
 use Rattle.level_walk.proofs.WalkLemmas.{blank, left_set, stands_at, stands_set}

@@ -1,12 +1,11 @@
-use Rattle.std.proofs.Common.{◌≡◌, ◌∙◌, ◌≤◌, ℤ, sym, ap, subst, length, List, [], map, arith}
+use Rattle.std.proofs.Common.{◌∙◌, ◌≤◌, ℤ, sym, ap, subst, length, List, map, arith}
 use Rattle.orders.specs.Orders.{Has}
 use Rattle.arrayvec.specs.ArrayVec.{ArrayVec}
-use Rattle.fourier_motzkin.specs.Verdicts.{Bounds, bounds_of}
+use Rattle.fourier_motzkin.specs.Verdicts.{bounds_of}
 use Rattle.domain.specs.Tables.{Block}
 use Rattle.domain.specs.Instances.{padded}
 use Rattle.level_walk.specs.declared.scans.Scanning.{Scanning}
 use Rattle.skeletons.specs.Cells.{Extent}
-use Rattle.skeletons.specs.Frames.{IsPlaceOf}
 use Rattle.skeletons.specs.Scans.{IsRowsTo}
 use Rattle.skeletons.proofs.BoxLaws.{length-place}
 use Rattle.skeletons.proofs.SkeletonLaws.{rows-find, scanning, nothing_found}

@@ -1,11 +1,11 @@
-use Rattle.std.proofs.Common.{◌≡◌, ◌∙◌, sym, ap, subst, ℤ, ◌≤ℤ◌, List, [], ◌∷◌, ◌++◌}
+use Rattle.std.proofs.Common.{◌∙◌, ap, subst, ℤ, ◌≤ℤ◌, List, [], ◌∷◌, ◌++◌}
 use Rattle.std.specs.Prelude.{◌↔◌}
 use Rattle.affine.specs.Forms.{Affine, value_at}
 use Rattle.affine.specs.Inverses.{across}
 use Rattle.affine.specs.Rows.{Meets}
 use Rattle.affine.specs.declared.row.Row.{Row}
 use Rattle.domain.specs.Instances.{counter}
-use Rattle.skeletons.proofs.ScanLaws.{IsPlaceRows, place-rows, least-value, greatest-value}
+use Rattle.skeletons.proofs.ScanLaws.{place-rows, least-value, greatest-value}
 use Rattle.skeletons.proofs.block.push_place.Goals as goal
 
 pub returns : goal.returns

@@ -1,7 +1,5 @@
 use Rattle.std.proofs.Common.{◌≡◌, ◌<◌, ℕ, length}
 use Rattle.domain.specs.Instances.{counter}
-use Rattle.level_walk.specs.Lattices.{HIGHEST, LOWEST}
-use Rattle.level_walk.specs.Spaces.{IsWithin}
 use Rattle.skeletons.specs.Boxes.{AgreesAt, IsRangeOf}
 use Rattle.skeletons.proofs.cell_box.cell_box.Given as goal
 

@@ -1,9 +1,8 @@
-use Rattle.std.proofs.Common.{◌≡◌, ◌∙◌, ◌<◌, ◌≤◌, sym, ap, subst, pos, ℤ, get_or, FitsSigned, rules, arith}
+use Rattle.std.proofs.Common.{sym, ap, pos, get_or, FitsSigned, rules, arith}
 use Rattle.std.specs.Int.{w64}
 use Rattle.std.proofs.lemmas.Int.{to_z-of_z}
 use Rattle.domain.specs.Instances.{counter}
 use Rattle.skeletons.specs.Cells.{Cell}
-use Rattle.skeletons.specs.Boxes.{AgreesAt, IsRangeOf}
 use Rattle.skeletons.proofs.BoxLaws.{lead-range, band-range}
 use Rattle.skeletons.proofs.cell_box.row_range.Goals as goal
 

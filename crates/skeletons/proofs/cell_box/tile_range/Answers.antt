@@ -1,6 +1,6 @@
-use Rattle.std.proofs.Common.{◌≡◌, ◌∙◌, ◌≤ℤ◌, ◌<ℤ◌, sym, ap, rules, FitsSigned, arith, pos, neg_ℤ, ◌^◌, to_z}
+use Rattle.std.proofs.Common.{◌∙◌, sym, ap, rules, FitsSigned, pos, neg_ℤ, ◌^◌, to_z}
 use Rattle.std.specs.Int.{w64, w128}
-use Rattle.std.proofs.lemmas.Int.{ints, to_z-of_z}
+use Rattle.std.proofs.lemmas.Int.{to_z-of_z}
 use Rattle.plain_lemmas.proofs.IntegerLaws.{int_lt-false, FitsSigned-between}
 use Rattle.skeletons.proofs.BoxLaws.{part_range}
 use Rattle.skeletons.proofs.cell_box.tile_range.Goals as goal

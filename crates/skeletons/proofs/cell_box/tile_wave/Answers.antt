@@ -1,7 +1,7 @@
-use Rattle.std.proofs.Common.{◌≡◌, ◌∙◌, ◌<◌, ◌≤◌, ap, pos, ◌+ℤ◌, length, drop, get_or, FitsSigned, rules, to_z, Bool, arith}
+use Rattle.std.proofs.Common.{◌∙◌, ◌<◌, ap, pos, ◌+ℤ◌, get_or, FitsSigned, rules, to_z, Bool, arith}
 use Rattle.std.specs.Prelude.{if◌then◌else◌}
 use Rattle.std.specs.Int.{w64, w128}
-use Rattle.std.proofs.lemmas.Int.{fits_signed_from_abs, ints, to_z-of_z}
+use Rattle.std.proofs.lemmas.Int.{fits_signed_from_abs, to_z-of_z}
 use Rattle.plain_lemmas.proofs.IntegerLaws.{unsigned_abs-add}
 use Rattle.skeletons.proofs.BoxLaws.{wave_more, wave_done}
 use Rattle.skeletons.proofs.cell_box.tile_wave.Goals as goal

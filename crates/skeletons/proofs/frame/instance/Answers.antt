@@ -1,4 +1,4 @@
-use Rattle.std.proofs.Common.{◌≡◌, ◌∙◌, sym, ap, subst, ℕ, ℤ, List, FitsSigned, rules}
+use Rattle.std.proofs.Common.{◌∙◌, sym, ap, subst, ℕ, ℤ, List, FitsSigned, rules}
 use Rattle.std.specs.Int.{w64}
 use Rattle.affine.specs.Matrices.{product}
 use Rattle.domain.specs.Instances.{counter}

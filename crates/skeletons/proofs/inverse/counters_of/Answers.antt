@@ -1,5 +1,5 @@
-use Rattle.std.proofs.Common.{◌≡◌, ◌∙◌, ◌<◌, ◌≤◌, ℕ, ℤ, pos, length, get_or, refl, FitsSigned, rules, arith}
-use Rattle.std.specs.Int.{w64, w128}
+use Rattle.std.proofs.Common.{◌∙◌, ◌<◌, pos, length, get_or, refl, FitsSigned, rules, arith}
+use Rattle.std.specs.Int.{w128}
 use Rattle.std.proofs.Math.ListN.{length-set}
 use Rattle.std.proofs.lemmas.Int.{to_z-of_z}
 use Rattle.transform.proofs.LineLaws.{set_kept, set_more}

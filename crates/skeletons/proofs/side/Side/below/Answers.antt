@@ -1,4 +1,4 @@
-use Rattle.std.proofs.Common.{◌≡◌, ◌∙◌, ap, arith}
+use Rattle.std.proofs.Common.{◌∙◌, ap, arith}
 use Rattle.affine.specs.Inverses.{across}
 use Rattle.affine.specs.Forms.{Affine, value_at}
 use Rattle.affine.proofs.InverseLaws.{length-across}

@@ -1,4 +1,4 @@
-use Rattle.std.proofs.Common.{◌≡◌, ◌∙◌, ◌^◌, ap, sym, subst, arith, rules, pos, neg_ℤ, ◌<ℤ◌, ℤ}
+use Rattle.std.proofs.Common.{◌≡◌, ◌∙◌, ◌^◌, ap, sym, subst, arith, rules, pos, neg_ℤ}
 use Rattle.std.proofs.lemmas.Int.{ints}
 use Rattle.affine.specs.Forms.{Affine}
 use Rattle.affine.specs.Rows.{row_of, coefficient}

@@ -1,4 +1,4 @@
-use Rattle.std.proofs.Common.{◌≡◌, ◌∙◌, ap}
+use Rattle.std.proofs.Common.{◌∙◌, ap}
 use Rattle.affine.specs.Forms.{Affine}
 use Rattle.affine.specs.Rows.{row_of}
 use Rattle.skeletons.specs.Places.{less_place}

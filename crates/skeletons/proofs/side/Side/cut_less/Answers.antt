@@ -1,7 +1,6 @@
-use Rattle.std.proofs.Common.{◌≡◌, ◌^◌, ◌≤◌, ◌-ℤ◌, sym, subst, rules, FitsSigned, unsigned_abs, arith}
-use Rattle.std.specs.Int.{w64, w128}
-use Rattle.std.proofs.lemmas.Int.{ints, to_z-of_z}
-use Rattle.skeletons.specs.Places.{IsNarrow}
+use Rattle.std.proofs.Common.{◌^◌, ◌≤◌, sym, subst, rules, FitsSigned, unsigned_abs, arith}
+use Rattle.std.specs.Int.{w128}
+use Rattle.std.proofs.lemmas.Int.{to_z-of_z}
 use Rattle.skeletons.proofs.SideLaws.{cut-small}
 use Rattle.affine.specs.Forms.{AllWithinSize}
 use Rattle.skeletons.proofs.side.Side.cut_less.Goals as goal

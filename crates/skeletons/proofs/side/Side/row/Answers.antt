@@ -1,4 +1,4 @@
-use Rattle.std.proofs.Common.{◌≡◌, ◌^◌, ◌∙◌, ap, sym, subst, rules, FitsSigned, ℤ, arith}
+use Rattle.std.proofs.Common.{◌^◌, ◌∙◌, ap, sym, subst, rules, FitsSigned, ℤ}
 use Rattle.std.specs.Int.{w128}
 use Rattle.std.proofs.lemmas.Int.{to_z-of_z}
 use Rattle.affine.specs.Forms.{Affine, value_at}

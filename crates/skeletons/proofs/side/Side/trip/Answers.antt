@@ -1,9 +1,8 @@
-use Rattle.std.proofs.Common.{◌≡◌, ◌∙◌, ◌^◌, ◌≤◌, ◌-ℤ◌, sym, ap, subst, rules, FitsSigned, pos, unsigned_abs, arith, Option, None, ℕ}
+use Rattle.std.proofs.Common.{◌≡◌, ◌∙◌, ◌^◌, sym, ap, subst, rules, FitsSigned, arith, None, ℕ}
 use Rattle.std.specs.Int.{w64, w128}
-use Rattle.std.proofs.lemmas.Int.{ints, to_z-of_z}
-use Rattle.affine.specs.Forms.{Affine}
-use Rattle.domain.specs.Tables.{Level, level_at, form_or_zero, depth}
-use Rattle.skeletons.specs.Places.{IsNarrow, cut_less, flat}
+use Rattle.std.proofs.lemmas.Int.{to_z-of_z}
+use Rattle.domain.specs.Tables.{Level, level_at, form_or_zero}
+use Rattle.skeletons.specs.Places.{IsNarrow, cut_less}
 use Rattle.skeletons.proofs.SideLaws.{flat-cut, flat-narrow}
 use Rattle.skeletons.proofs.side.Side.trip.Goals as goal
 

@@ -1,7 +1,6 @@
-use Rattle.std.proofs.Common.{◌≡◌, ◌∙◌, ◌≤◌, ◌+◌, ℕ, ℤ, sym, ap, subst, length, length-append, List, [], ◌∷◌, ◌++◌, arith}
+use Rattle.std.proofs.Common.{◌∙◌, ◌≤◌, ◌+◌, ℕ, ℤ, sym, ap, subst, length, length-append, List, [], ◌∷◌, arith}
 use Rattle.std.specs.List.{AllByRecursion}
 use Rattle.affine.specs.Matrices.{product}
-use Rattle.level_walk.specs.declared.scans.BlockScan.{BlockScan}
 use Rattle.level_walk.specs.Walks.{IsBlock}
 use Rattle.transform.specs.Schedules.{place}
 use Rattle.skeletons.specs.Cells.{Extent}

@@ -1,4 +1,4 @@
-use Rattle.std.proofs.Common.{◌≡◌, ap, subst, ℤ, pos, List, map, replicate, arith}
+use Rattle.std.proofs.Common.{ap, subst, ℤ, pos, List, map, replicate, arith}
 use Rattle.level_walk.specs.declared.merges.Best.{Best}
 use Rattle.orders.specs.Orders.{Has}
 use Rattle.level_walk.proofs.NewLemmas.{IsEnded, ended_ordered, ended_stands, nothing_merged, zeros_box}

@@ -1,4 +1,4 @@
-use Rattle.std.proofs.Common.{◌≡◌, sym, subst, ap, ◌∙◌, inr, List, ◌∷◌}
+use Rattle.std.proofs.Common.{◌≡◌, sym, subst, inr, List, ◌∷◌}
 use Rattle.level_walk.specs.declared.merges.Best.{Best}
 use Rattle.level_walk.specs.declared.scans.BlockScan.{BlockScan}
 use Rattle.level_walk.specs.Merges.{AllOrdered, merged}

@@ -1,5 +1,4 @@
 use Rattle.std.proofs.Common.{◌≡◌, ◌∙◌, ap, subst, List}
-use Rattle.domain.specs.Instances.{Instance}
 use Rattle.skeletons.specs.Cells.{AreListsOf, Cell, Extent}
 use Rattle.skeletons.specs.Frames.{lists_of}
 use Rattle.skeletons.specs.declared.frame.Frame.{Frame}
