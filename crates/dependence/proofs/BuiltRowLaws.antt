@@ -1,5 +1,5 @@
 -- Rows that are built number by number.
-use Rattle.std.proofs.Common.{◌≡◌, refl, sym, ap, ◌∙◌, ℕ, zero, suc, ◌+◌, ◌<◌, ◌≤◌, ℤ, pos, ◌-◌, ◌-ℤ◌, ◌+ℤ◌, ◌*ℤ◌, ◌^◌, unsigned_abs, map, replicate, neg_ℤ, List, [], ◌∷◌, ◌++◌, length, get_or, append_assoc, append-nil, add-one, length-append, ap₂, le_trans, lit≤, arith}
+use Rattle.std.proofs.Common.{◌≡◌, refl, sym, ap, ◌∙◌, ℕ, zero, suc, ◌+◌, ◌<◌, ◌≤◌, ℤ, pos, ◌-ℤ◌, ◌^◌, unsigned_abs, neg_ℤ, List, [], ◌∷◌, ◌++◌, length, get_or, append_assoc, add-one, length-append, ap₂, le_trans, lit≤, arith}
 use Rattle.affine.specs.declared.row.Row.{Row}
 use Rattle.affine.specs.Rows.{row_of}
 use Rattle.std.proofs.lemmas.Int.{ints}

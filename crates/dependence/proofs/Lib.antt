@@ -9,4 +9,8 @@ pub mod SystemLaws
 pub mod VerdictLaws
 pub mod ScheduleLaws
 pub mod ListLaws
+pub mod ViolationLaws
 pub mod BuiltRowLaws
+pub mod FormLaws
+pub mod PairLaws
+pub mod AddedLaws

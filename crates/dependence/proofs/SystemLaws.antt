@@ -9,12 +9,13 @@ use Rattle.affine.specs.declared.row.Row.{Row}
 use Rattle.affine.specs.Forms.{Affine}
 use Rattle.affine.specs.Rows.{Meets}
 use Rattle.plain_lemmas.proofs.MembershipLaws.{Has, all_has, All_from, any_from_has, has_map, map_has, has_flat_map}
+use Rattle.nest_lang.specs.declared.tree.AccessRef.{AccessRef}
 use Rattle.domain.specs.declared.chunk.Chunk.{Chunk}
 use Rattle.domain.specs.Tables.{Table, Block, Access, depth, block_at, access_at, counters, IsTable}
 use Rattle.domain.specs.Instances.{Instance, block_of, Predicted, place, padded}
 use Rattle.domain.specs.Footprints.{LiesAbout, Expects, Touches, Conflict}
 use Rattle.dependence.specs.Comparisons.{point, AtX, AtY, AtMost, Holds, row_for}
-use Rattle.dependence.specs.Systems.{AccessRef, comparisons, found_access, system, systems, systems_of, refs, refs_of, pairs, cases, rows_for, referred, first_counter, inner_counters, meeting, equal_places, rising_place}
+use Rattle.dependence.specs.Systems.{comparisons, found_access, system, systems, systems_of, refs, refs_of, pairs, cases, rows_for, referred, first_counter, inner_counters, meeting, equal_places, rising_place}
 use Rattle.dependence.specs.Laws.{beside, IsPair, PairHasSystem}
 use Rattle.dependence.proofs.SumLaws.{value_at-take}
 use Rattle.dependence.proofs.RowLaws.{meets_from_holds}
@@ -90,7 +91,7 @@ comparisons_hold D t L chunk x y is launched short p q a b address reach other c
 
 -- ---- which systems there are
 
-has_ref : (t : Table) (rank access : ℕ) → rank < length t.blocks → 1 ≤ access → access ≤ length (block_at t rank).accesses → Has (refs t) (record { block = rank; access = access })
+pub has_ref : (t : Table) (rank access : ℕ) → rank < length t.blocks → 1 ≤ access → access ≤ length (block_at t rank).accesses → Has (refs t) (record { block = rank; access = access })
 has_ref t rank access l from to =
     has_flat_map (refs_of t) (range_with_len 0 (length t.blocks)) rank _ (has_range 0 (length t.blocks) rank (omega arith) (omega arith))
     (has_map (λ (number : ℕ). record { block = rank; access = number }) (range_with_len 1 (length (block_at t rank).accesses)) access (has_range 1 (length (block_at t rank).accesses) access from (omega arith)))

@@ -7,9 +7,10 @@ use Rattle.affine.specs.Rows.{Meets, variables}
 use Rattle.fourier_motzkin.specs.declared.verdicts.Ruling.TheVariants.{Empty}
 use Rattle.plain_lemmas.proofs.MembershipLaws.{Has, All_has, All_from, has_cases, map_has, flat_map_has}
 use Rattle.fourier_motzkin.proofs.Points.{verdict_unmet}
+use Rattle.nest_lang.specs.declared.tree.AccessRef.{AccessRef}
 use Rattle.domain.specs.Tables.{Table, depth, block_at, counters}
 use Rattle.dependence.specs.Comparisons.{AtMost, row_for}
-use Rattle.dependence.specs.Systems.{AccessRef, System, comparisons, system, systems, systems_of, refs, pairs, cases, rows_for, referred}
+use Rattle.dependence.specs.Systems.{System, comparisons, system, systems, systems_of, refs, pairs, cases, rows_for, referred}
 use Rattle.transform.specs.Schedules.{Schedule}
 use Rattle.dependence.specs.Legality.{joint_variables, Trial, trial, trials, trials_of, violations, tried, judgement}
 use Rattle.dependence.specs.Laws.{LegalIsUnmet}
@@ -22,7 +23,7 @@ pub record IsSystem (t : Table) (L : ℤ) (sys : System) : Type 0 where
   pub case : ℕ
   pub same : sys ≡ system t L first second case
 
-system_is : (t : Table) (L : ℤ) (sys : System) → Has (systems t L) sys → IsSystem t L sys
+pub system_is : (t : Table) (L : ℤ) (sys : System) → Has (systems t L) sys → IsSystem t L sys
 unfolding systems
 system_is t L sys h =
     let (a, in-a, k) = flat_map_has (λ a. flat_map (systems_of t L a) (refs t)) (refs t) sys h in
@@ -48,7 +49,7 @@ over_for t a b cs r h =
     let (c, k, e) = map_has (row_for (counters t (block_at t a.block)) (counters t (block_at t b.block))) cs r h in
     ap variables e ∙ variables-row_for (counters t (block_at t a.block)) (counters t (block_at t b.block)) c
 
-over_tried : (t : Table) (s : Schedule) (L : ℤ) (v : Trial) (i : IsSystem t L v.system) (r : Row) → Has (tried t s v) r → variables r ≡ joint_variables t v.system
+pub over_tried : (t : Table) (s : Schedule) (L : ℤ) (v : Trial) (i : IsSystem t L v.system) (r : Row) → Has (tried t s v) r → variables r ≡ joint_variables t v.system
 over_tried t s L v i r h =
     ⊎_elim (λ k. front (subst (λ (sys : System). Has sys.rows r) i.same k)) (λ k. over_for t v.system.first v.system.second _ r k) (has_cases v.system.rows _ r h)
   where

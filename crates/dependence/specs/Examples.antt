@@ -1,20 +1,18 @@
 -- Two nests with known answers, computed by the definitions: for i = 1 below 17 { for j = 0 below 16 { [20 i + j] = [20 i + j - 19] } },
 -- in chunks of at most 32 turns, and a triangle.
-use Rattle.std.specs.Prelude.{◌≡◌, ℕ, ℤ, pos, Bool, true, false, not, Option, Some, None, List, [], ◌∷◌, map, length, filter, refl}
+use Rattle.std.specs.Prelude.{◌≡◌, ℕ, ℤ, pos, Bool, true, false, Option, Some, None, List, [], ◌∷◌, length, refl}
 use Rattle.affine.specs.Forms.{Affine}
 use Rattle.affine.specs.Divisors.{gcd}
 use Rattle.affine.specs.Rows.{normal}
 use Rattle.fourier_motzkin.specs.RowSets.{tidied}
 use Rattle.fourier_motzkin.specs.Elimination.{eliminated, projected}
 use Rattle.fourier_motzkin.specs.Verdicts.{verdict_of}
-use Rattle.fourier_motzkin.specs.declared.verdicts.Ruling.{Ruling}
-use Rattle.fourier_motzkin.specs.declared.verdicts.Ruling.TheVariants.{Maybe}
 use Rattle.nest_lang.specs.declared.tree.Part.TheVariants.{Head, Pre}
 use Rattle.domain.specs.declared.table.LoopKind.TheVariants.{For}
 use Rattle.domain.specs.Tables.{Table, Access, Level, Block, zero_form}
-use Rattle.dependence.specs.Systems.{System, systems, comparisons}
+use Rattle.dependence.specs.Systems.{systems, comparisons}
 use Rattle.transform.specs.Schedules.{Line, Schedule}
-use Rattle.dependence.specs.Legality.{Trial, trials, judgement, joint_variables, is_empty, refusal}
+use Rattle.dependence.specs.Legality.{Trial, trials, judgement, refusal}
 
 abbrev pub form_of : List ℤ → ℤ → Affine
 form_of coef cst = record { coef = coef; cst = cst }
@@ -42,27 +40,10 @@ skewed = record {
   blocks = head ∷ statements (access_of false (form_of (pos 20 ∷ pos 1 ∷ []) (pos 1)) ∷ access_of true (form_of (pos 20 ∷ pos 1 ∷ []) (pos 20)) ∷ []) ∷ [];
 }
 
--- what `deps` lists of a system: the accesses, the case, and the verdict
-pub record Depends : Type 0 where
-  pub first : ℕ
-  pub second : ℕ
-  pub case : ℕ
-  pub verdict : Ruling
-
-abbrev pub depends : Table → System → Depends
-depends t sys = record { first = sys.first.access; second = sys.second.access; case = sys.case; verdict = verdict_of (joint_variables t sys) sys.rows }
-
-abbrev pub dependences : Table → ℤ → List Depends
-dependences t L = filter (λ d. not (is_empty d.verdict)) (map (depends t) (systems t L))
-
--- six systems, of which the store before the load in case 1 alone may be met
+-- six systems: the store and the load in both orders, and the store with itself, each in two cases
 systems-skewed : length (systems skewed (pos 32)) ≡ 6
 unfolding systems comparisons
 systems-skewed = refl
-
-dependences-skewed : dependences skewed (pos 32) ≡ record { first = 2; second = 1; case = 1; verdict = Maybe } ∷ []
-unfolding systems comparisons verdict_of eliminated projected tidied normal gcd
-dependences-skewed = refl
 
 -- tile 1 4; tile 2 4, and the same after skew 2 1 1
 abbrev pub line_of_four : List ℤ → Line
@@ -74,17 +55,17 @@ square = record { lines = line_of_four (pos 1 ∷ pos 0 ∷ []) ∷ line_of_four
 abbrev pub slanted : Schedule
 slanted = record { lines = line_of_four (pos 1 ∷ pos 0 ∷ []) ∷ line_of_four (pos 1 ∷ pos 1 ∷ []) ∷ []; seq = 0 }
 
-abbrev pub trial_at : Option Trial → Option Depends
+abbrev pub trial_at : Option Trial → Option (ℕ × ℕ × ℕ)
 trial_at None = None
-trial_at (Some v) = Some (record { first = v.system.first.access; second = v.system.second.access; case = v.violated.row; verdict = Maybe })
+trial_at (Some v) = Some (v.system.first.access, v.system.second.access, v.violated.row)
 
 -- twelve trials
 trials-slanted : length (trials skewed slanted (pos 32)) ≡ 12
 unfolding systems comparisons trials
 trials-slanted = refl
 
--- the first is refused at row 2, the second is legal
-refusal-square : trial_at (refusal skewed square (pos 32)) ≡ Some (record { first = 2; second = 1; case = 2; verdict = Maybe })
+-- the first is refused at row 2 by the store before the load, the second is legal
+refusal-square : trial_at (refusal skewed square (pos 32)) ≡ Some (2, 1, 2)
 unfolding systems comparisons trials judgement verdict_of eliminated projected tidied normal gcd
 refusal-square = refl
 

@@ -4,3 +4,4 @@ pub mod Legality
 pub mod Laws
 pub mod Examples
 pub mod Terms
+pub mod Sides

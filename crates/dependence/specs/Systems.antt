@@ -1,9 +1,10 @@
 -- The systems of rows of a table, for chunks of at most L turns.
-use Rattle.std.specs.Prelude.{false, ℕ, ◌+◌, ◌-◌, ℤ, pos, negsuc, ◌+ℤ◌, ◌-ℤ◌, nat_lt, nat_eq, ◌&&◌, ◌||◌, Bool, if◌then◌else◌, Option, Some, None, List, [], ◌∷◌, ◌++◌, map, length, is_some}
+use Rattle.std.specs.Prelude.{false, ◌≤◌, ◌<◌, Contains, ℕ, ◌+◌, ◌-◌, ℤ, pos, negsuc, ◌+ℤ◌, ◌-ℤ◌, nat_lt, nat_eq, ◌&&◌, ◌||◌, Bool, if◌then◌else◌, Option, Some, None, List, [], ◌∷◌, ◌++◌, map, length, is_some}
 use Rattle.std.specs.List.{range_with_len, flat_map}
 use Rattle.affine.specs.declared.row.Row.{Row}
 use Rattle.affine.specs.Forms.{Affine}
 use Rattle.affine.specs.Matrices.{unit_row}
+use Rattle.nest_lang.specs.declared.tree.AccessRef.{AccessRef}
 use Rattle.domain.specs.Tables.{Table, Block, Access, depth, zero_form, form_or_zero, block_at, access_at, trip_form, counters, turning, is_post}
 use Rattle.dependence.specs.Comparisons.{Term, Number, Turn, AtX, AtY, AtMost, at_most, row_for}
 
@@ -55,11 +56,6 @@ equal_places t a b n = flat_map (equal_place t a b) (range_with_len 0 n)
 -- case c: the padded points are equal before place c, where x is less than y; after the last place they are equal
 abbrev pub rising_place : Table → Block → Block → ℕ → List AtMost
 rising_place t a b k = if nat_lt k (depth t) then at_most (AtX (shifted (pos 1) (place_form t a k))) (AtY (place_form t b k)) ∷ [] else []
-
--- an access of a block, by the block's rank and the number of the access from 1
-pub record AccessRef : Type 0 where
-  pub block : ℕ
-  pub access : ℕ
 
 abbrev pub found_access : Option Access → Access
 found_access None = record { stores = false; line = None; low = pos 0; high = pos 0 }
@@ -114,3 +110,13 @@ systems_of t L a b = if pairs (referred t a) (referred t b) then map (system t L
 -- the systems in their order: the first access, the second access, the case
 unfoldable pub systems : Table → ℤ → List System
 systems t L = flat_map (λ a. flat_map (systems_of t L a) (refs t)) (refs t)
+
+-- it refers to an access of the table
+pub record IsRef (t : Table) (r : AccessRef) : Type 0 where
+  pub block : r.block < length t.blocks
+  pub from : 1 ≤ r.access
+  pub to : r.access ≤ length (block_at t r.block).accesses
+
+-- it is one of the systems of the table, for chunks of some length
+abbrev pub IsSystemOf : Table → System → Type 0
+IsSystemOf t sys = (L : ℤ) × Contains (systems t L) sys

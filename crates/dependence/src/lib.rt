@@ -13,5 +13,11 @@
 
 mod comparison;
 pub mod laws;
+mod pairs;
+mod places;
+mod rows;
+mod sums;
+mod violations;
 
-pub use comparison::{Sum, Term, row_for};
+pub use pairs::{System, refs, systems, systems_of, variables};
+pub use violations::{Side, violation};

@@ -11,6 +11,7 @@ pub mod OriginalLaws
 pub mod PlaceLaws
 pub mod PointLaws
 pub mod RankLaws
+pub mod ShapeLaws
 pub mod SpotLaws
 pub mod StepLaws
 pub mod TableLaws

@@ -1,5 +1,5 @@
 -- Examples, computed: tables of small nests, and what their checks, points and steps are.
-use Rattle.std.specs.Prelude.{◌≡◌, refl, ℤ, pos, negsuc, true, Some, None, List, [], ◌∷◌}
+use Rattle.std.specs.Prelude.{◌≡◌, refl, ℤ, pos, negsuc, true, false, Some, None, List, [], ◌∷◌}
 use Rattle.affine.specs.Forms.{Affine}
 use Rattle.nest_lang.specs.declared.tree.Part.TheVariants.{Head, Pre, Post}
 use Rattle.domain.specs.declared.held.HeldWhy.TheVariants as why
@@ -21,6 +21,10 @@ store_at f = record { stores = true; line = Some f; low = pos 0; high = pos 0 }
 -- for i { [i] = 1 }
 abbrev pub row : Table
 row = record { levels = outer ∷ []; blocks = record { part = Pre; level = 1; scalars = []; accesses = store_at (form (pos 1 ∷ []) (pos 0)) ∷ [] } ∷ [] }
+
+-- for i { [i] = [i + (i % 4 == 2) - (i % 4 == 3)] }, whose load lies within one word of i
+abbrev pub near : Table
+near = record { levels = outer ∷ []; blocks = record { part = Pre; level = 1; scalars = []; accesses = record { stores = false; line = Some (form (pos 1 ∷ []) (pos 0)); low = negsuc 0; high = pos 1 } ∷ store_at (form (pos 1 ∷ []) (pos 0)) ∷ [] } ∷ [] }
 
 -- two loops: the inner one has a stride, a lower bound and a trip, and a block with these accesses
 abbrev pub two_loops : ℤ → Affine → Affine → List Access → Table

@@ -1,8 +1,14 @@
 -- What holds of predicted instances.
-use Rattle.std.specs.Prelude.{◌≡◌, ◌⊎◌, ◌≤◌, ◌-◌, ℕ, ℤ, pos, ◌≤ℤ◌, ◌<ℤ◌, ◌+ℤ◌, List}
+use Rattle.std.specs.Prelude.{◌≡◌, ◌⊎◌, ◌≤◌, ◌-◌, ◌^◌, ℕ, ℤ, pos, ◌≤ℤ◌, ◌<ℤ◌, ◌+ℤ◌, List, length}
+use Rattle.nest_lang.specs.declared.tree.Loop.{Loop}
+use Rattle.nest_lang.specs.declared.tree.Part.{Part}
 use Rattle.nest_lang.specs.declared.tree.Part.TheVariants.{Head}
+use Rattle.nest_lang.specs.Blocks.{block_ref, rank_of}
+use Rattle.nest_lang.specs.Rules.{NestKeeps}
 use Rattle.domain.specs.declared.chunk.Chunk.{Chunk}
-use Rattle.domain.specs.Tables.{Table, IsTable, trip}
+use Rattle.domain.specs.Tables.{Table, IsTable, Reaches, level_at, stride_size, trip}
+use Rattle.domain.specs.Tables.{rank_of as table_rank}
+use Rattle.domain.specs.Shapes.{IsTableOf}
 use Rattle.domain.specs.Instances.{Instance, block_of, counter, place, IsInstance, Predicted, Precedes, IsOriginal}
 use Rattle.domain.specs.Footprints.{Writes}
 use Rattle.domain.specs.Launches.{IsLaunched}
@@ -45,3 +51,14 @@ abbrev pub LaunchedWords : Type 0
 LaunchedWords =
     (t : Table) (words : ℤ) (chunk : Chunk) (instances : ℕ) → IsLaunched t words chunk instances
     → (x : Instance) → Predicted t chunk x → (address : ℤ) → Writes t x address → (pos 0 ≤ℤ address) × (address <ℤ words)
+
+-- the table of a nest that keeps the rules, in a file of at most 16 scalars, is a table, where the strides are of 64 bits
+-- and the loops' names stay within what can be computed
+abbrev pub TableOfNest : Type 0
+TableOfNest =
+    (scalars : ℕ) (loops : List Loop) (t : Table) → scalars ≤ 16 → NestKeeps scalars loops → IsTableOf scalars loops t
+    → ((k : ℕ) → stride_size (level_at t k).kind ≤ 2 ^ 63) → ((k : ℕ) → Reaches (stride_size (level_at t k).kind) (level_at t k).trip) → IsTable (length loops) t
+
+-- in the table of a nest, a block has the rank that it has in the nest
+abbrev pub RanksOfNest : Type 0
+RanksOfNest = (scalars : ℕ) (loops : List Loop) (t : Table) (part : Part) (level : ℕ) → IsTableOf scalars loops t → table_rank t part level ≡ rank_of loops (block_ref part level)

@@ -1,7 +1,7 @@
 //! Laws: functions that do nothing, each with a law of the definitions as its contract.
 
 ghost use Rattle.domain.specs.Examples.{PremisesCanHold};
-ghost use Rattle.domain.specs.Laws.{OrderIsStrict, OneList, LaunchedTrips, LaunchedCounters, LaunchedPlaces, LaunchedWords};
+ghost use Rattle.domain.specs.Laws.{OrderIsStrict, OneList, LaunchedTrips, LaunchedCounters, LaunchedPlaces, LaunchedWords, TableOfNest, RanksOfNest};
 
 /// Original order is a strict total order of the instances of present blocks.
 pub fn order_is_strict()
@@ -33,6 +33,17 @@ pub fn launched_places()
 /// Where a chunk is launched, each address that a predicted instance writes is a word, as `footprint` asks.
 pub fn launched_words()
     ensures { LaunchedWords }
+{}
+
+/// The table of a nest that keeps the rules, in a file of at most 16 scalars, is a table, as `Prediction::new` asks, where
+/// the strides are of 64 bits and the loops' names stay within what can be computed.
+pub fn table_of_nest()
+    ensures { TableOfNest }
+{}
+
+/// In the table of a nest, a block has the rank that it has in the nest.
+pub fn ranks_of_nest()
+    ensures { RanksOfNest }
 {}
 
 /// The premises of the contracts can be met.

@@ -76,8 +76,17 @@ impl<const D: usize> Prediction<D> {
         Instance { block: 0, at }
     }
 
-    /// The block of a rank.
-    pub(crate) fn block(&self, rank: u8) -> &BlockForms<D>
+    /// The number of present blocks, at most 18.
+    pub fn block_count(&self) -> usize
+        ensures value { result ≡ length self.now.blocks }
+        ensures short { result ≤ 18 }
+        ensures table { IsTable D self.now }
+    {
+        self.blocks.len()
+    }
+
+    /// The block of a rank, from 0.
+    pub fn block(&self, rank: u8) -> &BlockForms<D>
         requires { rank < length self.now.blocks }
         ensures block { result.now ≡ block_at self.now rank }
         ensures is { IsBlock D result.now }
@@ -89,7 +98,7 @@ impl<const D: usize> Prediction<D> {
     }
 
     /// The loop inside so many others.
-    pub(crate) fn level(&self, around: usize) -> &LoopForms<D>
+    pub fn level(&self, around: usize) -> &LoopForms<D>
         requires { around < D }
         ensures level { result.now ≡ level_at self.now around }
         ensures strides { stride_size result.now.kind ≤ 2 ^ 63 }
@@ -99,7 +108,7 @@ impl<const D: usize> Prediction<D> {
     }
 
     /// Whether the loop inside so many others is a `while`.
-    pub(crate) fn repeats(&self, around: usize) -> bool
+    pub fn repeats(&self, around: usize) -> bool
         requires { around < D }
         ensures { result ≡ repeats self.now around }
     {

@@ -2,11 +2,11 @@
 
 ghost use Rattle.std.specs.Prelude.{◌≡◌, ◌<◌, ◌≤◌, ◌≤ℤ◌, ◌^◌, pos, [], ◌∷◌, IfOk, length, unsigned_abs};
 ghost use Rattle.domain.specs.Instances.{counter, instance};
-ghost use Rattle.domain.specs.Examples.{row, two_loops};
+ghost use Rattle.domain.specs.Examples.{near, row, two_loops};
 
 use crate::{
     AccessForm, BlockForms, Chunk, Held, HeldWhy, Instance, Launched, LoopForms, LoopKind,
-    Prediction, launch, successor,
+    Prediction, Touched, What, expected, footprint, launch, successor,
 };
 use affine::Form;
 use nest_lang::Part;
@@ -329,4 +329,77 @@ fn successors_go_over_a_chunk(rt: HostRuntime) {
     assert_eq!(rt; after(&pred, 1, 8, 0), instance(1, 8, 1));
     assert_eq!(rt; after(&pred, 1, 8, 1), instance(0, 9, 0));
     assert_eq!(rt; after(&pred, 0, 10, 0), instance(0, 11, 0));
+}
+
+#[test]
+fn a_datum_has_its_form_and_an_access_its_tube(rt: HostRuntime) {
+    let pred = triangle(rt.alloc()).expect(&rt, "ample memory");
+    let line = Form {
+        coef: [21, 1],
+        cst: 0,
+    };
+    assert_eq!(rt; pred.form(1, What::Address(1)), Some(line));
+    assert_eq!(rt; pred.tube(1, 1), Some((0, 0)));
+    assert_eq!(rt; pred.form(1, What::Trip), None);
+    assert_eq!(rt; pred.tube(1, 2), None);
+    assert_eq!(rt; expected(&pred, &instance(0, 4, 0), What::Trip), Some(6));
+    assert_eq!(rt;
+        expected(&pred, &instance(1, 4, 2), What::Address(1)),
+        Some(86)
+    );
+}
+
+/// `for i { [i] = [i + (i % 4 == 2) - (i % 4 == 3)] }`, whose load lies within one word of i.
+fn near(alloc: Global) -> Result<Prediction<1>, AllocError>
+    ensures { IfOk result (λ pred. pred ≡ near) }
+{
+    let mut levels = Vec::new(alloc);
+    levels.push(LoopForms {
+        kind: LoopKind::For(1),
+        lower: None,
+        trip: None,
+    })?;
+    let mut accesses = Vec::new(alloc);
+    accesses.push(AccessForm {
+        stores: false,
+        line: Some(Form { coef: [1], cst: 0 }),
+        low: -1,
+        high: 1,
+    })?;
+    accesses.push(AccessForm {
+        stores: true,
+        line: Some(Form { coef: [1], cst: 0 }),
+        low: 0,
+        high: 0,
+    })?;
+    let mut blocks = Vec::new(alloc);
+    blocks.push(BlockForms {
+        part: Part::Pre,
+        level: 1,
+        scalars: Vec::new(alloc),
+        accesses,
+    })?;
+    Ok(Prediction::new(levels, blocks))
+}
+
+/// What a turn of that nest touches in 40 words.
+fn touched_near(alloc: Global, turn: i64) -> Result<Touched, AllocError>
+    requires from { pos 0 ≤ℤ turn }
+    requires to { turn ≤ℤ pos 39 }
+{
+    let inst = Instance {
+        block: 0,
+        at: [turn],
+    };
+    footprint(alloc, &near(alloc)?, &inst, 40)
+}
+
+#[test]
+fn a_turn_reads_the_words_of_its_tube_and_writes_one(rt: HostRuntime) {
+    let inside = touched_near(rt.alloc(), 7).expect(&rt, "ample memory");
+    assert_eq!(rt; inside.reads.as_slice(), [6, 7, 8].as_slice());
+    assert_eq!(rt; inside.writes.as_slice(), [7].as_slice());
+    let last = touched_near(rt.alloc(), 39).expect(&rt, "ample memory");
+    assert_eq!(rt; last.reads.as_slice(), [38, 39].as_slice());
+    assert_eq!(rt; last.writes.as_slice(), [39].as_slice());
 }

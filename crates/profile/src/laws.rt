@@ -1,9 +1,26 @@
 //! Laws: functions that do nothing, each with a law of the definitions as its contract.
 
+ghost use Rattle.profile.specs.Laws.{FitOrUnfit, FormIsOnlyAffine, SamplesLieInTubes};
 ghost use Rattle.profile.specs.Sampled.{SamplerKeepsAll};
 
 /// A sampler that was shown a list of things, one after another, keeps the observations among them, in order, or was
 /// refused memory.
 pub fn sampler_keeps_all()
     ensures { SamplerKeepsAll }
+{}
+
+/// Observations don't have both a fit and a first datum that has none.
+pub fn fit_or_unfit()
+    ensures { FitOrUnfit }
+{}
+
+/// Every sample of a datum with a form lies in its tube about the line.
+pub fn samples_lie_in_tubes()
+    ensures { SamplesLieInTubes }
+{}
+
+/// Where each counter has a pair of samples that differ by one in it alone and the tube is (0, 0), the form of a datum is
+/// the only affine function through its samples.
+pub fn form_is_only_affine()
+    ensures { FormIsOnlyAffine }
 {}

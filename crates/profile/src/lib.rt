@@ -7,12 +7,18 @@
 //! lines. The layer above fits every datum of a nest and predicts with their forms.
 #![tactic(auto)]
 
+mod bounds;
 mod gather;
 pub mod laws;
 mod log;
+mod nest_fit;
 mod sampler;
+mod site;
+mod unfit;
 
+pub use nest_fit::fit;
 pub use sampler::{Sampler, Samples};
+pub use unfit::{FitEnd, Unfit, UnfitWhy};
 
 #[cfg(test)]
 mod tests;

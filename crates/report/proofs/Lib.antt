@@ -1,3 +1,4 @@
 pub mod RunLemmas
 pub mod OneList
 pub mod ScalarLaws
+pub mod Phrases

@@ -1,5 +1,9 @@
 pub mod LongestRuns
 pub mod Outcomes
+pub mod Places
+pub mod Words
+pub mod Lines
 pub mod Laws
 pub mod Examples
+pub mod LineExamples
 pub mod Faults

@@ -2,6 +2,7 @@
 
 ghost use Rattle.report.specs.Laws.{OneListOfRuns, OneOutcome};
 ghost use Rattle.report.specs.Examples.{RunExamples, OutcomeExamples};
+ghost use Rattle.report.specs.LineExamples.{LineExamples};
 
 /// Each memory has exactly one list of the longest runs of equal words that aren't 0, ascending.
 pub fn one_list_of_runs()
@@ -21,4 +22,9 @@ pub fn run_examples()
 /// Outcomes that were written by hand.
 pub fn outcome_examples()
     ensures { OutcomeExamples }
+{}
+
+/// Lines that were written by hand.
+pub fn line_examples()
+    ensures { LineExamples }
 {}

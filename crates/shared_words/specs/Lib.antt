@@ -1,4 +1,5 @@
 pub mod Seats
+pub mod Memories
 pub mod Calls
 pub mod Laws
 pub mod Examples

@@ -141,6 +141,15 @@ impl MainSeat {
         words.table.shared.load::<SettlePhase>(&mut self.seat, FLAG) == self.epoch
     }
 
+    /// How many memory words there are: every address below this is that of a word.
+    pub fn count(&self, words: &SharedWords) -> u64
+        requires { self.now.table ≡ words.now }
+        ensures { result ≡ length self.now.view.base }
+    {
+        let _seat = &self.seat;
+        words.count()
+    }
+
     /// The word at an address of the memory, where no plan is posted.
     pub fn load(&mut self, words: &SharedWords, address: u64) -> i64
         requires table { self.old.table ≡ words.now }

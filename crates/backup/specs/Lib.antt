@@ -1,0 +1,3 @@
+pub mod Stripes
+pub mod Backups
+pub mod Examples

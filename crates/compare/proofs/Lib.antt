@@ -1,0 +1,12 @@
+pub mod Points
+pub mod Standing
+pub mod Walking
+pub mod Under
+pub mod Predicting
+pub mod PredictedChains
+pub mod Telling
+pub mod Watching
+pub mod Wanting
+pub mod Occurring
+pub mod Closing
+pub mod CompareLaws

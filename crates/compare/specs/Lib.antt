@@ -1,0 +1,10 @@
+pub mod Chunks
+pub mod PredictedLaws
+pub mod ChainLaw
+pub mod Kept
+pub mod Differences
+pub mod Comparisons
+pub mod Compared
+pub mod Occurrences
+pub mod CompareLaws
+pub mod Examples

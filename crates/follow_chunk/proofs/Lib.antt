@@ -1,0 +1,12 @@
+pub mod Points
+pub mod Ranks
+pub mod Arounds
+pub mod Launched
+pub mod Predicting
+pub mod Placing
+pub mod Standing
+pub mod Running
+pub mod Whole
+pub mod Listing
+pub mod Conflicts
+pub mod Premises

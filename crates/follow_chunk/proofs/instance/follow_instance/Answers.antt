@@ -1,0 +1,21 @@
+use Rattle.std.proofs.Common.{◌≡◌, refl, sym, ◌∙◌, ap, subst, Result, Ok, Err, ℕ, length, pos}
+use Rattle.follow.specs.declared.how.How.{How}
+use Rattle.follow_chunk.specs.Followed.{IsRun}
+use Rattle.follow_chunk.proofs.Whole.{follows-by, deviates-by}
+use Rattle.follow_chunk.proofs.instance.follow_instance.Goals as goal
+
+pub returns-in-Ok-clause-followed : goal.returns-in-Ok-clause-followed
+returns-in-Ok-clause-followed g c =
+    let self = c.args.task.now in
+    let m = g.P.Port.memory c.args.port.now in
+    follows-by g.row.D self.scalars self.nest.now.loops self.pred.now self.outer self.chunk (pos (length m)) c.requires.task c.args.inst.now c.requires.predicted m (g.P.Port.memory c.follow.new.port) c.in-Ok.steps
+    (subst (λ (r : Result ℕ How). IsRun self.pred.now self.nest.now.loops self.outer c.args.inst.now m r (g.P.Port.memory c.follow.new.port)) c.in-Ok.is c.follow.ensures.run)
+
+pub returns-in-Err-clause-followed : goal.returns-in-Err-clause-followed
+returns-in-Err-clause-followed g c =
+    let self = c.args.task.now in
+    let m = g.P.Port.memory c.args.port.now in (
+      refl,
+      deviates-by g.row.D self.scalars self.nest.now.loops self.pred.now self.outer self.chunk (pos (length m)) c.requires.task c.args.inst.now c.requires.predicted m (g.P.Port.memory c.follow.new.port) c.in-Err.how
+          (subst (λ (r : Result ℕ How). IsRun self.pred.now self.nest.now.loops self.outer c.args.inst.now m r (g.P.Port.memory c.follow.new.port)) c.in-Err.is c.follow.ensures.run),
+    )

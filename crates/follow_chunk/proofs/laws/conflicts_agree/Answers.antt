@@ -1,0 +1,5 @@
+use Rattle.follow_chunk.proofs.Conflicts.{conflicts-agree}
+use Rattle.follow_chunk.proofs.laws.conflicts_agree.Goals as goal
+
+pub returns : goal.returns
+returns c = conflicts-agree

@@ -1,0 +1,5 @@
+use Rattle.follow_chunk.proofs.Conflicts.{instances-return}
+use Rattle.follow_chunk.proofs.laws.instances_return.Goals as goal
+
+pub returns : goal.returns
+returns c = instances-return

@@ -1,0 +1,72 @@
+use Rattle.std.proofs.Common.{◌≡◌, refl, sym, ◌∙◌, ap, ap₂, subst, ℕ, List, ℤ, pos, Option, Some, take, rules}
+use Rattle.std.specs.Prelude.{option_map}
+use Rattle.nest_lang.specs.declared.tree.BlockRef.{BlockRef}
+use Rattle.nest_lang.specs.declared.tree.Head.{Head}
+use Rattle.nest_lang.specs.Blocks.{head_at, statements_of, counters_of}
+use Rattle.nest_lang.specs.Lookups.{Expectation}
+use Rattle.nest_lang.specs.Loops.{frame_of}
+use Rattle.nest_lang.specs.Rules.{strides}
+use Rattle.block_exec.specs.Sites.{around_at}
+use Rattle.domain.specs.Tables.{counters}
+use Rattle.domain.specs.Instances.{block_of}
+use Rattle.follow.specs.declared.verify.Interval.{Interval}
+use Rattle.follow.specs.Intervals.{interval_of}
+use Rattle.follow_chunk.specs.Items.{around_of}
+use Rattle.follow_chunk.proofs.Standing.{counters-here, none-head, strides-here, head-same}
+use Rattle.follow_chunk.proofs.Running.{run-block, run-head}
+use Rattle.follow_chunk.proofs.task.Task.follow.Goals as goal
+
+pub places-places-requires : goal.places-places-requires
+places-places-requires g c =
+    let self = c.args.self.now in
+    let task = c.requires.task in
+    let x = c.args.inst.now in
+    let p = c.requires.predicted in
+    let counts : c.in-Some.loops ≡ counters self.pred.now (block_of self.pred.now x) = (let e = sym c.in-Some.is ∙ c.counters.ensures ∙ ap (counters_of self.nest.now.loops) c.block-block.ensures ∙ counters-here g.row.D self.scalars self.nest.now.loops self.pred.now self.outer self.chunk task.0 task.1 x p in cc) in
+    search rules
+
+pub returns-in-Some-statements-clause-run : goal.returns-in-Some-statements-clause-run
+returns-in-Some-statements-clause-run g c =
+    let self = c.args.self.now in
+    let task = c.requires.task in
+    let x = c.args.inst.now in
+    let p = c.requires.predicted in
+    let t = self.pred.now in
+    let loops = self.nest.now.loops in
+    let counts : c.in-Some.loops ≡ counters t (block_of t x) = (let e = sym c.in-Some.is ∙ c.counters.ensures ∙ ap (counters_of loops) c.block-block.ensures ∙ counters-here g.row.D self.scalars self.nest.now.loops self.pred.now self.outer self.chunk task.0 task.1 x p in cc) in
+    let frames = λ (e : Expectation). c.site-site.ensures e ∙ ap (λ (r : BlockRef). frame_of e r.part r.level (around_at c.in-Some.loops c.places-places.result)) c.block-block.ensures
+    ∙ ap (frame_of e (block_of t x).part (block_of t x).level) (c.places-places.ensures ∙ ap (λ (n : ℕ). around_of t loops self.outer (take n x.at)) counts) in
+    let each = λ (access : ℕ). c.due-due.ensures.intervals access ∙ ap (λ (xs : List (Option Interval)). interval_of xs access) (sym c.as_slice.ensures.value) in
+    let begins = c.as_mut_slice-scalars.ensures.value ∙ c.due-due.ensures.scalars in
+    let closes = c.as_slice-2.ensures.value ∙ c.due-due.ensures.after in
+    let is = ap (statements_of loops) (sym c.block-block.ensures) ∙ sym c.statements.ensures ∙ ap (option_map (λ ss. ss.now)) c.in-Some-statements.is in
+    run-block g.row.D self.scalars self.nest.now.loops self.pred.now self.outer self.chunk task.0 task.1 x p c.site-site.result frames c.as_slice.result.now each (g.P.Port.memory c.args.port.now) (g.P.Port.memory c.follow_block.new.port) c.follow_block.result
+    c.as_mut_slice-scalars.result.now c.as_slice-2.result.now c.in-Some-statements.statements.now begins closes is c.follow_block.ensures.followed
+
+pub follow_head-requires-clause-strides : goal.follow_head-requires-clause-strides
+follow_head-requires-clause-strides g c =
+    let self = c.args.self.now in
+    let task = c.requires.task in
+    let x = c.args.inst.now in
+    let p = c.requires.predicted in
+    let head_is = ap (λ (r : BlockRef). head_at self.nest.now.loops r.level) (sym c.block-block.ensures) ∙ sym c.head.ensures ∙ ap (option_map (λ head. head.now)) c.in-Some-head.is in
+    subst (λ (h : Head). strides h ≡ _) (head-same g.row.D self.scalars self.nest.now.loops self.pred.now self.outer self.chunk task.0 task.1 x p c.in-Some-head.head.now head_is) (strides-here g.row.D self.scalars self.nest.now.loops self.pred.now self.outer self.chunk task.0 task.1 x p)
+
+pub returns-clause-run : goal.returns-clause-run
+returns-clause-run g c =
+    let self = c.args.self.now in
+    let task = c.requires.task in
+    let x = c.args.inst.now in
+    let p = c.requires.predicted in
+    let t = self.pred.now in
+    let loops = self.nest.now.loops in
+    let counts : c.in-Some.loops ≡ counters t (block_of t x) = (let e = sym c.in-Some.is ∙ c.counters.ensures ∙ ap (counters_of loops) c.block-block.ensures ∙ counters-here g.row.D self.scalars self.nest.now.loops self.pred.now self.outer self.chunk task.0 task.1 x p in cc) in
+    let frames = λ (e : Expectation). c.site-site.ensures e ∙ ap (λ (r : BlockRef). frame_of e r.part r.level (around_at c.in-Some.loops c.places-places.result)) c.block-block.ensures
+    ∙ ap (frame_of e (block_of t x).part (block_of t x).level) (c.places-places.ensures ∙ ap (λ (n : ℕ). around_of t loops self.outer (take n x.at)) counts) in
+    let each = λ (access : ℕ). c.due-due.ensures.intervals access ∙ ap (λ (xs : List (Option Interval)). interval_of xs access) (sym c.as_slice.ensures.value) in
+    let begins = c.as_mut_slice-scalars.ensures.value ∙ c.due-due.ensures.scalars in
+    let closes = c.as_slice-2.ensures.value ∙ c.due-due.ensures.after in
+    let head_is = ap (λ (r : BlockRef). head_at loops r.level) (sym c.block-block.ensures) ∙ sym c.head.ensures ∙ ap (option_map (λ head. head.now)) c.in-Some-head.is in
+    let none = ap (statements_of loops) (sym c.block-block.ensures) ∙ sym c.statements.ensures ∙ ap (option_map (λ ss. ss.now)) c.in_default-statements.is in
+    run-head g.row.D self.scalars self.nest.now.loops self.pred.now self.outer self.chunk task.0 task.1 x p c.site-site.result frames c.as_slice.result.now each (g.P.Port.memory c.args.port.now) (g.P.Port.memory c.follow_head.new.port) c.follow_head.result
+    c.as_mut_slice-scalars.result.now c.as_slice-2.result.now c.in-Some-head.head.now c.turning-turning.result begins closes head_is (none-head g.row.D self.scalars self.nest.now.loops self.pred.now self.outer self.chunk task.0 task.1 x p none) c.turning-turning.ensures c.follow_head.ensures.followed

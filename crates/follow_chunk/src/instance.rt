@@ -1,0 +1,147 @@
+//! One instance, run from its expected scalars and compared with what is predicted of it.
+
+ghost use Rattle.std.specs.Prelude.{◌≡◌, ◌<◌, ℕ, Some, false, length, pos};
+ghost use Rattle.nest_lang.specs.declared.tree.Part.TheVariants.{Head as HeadPart};
+ghost use Rattle.nest_lang.specs.Blocks.{block_ref, head_at};
+ghost use Rattle.domain.specs.Instances.{block_of, Predicted};
+ghost use Rattle.domain.specs.Steps.{next};
+ghost use Rattle.follow.specs.Intervals.{interval_of};
+ghost use Rattle.follow.specs.Turnings.{IsTurning};
+ghost use Rattle.follow_chunk.specs.Predicted.{occurrence_of, scalars_at, interval_at, forecast_of};
+ghost use Rattle.follow_chunk.specs.Tasks.{IsTask, IsSomeTask};
+ghost use Rattle.follow_chunk.specs.Followed.{IsRun, IsInstanceFollowed};
+
+use crate::expect::{intervals_at, narrowed, scalars_at};
+use crate::place::cut;
+use crate::task::{Deviation, Followed, Task};
+use arrayvec::ArrayVec;
+use block_exec::Port;
+use domain::{Instance, What, expected, successor};
+use follow::{Expected, How, Interval, Turning, follow_block, follow_head};
+use nest_lang::{BlockRef, Head};
+
+/// More steps than an instance has: its block has fewer than 2^20 statements.
+const MOST_STEPS: u64 = 1 << 32;
+
+/// What is due of an instance: the scalars that it begins with, the interval of each of its accesses, and the scalars
+/// that its successor begins with.
+#[derive(Drop)]
+struct Due {
+    scalars: ArrayVec<i64, 16>,
+    intervals: ArrayVec<Option<Interval>, 64>,
+    after: ArrayVec<i128, 16>,
+}
+
+impl<const D: usize> Task<'_, D> {
+    /// The block of an instance.
+    fn block(&self, inst: &Instance<D>) -> BlockRef
+        requires task { IsSomeTask D self.now.scalars self.now.nest.now.loops self.now.pred.now self.now.outer self.now.chunk }
+        requires predicted { Predicted self.now.pred.now self.now.chunk inst.now }
+        ensures { result ≡ block_ref (block_of self.now.pred.now inst.now).part (block_of self.now.pred.now inst.now).level }
+    {
+        let Some(block) = self.nest.present(inst.block) else {
+            unreachable!()
+        };
+        block
+    }
+
+    /// What is due of an instance of that block.
+    fn due(&self, inst: &Instance<D>, block: BlockRef) -> Due
+        requires few { D < 7 }
+        requires task { IsSomeTask D self.now.scalars self.now.nest.now.loops self.now.pred.now self.now.outer self.now.chunk }
+        requires predicted { Predicted self.now.pred.now self.now.chunk inst.now }
+        requires block { block ≡ block_ref (block_of self.now.pred.now inst.now).part (block_of self.now.pred.now inst.now).level }
+        ensures scalars { result.scalars.items ≡ scalars_at self.now.pred.now inst.now }
+        ensures intervals { (access : ℕ) → interval_at self.now.pred.now inst.now access ≡ interval_of result.intervals.items access }
+        ensures after { result.after.items ≡ scalars_at self.now.pred.now (next self.now.pred.now inst.now) }
+    {
+        let begins = scalars_at(self.pred, inst, self.scalars);
+        let behind = successor(self.pred, inst);
+        let accesses = self.nest.accesses(block);
+        Due {
+            scalars: narrowed(begins.as_slice()),
+            intervals: intervals_at(self.pred, inst, accesses.len()),
+            after: scalars_at(self.pred, &behind, self.scalars),
+        }
+    }
+
+    /// What is expected of the head of that block, of which this is an instance.
+    fn turning(&self, inst: &Instance<D>, block: BlockRef, head: &Head) -> Turning
+        requires few { D < 7 }
+        requires task { IsSomeTask D self.now.scalars self.now.nest.now.loops self.now.pred.now self.now.outer self.now.chunk }
+        requires predicted { Predicted self.now.pred.now self.now.chunk inst.now }
+        requires block { block ≡ block_ref (block_of self.now.pred.now inst.now).part (block_of self.now.pred.now inst.now).level }
+        requires part { block.part ≡ HeadPart }
+        requires head { head_at self.now.nest.now.loops block.level ≡ Some head.now }
+        ensures { IsTurning (forecast_of self.now.pred.now) (occurrence_of self.now.pred.now inst.now) head.now result }
+    {
+        let depth = block.level as usize - 1;
+        let around = Instance {
+            block: inst.block,
+            at: cut(&inst.at, depth),
+        };
+        let trip = expected(self.pred, &around, What::Trip).unwrap_or(0);
+        match head {
+            Head::For(_, _, _) => {
+                Turning::Bounds(expected(self.pred, inst, What::Lower).unwrap_or(0), trip)
+            }
+            Head::While(_) => {
+                Turning::Holds(block.level <= 1 || i128::from(inst.at[depth]) < trip)
+            }
+        }
+    }
+
+    /// Runs an instance from its expected scalars, and compares it with what is predicted of it.
+    fn follow<P: Port>(&self, inst: &Instance<D>, port: &mut P) -> Result<u64, How>
+        requires few { D < 7 }
+        requires task { IsSomeTask D self.now.scalars self.now.nest.now.loops self.now.pred.now self.now.outer self.now.chunk }
+        requires predicted { Predicted self.now.pred.now self.now.chunk inst.now }
+        requires plain { (P.expects port.old).verifies ≡ false }
+        ensures run { IsRun self.now.pred.now self.now.nest.now.loops self.now.outer inst.now (P.memory port.old) result (P.memory port.new) }
+        ensures expects { P.expects port.new ≡ P.expects port.old }
+        ensures basis { P.basis port.new ≡ P.basis port.old }
+    {
+        let block = self.block(inst);
+        let Some(loops) = self.nest.counters(block) else {
+            unreachable!()
+        };
+        let places = self.places(inst, loops as usize);
+        let site = places.site(block, loops as usize);
+        let mut due = self.due(inst, block);
+        let expected = Expected {
+            intervals: due.intervals.as_slice(),
+            after: due.after.as_slice(),
+        };
+        let scalars = due.scalars.as_mut_slice();
+        if let Some(statements) = self.nest.statements(block) {
+            return follow_block(&site, statements, &expected, scalars, port, MOST_STEPS);
+        }
+        let Some(head) = self.nest.head(block.level) else {
+            unreachable!()
+        };
+        let turning = self.turning(inst, block, head);
+        follow_head(&site, head, &expected, turning, scalars, port, MOST_STEPS)
+    }
+}
+
+/// Runs one instance from its expected scalars, and compares it with what is predicted of it: each address before the
+/// port is asked, what a head yields, and after the last step each scalar with that expected of the instance's
+/// successor. The instance is predicted in the task's chunk, and the port doesn't verify.
+pub fn follow_instance<P: Port, const D: usize>(
+    task: &Task<'_, D>,
+    inst: &Instance<D>,
+    port: &mut P,
+) -> Followed<D>
+    requires few { D < 7 }
+    requires task { IsTask D task.now.scalars task.now.nest.now.loops task.now.pred.now task.now.outer task.now.chunk (pos (length (P.memory port.old))) }
+    requires predicted { Predicted task.now.pred.now task.now.chunk inst.now }
+    requires plain { (P.expects port.old).verifies ≡ false }
+    ensures followed { IsInstanceFollowed task.now.pred.now task.now.nest.now.loops task.now.outer inst.now (P.memory port.old) result (P.memory port.new) }
+    ensures expects { P.expects port.new ≡ P.expects port.old }
+    ensures basis { P.basis port.new ≡ P.basis port.old }
+{
+    match task.follow(inst, port) {
+        Ok(steps) => Followed::Same { steps },
+        Err(how) => Followed::Differs(Deviation { at: *inst, how }),
+    }
+}

@@ -1,0 +1,14 @@
+pub mod Spreads
+pub mod Steps
+pub mod Moves
+pub mod Points
+pub mod Fronts
+pub mod Lattices
+pub mod BlockLemmas
+pub mod MergeLemmas
+pub mod CellLemmas
+pub mod StateLemmas
+pub mod ListedLemmas
+pub mod ListLemmas
+pub mod WalkLemmas
+pub mod NewLemmas

@@ -1,0 +1,11 @@
+pub mod Spaces
+pub mod Places
+pub mod Orders
+pub mod Fronts
+pub mod Lattices
+pub mod Blocks
+pub mod Merges
+pub mod States
+pub mod Listed
+pub mod Listings
+pub mod Walks

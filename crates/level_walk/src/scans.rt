@@ -1,0 +1,68 @@
+//! How the points of a block are found.
+
+ghost use Rattle.std.specs.Prelude.{◌≡◌, ◌<◌, ◌≤◌, ℕ, length, drop};
+
+use crate::cursor::Point;
+use crate::listings::{moved_listing, started_listing};
+use crate::states::{State, moved, started};
+use affine::Row;
+use fourier_motzkin::Scan;
+
+/// The rows of a block, and their scan.
+#[derive(Drop)]
+pub struct Scanning {
+    pub scan: Scan,
+    pub rows: Vec<Row>,
+}
+
+/// The points of a block in another order.
+#[derive(Drop)]
+pub struct Listing {
+    pub points: Vec<Point>,
+}
+
+/// How the points of a block are found: by a scan, or among those that are listed.
+#[derive(Drop)]
+pub enum BlockScan {
+    Scanned(Scanning),
+    Listed(Listing),
+}
+
+impl BlockScan {
+    ghost use Rattle.level_walk.specs.Walks.{IsBlock, IsBox, StandsIn, left_in, points_in};
+
+    /// The start of the walk over the points in a cell.
+    pub fn started(&self, variables: usize, lows: &[i64], highs: &[i64]) -> State
+        requires block { IsBlock variables self.now }
+        requires cell { IsBox variables lows.now highs.now }
+        ensures stands { StandsIn lows.now highs.now self.now result }
+        ensures left { left_in lows.now highs.now self.now result ≡ points_in lows.now highs.now self.now }
+    {
+        match self {
+            BlockScan::Scanned(block) => {
+                started(&block.scan, block.rows.as_slice(), lows, highs)
+            },
+            BlockScan::Listed(block) => {
+                started_listing(variables, block.points.as_slice(), lows, highs)
+            },
+        }
+    }
+
+    /// The walk once its first point is taken off.
+    pub fn moved(&self, variables: usize, lows: &[i64], highs: &[i64], state: &State) -> State
+        requires block { IsBlock variables self.now }
+        requires cell { IsBox variables lows.now highs.now }
+        requires stands { StandsIn lows.now highs.now self.now state.now }
+        ensures stands { StandsIn lows.now highs.now self.now result }
+        ensures left { left_in lows.now highs.now self.now result ≡ drop 1 (left_in lows.now highs.now self.now state.now) }
+    {
+        match self {
+            BlockScan::Scanned(block) => {
+                moved(&block.scan, block.rows.as_slice(), lows, highs, state)
+            },
+            BlockScan::Listed(block) => {
+                moved_listing(variables, block.points.as_slice(), lows, highs, state)
+            },
+        }
+    }
+}

@@ -1,0 +1,2 @@
+pub mod FirstProfiles
+pub mod Laws

@@ -1,0 +1,7 @@
+pub mod SideLaws
+pub mod BlockLaws
+pub mod ScanLaws
+pub mod BoxLaws
+pub mod FrameLaws
+pub mod ListLaws
+pub mod SkeletonLaws
