@@ -1,5 +1,5 @@
 -- The premises can be met.
-use Rattle.std.proofs.Common.{◌≡◌, refl, sym, ap, ◌∙◌, subst, ℕ, zero, suc, ◌<◌, ◌≤◌, pos, List, [], ◌∷◌, map, slice_get, Some, true, lit≤, arith}
+use Rattle.std.proofs.Common.{◌≡◌, refl, sym, ap, subst, ℕ, zero, suc, ◌<◌, ◌≤◌, pos, [], ◌∷◌, map, slice_get, Some, true, lit≤, arith}
 use Rattle.std.specs.Prelude.{◌^◌}
 use Rattle.std.proofs.lemmas.Int.{ints}
 use Rattle.nest_lang.specs.declared.tree.Access.{Access as NestAccess}
@@ -11,7 +11,7 @@ use Rattle.nest_lang.specs.Accesses.{block_accesses}
 use Rattle.nest_lang.specs.Blocks.{present_blocks, block_ref}
 use Rattle.nest_lang.specs.Rules.{loops_keep}
 use Rattle.nest_lang.proofs.AccessLaws.{expression_accesses-number, statement_accesses-set, block_accesses-cons, block_accesses-nil}
-use Rattle.domain.specs.Tables.{Table, IsTable, IsBlock, block_at, level_at, Reaches, stride_size}
+use Rattle.domain.specs.Tables.{IsTable, IsBlock, block_at, level_at, Reaches, stride_size}
 use Rattle.domain.specs.Shapes.{IsTableOf, IsBlockOf, is_store}
 use Rattle.compare.specs.Premises.{nest, expected, PremisesCanHold}
 

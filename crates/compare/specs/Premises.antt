@@ -1,5 +1,5 @@
 -- The premises of the laws and of the watch can be met.
-use Rattle.std.specs.Prelude.{ℕ, pos, List, [], ◌∷◌, None, Some}
+use Rattle.std.specs.Prelude.{pos, List, [], ◌∷◌, None, Some}
 use Rattle.nest_lang.specs.declared.tree.Expr.TheVariants.{Number}
 use Rattle.nest_lang.specs.declared.tree.Head.TheVariants as head
 use Rattle.nest_lang.specs.declared.tree.Loop.{Loop}
