@@ -57,9 +57,12 @@ second-block t sys of = (refers t of.0 sys (has_from_contains (systems t of.0) s
 pub systems_of-all : (t : Table) (L : ℤ) (a b : AccessRef) → IsRef t a → IsRef t b → All (IsSystemOf t) (systems_of t L a b)
 unfolding systems
 systems_of-all t L a b p q = All_from (IsSystemOf t) (systems_of t L a b)
-    (λ sys h. (L, contains_from_has (systems t L) sys
-    (has_flat_map (λ first. flat_map (systems_of t L first) (refs t)) (refs t) a sys (has_ref t a.block a.access p.block p.from p.to)
-    (has_flat_map (systems_of t L a) (refs t) b sys (has_ref t b.block b.access q.block q.from q.to) h))))
+    (λ sys h. (
+      L,
+      contains_from_has (systems t L) sys
+          (has_flat_map (λ first. flat_map (systems_of t L first) (refs t)) (refs t) a sys (has_ref t a.block a.access p.block p.from p.to)
+          (has_flat_map (systems_of t L a) (refs t) b sys (has_ref t b.block b.access q.block q.from q.to) h)),
+    ))
 
 -- ---- lists that grow
 

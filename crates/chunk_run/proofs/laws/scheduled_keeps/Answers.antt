@@ -1,0 +1,5 @@
+use Rattle.chunk_run.proofs.Scheduled.{scheduled-keeps}
+use Rattle.chunk_run.proofs.laws.scheduled_keeps.Goals as goal
+
+pub returns : goal.returns
+returns c = scheduled-keeps

@@ -1,0 +1,9 @@
+//! Laws: functions that do nothing, each with a law of the definitions as its contract.
+
+ghost use Rattle.chunk_run.specs.ScheduleLaw.{ScheduledKeeps};
+
+/// The schedule law: where a schedule is legal, the follow run of the scheduled list of a launched chunk is that of its
+/// predicted instances in original order: the same memory and the same steps, or None for both.
+pub fn scheduled_keeps()
+    ensures { ScheduledKeeps }
+{}
