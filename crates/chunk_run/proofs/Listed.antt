@@ -1,5 +1,5 @@
 -- Lists whose elements a function tells apart.
-use Rattle.std.proofs.Common.{◌≡◌, refl, sym, ap, ◌∙◌, subst, ◌⊎◌, inl, inr, List, [], ◌∷◌, map}
+use Rattle.std.proofs.Common.{◌≡◌, refl, sym, ap, subst, inl, inr, List, [], ◌∷◌, map}
 use Rattle.std.specs.List.{AllByRecursion}
 use Rattle.orders.specs.Orders.{Ordered, Has, Before, Differ, SameElements}
 

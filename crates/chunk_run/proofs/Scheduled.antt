@@ -1,5 +1,5 @@
 -- The schedule law, from the conflict law and the permutation law.
-use Rattle.std.proofs.Common.{◌≡◌, sym, ap, ◌∙◌, subst, ℕ, ℤ, pos, ◌≤ℤ◌, List, [], ◌∷◌, map, length, int_cmp, arith}
+use Rattle.std.proofs.Common.{◌≡◌, sym, ap, ◌∙◌, subst, ℤ, pos, ◌≤ℤ◌, List, [], ◌∷◌, length, int_cmp, arith}
 use Rattle.std.specs.Cmp.Lexicographic.{slice_cmp}
 use Rattle.std.proofs.lemmas.Cmp.{lists_total, int_cmp_total}
 use Rattle.std.proofs.lemmas.Int.{ints}
@@ -11,20 +11,15 @@ use Rattle.nest_lang.specs.declared.tree.Head.TheVariants.{For, While}
 use Rattle.orders.specs.Orders.{Ordered, Has, Before, Differ, Precedes as ByKey}
 use Rattle.orders.proofs.Lists.{contains_from_has, ordered_weaker}
 use Rattle.orders.proofs.Sorts.{never_itself}
-use Rattle.domain.specs.declared.chunk.Chunk.{Chunk}
-use Rattle.domain.specs.Tables.{Table}
-use Rattle.domain.specs.Instances.{Instance, IsOriginal, Predicted, Precedes, original_key, Ordered as InOrder}
+use Rattle.domain.specs.Instances.{Instance, Predicted, Precedes, original_key, Ordered as InOrder}
 use Rattle.domain.specs.Footprints as table
-use Rattle.transform.specs.Schedules.{Schedule, IsSchedule}
-use Rattle.dependence.specs.Legality.{Legal}
-use Rattle.dependence.specs.Laws.{IsScheduled, IsShortLaunch, KeepsConflicts, key_at}
+use Rattle.dependence.specs.Laws.{IsShortLaunch, KeepsConflicts, key_at}
 use Rattle.dependence.proofs.ListLaws.{conflict_law}
 use Rattle.follow.specs.Plans.{Item}
 use Rattle.follow.specs.ReorderLaws as list
 use Rattle.follow.proofs.Reordering.{permutation-keeps}
 use Rattle.follow_chunk.specs.Predicted.{instance_of, forecast_of}
 use Rattle.follow_chunk.specs.Items.{item_at, items_at, scalars_after}
-use Rattle.follow_chunk.specs.Tasks.{IsTask}
 use Rattle.follow_chunk.proofs.Conflicts.{conflicts-agree, instances-have_items, instances-return}
 use Rattle.chunk_run.specs.ScheduleLaw.{ScheduledKeeps}
 use Rattle.chunk_run.proofs.Listed.{before-first, before-second, before-map, before-unmap, same-map, differ-map}
