@@ -10,8 +10,6 @@
 
 mod keep;
 mod stripe;
-#[cfg(test)]
-mod tests;
 
 pub use keep::{Backup, Kept, restore, take};
 pub use stripe::Stripe;

@@ -9,7 +9,5 @@
 #![tactic(auto)]
 
 mod main_port;
-#[cfg(test)]
-mod tests;
 
 pub use main_port::MainPort;
