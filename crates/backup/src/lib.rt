@@ -10,6 +10,8 @@
 
 mod keep;
 mod stripe;
+#[cfg(test)]
+mod tests;
 
 pub use keep::{Backup, Kept, restore, take};
 pub use stripe::Stripe;
