@@ -9,5 +9,7 @@
 #![tactic(auto)]
 
 mod main_port;
+#[cfg(test)]
+mod tests;
 
 pub use main_port::MainPort;
