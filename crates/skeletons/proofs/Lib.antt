@@ -5,3 +5,4 @@ pub mod BoxLaws
 pub mod FrameLaws
 pub mod ListLaws
 pub mod SkeletonLaws
+pub mod RunListLaws

@@ -6,3 +6,4 @@ pub mod Blocks
 pub mod Scans
 pub mod Boxes
 pub mod Frames
+pub mod RunLists

@@ -13,6 +13,7 @@ mod cell_box;
 mod frame;
 mod inverse;
 mod places;
+mod run_list;
 mod side;
 mod skeleton;
 mod tile_walk;

@@ -9,6 +9,7 @@ use crate::block::{Scope, block_scan};
 use crate::cell::{Cell, Run};
 use crate::frame::Frame;
 use crate::inverse::transposed;
+use crate::run_list::runs_in;
 use domain::{Chunk, Prediction};
 use std::alloc::{AllocError, Global};
 use std::marker::Model;
@@ -80,7 +81,7 @@ impl<'a, const D: usize> Skeleton<'a, D> {
     pub fn runs(&self, alloc: Global, cell: &Cell<D>) -> Result<Vec<Run<D>>, AllocError>
         ensures { IfOk result (λ runs. HasRuns D self.now cell.now runs.items) }
     {
-        Err(AllocError)
+        runs_in(alloc, self.frame(), cell)
     }
 
     /// Its fields.
