@@ -16,12 +16,12 @@ use Rattle.level_walk.specs.Lattices.{in_box}
 use Rattle.level_walk.specs.Listed.{left_after}
 use Rattle.level_walk.specs.Listings.{IsListing, listed_in}
 use Rattle.level_walk.specs.Orders.{Precedes}
-use Rattle.level_walk.specs.Stretches.{AreJoined, AreRunsOf, IsRunOf, LiesAmong, RunComes, point_at}
+use Rattle.level_walk.specs.Stretches.{AreRunsOf, IsRunOf, LiesAmong, RunComes, point_at}
 use Rattle.level_walk.specs.declared.runs.Run.{Run}
 use Rattle.level_walk.proofs.ListLemmas.{from_listed, long_listed, never_itself}
 use Rattle.level_walk.proofs.ListedLemmas.{left_from, left_to}
 use Rattle.level_walk.proofs.Points.{has_cases, has_left, has_right, ordered_append}
-use Rattle.level_walk.proofs.RunLaws.{runs_meet, runs_same, same_last}
+use Rattle.level_walk.proofs.RunLaws.{IsSplit, runs_meet, runs_same, same_last}
 
 -- ---- order
 
@@ -60,23 +60,6 @@ same_or_not xs ys = at (slice_cmp int_cmp xs ys) refl
     at Equal f = inl (slice_cmp-exact xs ys f)
     at Greater f = inr (λ e. let w : Greater ≡ Equal = sym f ∙ ap (λ (zs : List ℤ). slice_cmp int_cmp zs ys) e ∙ itself in cc)
 
--- ---- the last of a list
-
-pub record IsSplit {X : Type 0} (xs : List X) (k : ℕ) (x : X) : Type 0 where
-  pub front : List X
-  pub is : xs ≡ front ++ x ∷ []
-  pub changed : (y : X) → set xs k y ≡ front ++ y ∷ []
-
-pub split_last : {X : Type 0} (xs : List X) (k : ℕ) (d : X) → length xs ≡ suc k → IsSplit xs k (get_or xs k d)
-split_last [] k d some = absurd (omega arith)
-split_last (x ∷ []) zero d some = record { front = []; is = refl; changed = λ y. refl }
-split_last (x ∷ z ∷ xs) zero d some = absurd (omega arith)
-split_last (x ∷ []) (suc k) d some = absurd (omega arith)
-split_last {X} (x ∷ z ∷ xs) (suc k) d some = from (split_last (z ∷ xs) k d (omega arith))
-  where
-    from : IsSplit (z ∷ xs) k (get_or (z ∷ xs) k d) → IsSplit (x ∷ z ∷ xs) (suc k) (get_or (x ∷ z ∷ xs) (suc k) d)
-    from more = record { front = x ∷ more.front; is = ap (λ l. x ∷ l) more.is; changed = λ y. ap (λ l. x ∷ l) (more.changed y) }
-
 append_nil : {X : Type 0} (l : List X) → l ++ [] ≡ l
 append_nil [] = refl
 append_nil (y ∷ ys) = ap (λ k. y ∷ k) (append_nil ys)
@@ -87,7 +70,7 @@ lengthened r high = record { front = r.front; low = r.low; high = high }
 
 -- ---- one point more, which comes after all before it
 
-module _ (xs : List (List ℤ)) (rs : List Run) (p : Run) (joined : AreJoined xs rs) (one : p.low ≡ p.high) (after : (z : List ℤ) → Has xs z → Precedes z (point_at p p.low)) (long : (z : List ℤ) → Has xs z → length z ≡ length p.front.items + 1) where
+module _ (xs : List (List ℤ)) (rs : List Run) (p : Run) (joined : AreRunsOf xs rs) (one : p.low ≡ p.high) (after : (z : List ℤ) → Has xs z → Precedes z (point_at p p.low)) (long : (z : List ℤ) → Has xs z → length z ≡ length p.front.items + 1) where
   abbrev point : List ℤ
   point = point_at p p.low
 
@@ -111,7 +94,7 @@ module _ (xs : List (List ℤ)) (rs : List Run) (p : Run) (joined : AreJoined xs
   below front value e h = let k = subst (λ (fs : List ℤ). Has xs (fs ++ value ∷ [])) e h in last_less p.front.items value p.low (after (p.front.items ++ value ∷ []) k)
 
   run-of : (r : Run) → Has rs r → IsRunOf xs r
-  run-of r h = (joined.are.has r).0 h
+  run-of r h = (joined.has r).0 h
 
   -- a run that doesn't end right before the point stays one
   kept : (r : Run) → IsRunOf xs r → (r.front.items ≡ p.front.items → r.high +ℤ pos 1 ≡ p.low → ⊥) → IsRunOf more r
@@ -156,18 +139,16 @@ module _ (xs : List (List ℤ)) (rs : List Run) (p : Run) (joined : AreJoined xs
 
   -- ---- the point begins a run
 
-  pub joined_new : (Has xs (point_at p (p.low -ℤ pos 1)) → ⊥) → AreJoined (xs ++ point_at p p.low ∷ []) (rs ++ p ∷ [])
+  pub joined_new : (Has xs (point_at p (p.low -ℤ pos 1)) → ⊥) → AreRunsOf (xs ++ point_at p p.low ∷ []) (rs ++ p ∷ [])
   joined_new gap = record {
-    are = record {
-      ordered = ordered_append RunComes rs (p ∷ []) joined.are.ordered (tt, tt) across;
+      ordered = ordered_append RunComes rs (p ∷ []) joined.ordered (tt, tt) across;
       has = λ r. (
         λ h. ⊎_elim (λ k. kept r (run-of r k) (λ f e. gap (subst (λ (z : List ℤ). Has xs z) (ends r f e) ((run-of r k).all r.high (run-of r k).some (omega (arith, ints)))))) (λ k. only r k) (has_cases rs (p ∷ []) r h),
         λ is. ⊎_elim
             (λ m. has_right rs (p ∷ []) r (inl (runs_meet more r p p.low is single m.0 m.1 m.2 (omega (arith, ints)) (omega (arith, ints, one)))))
-            (λ n. has_left rs (p ∷ []) r ((joined.are.has r).1 (was r is n)))
+            (λ n. has_left rs (p ∷ []) r ((joined.has r).1 (was r is n)))
             (lies r),
       );
-    };
     covers = λ z h. ⊎_elim (λ k. among z (joined.covers z k))
         (λ e. record { run = p; there = has_right rs (p ∷ []) p (inl refl); value = p.low; from = omega (arith, ints); to = omega (arith, ints, one); is = e })
         (parts z h);
@@ -231,7 +212,7 @@ module _ (xs : List (List ℤ)) (rs : List Run) (p : Run) (joined : AreJoined xs
 
       before : Has us q → ⊥
       before k =
-          let comes : RunComes q l = ordered_across RunComes us (l ∷ []) q l (subst (Ordered RunComes) split joined.are.ordered) k (inl refl) in
+          let comes : RunComes q l = ordered_across RunComes us (l ∷ []) q l (subst (Ordered RunComes) split joined.ordered) k (inl refl) in
           let here = isl.all l.low (omega (arith, ints)) isl.some in
           let next = after (point_at l l.low) here in
           let size : length l.front.items ≡ length p.front.items = (let a = long (point_at l l.low) here in let b = length-append l.front.items (l.low ∷ []) in omega (arith, a, b)) in
@@ -244,25 +225,23 @@ module _ (xs : List (List ℤ)) (rs : List Run) (p : Run) (joined : AreJoined xs
 
   -- ---- the point goes on with the last run
 
-  pub joined_on : (us : List Run) (l : Run) → rs ≡ us ++ l ∷ [] → l.front.items ≡ p.front.items → l.high +ℤ pos 1 ≡ p.low → AreJoined (xs ++ point_at p p.low ∷ []) (us ++ lengthened l p.high ∷ [])
+  pub joined_on : (us : List Run) (l : Run) → rs ≡ us ++ l ∷ [] → l.front.items ≡ p.front.items → l.high +ℤ pos 1 ≡ p.low → AreRunsOf (xs ++ point_at p p.low ∷ []) (us ++ lengthened l p.high ∷ [])
   joined_on us l split front next = record {
-    are = record {
       ordered = ordered_append RunComes us ((lengthened l p.high) ∷ []) (subst (Ordered RunComes) (append_nil us) (ordered_without RunComes us [] l ordered)) (tt, tt) across;
       has = λ r. (
         λ h. ⊎_elim (λ k. kept r (run-of r (in-rs r k)) (λ f e. absurd (apart r k f e))) (λ k. only r k) (has_cases us ((lengthened l p.high) ∷ []) r h),
         λ is. ⊎_elim
             (λ k. has_right us ((lengthened l p.high) ∷ []) r (inl (runs_meet more r (lengthened l p.high) p.low is longer (k.0 ∙ sym front) k.1 k.2 (let s = isl.some in omega (arith, ints, s, next)) (omega (arith, ints, one)))))
-            (λ n. has_left us ((lengthened l p.high) ∷ []) r (other r is (subst (λ (list : List Run). Has list r) split ((joined.are.has r).1 (was r is n)))))
+            (λ n. has_left us ((lengthened l p.high) ∷ []) r (other r is (subst (λ (list : List Run). Has list r) split ((joined.has r).1 (was r is n)))))
             (lies r),
       );
-    };
     covers = λ z h. ⊎_elim (λ k. among z (joined.covers z k))
         (λ e. record { run = (lengthened l p.high); there = has_right us ((lengthened l p.high) ∷ []) (lengthened l p.high) (inl refl); value = p.low; from = (let s = isl.some in omega (arith, ints, s, next)); to = omega (arith, ints, one); is = e ∙ ap (λ (fs : List ℤ). fs ++ p.low ∷ []) (sym front) })
         (parts z h);
   }
     where
       ordered : Ordered RunComes (us ++ l ∷ [])
-      ordered = subst (Ordered RunComes) split joined.are.ordered
+      ordered = subst (Ordered RunComes) split joined.ordered
 
       in-rs : (r : Run) → Has us r → Has rs r
       in-rs r h = subst (λ (list : List Run). Has list r) (sym split) (has_left us (l ∷ []) r h)
@@ -326,16 +305,16 @@ module _ (xs : List (List ℤ)) (rs : List Run) (p : Run) (joined : AreJoined xs
               record { run = (lengthened l p.high); there = has_right us ((lengthened l p.high) ∷ []) (lengthened l p.high) (inl refl); value = a.value; from = low; to = omega (arith, ints, high, next, one); is = a.is ∙ ap (λ (r : Run). point_at r a.value) e }
           last (inr k) = absurd k
 
-  pub joined_first : rs ≡ [] → AreJoined (xs ++ point_at p p.low ∷ []) (rs ++ p ∷ [])
+  pub joined_first : rs ≡ [] → AreRunsOf (xs ++ point_at p p.low ∷ []) (rs ++ p ∷ [])
   joined_first e = joined_new (gap_none e)
 
-  pub joined_apart : (us : List Run) (l : Run) → rs ≡ us ++ l ∷ [] → (l.front.items ≡ p.front.items → l.high +ℤ pos 1 ≡ p.low → ⊥) → AreJoined (xs ++ point_at p p.low ∷ []) (rs ++ p ∷ [])
+  pub joined_apart : (us : List Run) (l : Run) → rs ≡ us ++ l ∷ [] → (l.front.items ≡ p.front.items → l.high +ℤ pos 1 ≡ p.low → ⊥) → AreRunsOf (xs ++ point_at p p.low ∷ []) (rs ++ p ∷ [])
   joined_apart us l split apart = joined_new (gap_last us l split apart)
 
 -- ---- the loop over the listed points
 
-pub joined_none : AreJoined [] []
-joined_none = record { are = record { ordered = tt; has = λ r. (λ h. absurd h, λ is. absurd (is.all r.low (omega (arith, ints)) is.some)) }; covers = λ z h. absurd h }
+pub joined_none : AreRunsOf [] []
+joined_none = record { ordered = tt; has = λ r. (λ h. absurd h, λ is. absurd (is.all r.low (omega (arith, ints)) is.some)); covers = λ z h. absurd h }
 
 listed_append : (lows highs : List ℤ) (ps qs : List (ArrayVec ℤ)) → listed_in lows highs (ps ++ qs) ≡ listed_in lows highs ps ++ listed_in lows highs qs
 listed_append lows highs [] qs = refl
@@ -380,7 +359,7 @@ module _ (n : ℕ) (lows highs : List ℤ) (ps : List (ArrayVec ℤ)) (is : IsLi
       (subst (λ (qs : List (List ℤ)). Has qs z) (sym (map_append (λ (q : ArrayVec ℤ). q.items) (take i ps) (drop i ps)))
       (has_left (map (λ (q : ArrayVec ℤ). q.items) (take i ps)) (map (λ (q : ArrayVec ℤ). q.items) (drop i ps)) z (from_listed lows highs (take i ps) z h))))
 
-  pub joined_end : (i : ℕ) (runs : List Run) → length ps ≤ i → AreJoined (listed_in lows highs (take i ps)) runs → AreRunsOf (left_after None (listed_in lows highs ps)) runs
+  pub joined_end : (i : ℕ) (runs : List Run) → length ps ≤ i → AreRunsOf (listed_in lows highs (take i ps)) runs → AreRunsOf (left_after None (listed_in lows highs ps)) runs
   joined_end i runs end joined =
-      let all = subst (λ (qs : List (ArrayVec ℤ)). AreRunsOf (listed_in lows highs qs) runs) (take_all i ps end) joined.are in
+      let all = subst (λ (qs : List (ArrayVec ℤ)). AreRunsOf (listed_in lows highs qs) runs) (take_all i ps end) joined in
       runs_same (listed_in lows highs ps) (left_after None (listed_in lows highs ps)) runs (λ z. (λ h. left_to None (listed_in lows highs ps) z h refl, λ h. (left_from None (listed_in lows highs ps) z h).0)) all

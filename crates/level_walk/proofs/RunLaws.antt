@@ -1,7 +1,8 @@
 -- The runs of a list of points, and those of a space: one for each front.
-use Rattle.std.proofs.Common.{◌≡◌, ℕ, suc, ◌+◌, ◌-◌, ◌<◌, ℤ, pos, negsuc, ◌+ℤ◌, ◌-ℤ◌, ◌≤ℤ◌, ◌<ℤ◌, false, List, [], ◌∷◌, ◌++◌, map, length, length-append, append_assoc, inl, inr, ⊎_elim, refl, sym, ap, ◌∙◌, subst, arith}
+use Rattle.std.proofs.Common.{◌≡◌, ℕ, zero, suc, ◌+◌, ◌-◌, ◌<◌, ℤ, pos, negsuc, ◌+ℤ◌, ◌-ℤ◌, ◌≤ℤ◌, ◌<ℤ◌, false, List, [], ◌∷◌, ◌++◌, map, length, get_or, length-append, append_assoc, inl, inr, ⊎_elim, refl, sym, ap, ◌∙◌, subst, arith}
 use Rattle.std.specs.Prelude.{◌↔◌}
 use Rattle.std.specs.List.{AllByRecursion}
+use Rattle.std.proofs.Math.ListN.{set}
 use Rattle.std.proofs.lemmas.Int.{ints}
 use Rattle.plain_lemmas.proofs.OrderLaws.{cases_int_cmp, slice_cmp-append_less}
 use Rattle.orders.specs.Orders.{Has, Ordered}
@@ -55,6 +56,23 @@ same_last (u ∷ us) (v ∷ vs) a b e =
     let h : u ≡ v = cc in
     (cc, g)
 
+-- ---- the last of a list
+
+pub record IsSplit {X : Type 0} (xs : List X) (k : ℕ) (x : X) : Type 0 where
+  pub front : List X
+  pub is : xs ≡ front ++ x ∷ []
+  pub changed : (y : X) → set xs k y ≡ front ++ y ∷ []
+
+pub split_last : {X : Type 0} (xs : List X) (k : ℕ) (d : X) → length xs ≡ suc k → IsSplit xs k (get_or xs k d)
+split_last [] k d some = absurd (omega arith)
+split_last (x ∷ []) zero d some = record { front = []; is = refl; changed = λ y. refl }
+split_last (x ∷ z ∷ xs) zero d some = absurd (omega arith)
+split_last (x ∷ []) (suc k) d some = absurd (omega arith)
+split_last {X} (x ∷ z ∷ xs) (suc k) d some = from (split_last (z ∷ xs) k d (omega arith))
+  where
+    from : IsSplit (z ∷ xs) k (get_or (z ∷ xs) k d) → IsSplit (x ∷ z ∷ xs) (suc k) (get_or (x ∷ z ∷ xs) (suc k) d)
+    from more = record { front = x ∷ more.front; is = ap (λ l. x ∷ l) more.is; changed = λ y. ap (λ l. x ∷ l) (more.changed y) }
+
 -- ---- runs of one list
 
 same_run : (r q : Run) → r.front.items ≡ q.front.items → r.low ≡ q.low → r.high ≡ q.high → r ≡ q
@@ -86,6 +104,7 @@ pub runs_same : (xs ys : List (List ℤ)) (runs : List Run) → ((z : List ℤ) 
 runs_same xs ys runs same are = record {
   ordered = are.ordered;
   has = λ r. (λ h. moved xs ys same r ((are.has r).0 h), λ h. (are.has r).1 (moved ys xs (λ z. ((same z).1, (same z).0)) r h));
+  covers = λ z h. are.covers z ((same z).1 h);
 }
   where
     moved : (xs ys : List (List ℤ)) → ((z : List ℤ) → Has xs z ↔ Has ys z) → (r : Run) → IsRunOf xs r → IsRunOf ys r
@@ -223,4 +242,11 @@ module _ (s : Space) (some : 0 < s.levels) (runs : List Run) (is : IsScannedTo s
           let here = (values q h r.low).0 (subst (λ (fs : List ℤ). Has list (fs ++ r.low ∷ [])) e (k.all r.low (omega (arith, ints)) k.some)) in
           subst (Has runs) (sym (runs_meet list r q r.low k (is-run q h) e (omega (arith, ints)) k.some here.0 here.1)) h,
     );
+    covers = λ z h.
+        let long = (((lists_points s).same z).0 h).long in
+        let split = split_last z (s.levels - 1) (pos 0) (omega (arith, long, some)) in
+        let here = subst (Has list) split.is h in
+        let (q, there, e) = scanned split.front (get_or z (s.levels - 1) (pos 0)) here in
+        let range = (values q there (get_or z (s.levels - 1) (pos 0))).0 (subst (λ (fs : List ℤ). Has list (fs ++ get_or z (s.levels - 1) (pos 0) ∷ [])) e here) in
+        record { run = q; there = there; value = get_or z (s.levels - 1) (pos 0); from = range.0; to = range.1; is = split.is ∙ ap (λ (fs : List ℤ). fs ++ get_or z (s.levels - 1) (pos 0) ∷ []) e };
   }

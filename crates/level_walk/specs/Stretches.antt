@@ -19,11 +19,6 @@ pub record IsRunOf (list : List (List ℤ)) (r : Run) : Type 0 where
 abbrev pub RunComes : Run → Run → Type 0
 RunComes r q = Precedes (point_at r r.low) (point_at q q.low)
 
--- exactly the runs of the points, by their first points
-pub record AreRunsOf (list : List (List ℤ)) (runs : List Run) : Type 0 where
-  pub ordered : Ordered RunComes runs
-  pub has : (r : Run) → Has runs r ↔ IsRunOf list r
-
 -- the point is one of a run
 pub record LiesAmong (runs : List Run) (point : List ℤ) : Type 0 where
   pub run : Run
@@ -33,9 +28,10 @@ pub record LiesAmong (runs : List Run) (point : List ℤ) : Type 0 where
   pub to : value ≤ℤ run.high
   pub is : point ≡ point_at run value
 
--- the runs of the points, each of which lies in one of them
-pub record AreJoined (list : List (List ℤ)) (runs : List Run) : Type 0 where
-  pub are : AreRunsOf list runs
+-- exactly the runs of the points, by their first points; each point lies in one of them
+pub record AreRunsOf (list : List (List ℤ)) (runs : List Run) : Type 0 where
+  pub ordered : Ordered RunComes runs
+  pub has : (r : Run) → Has runs r ↔ IsRunOf list r
   pub covers : (point : List ℤ) → Has list point → LiesAmong runs point
 
 -- a run of one point that comes after all points of the list, which are as long

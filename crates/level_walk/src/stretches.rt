@@ -3,7 +3,7 @@
 ghost use Rattle.std.specs.Prelude.{◌≡◌, ◌<◌, ◌≤◌, ◌++◌, ◌+ℤ◌, ℤ, pos, List, [], ◌∷◌, IfOk, OnOk, IsTrue, false, length, None};
 ghost use Rattle.level_walk.specs.Listed.{left_after};
 ghost use Rattle.level_walk.specs.Listings.{IsListing, listed_in};
-ghost use Rattle.level_walk.specs.Stretches.{AreJoined, AreRunsOf, IsBehind, point_at};
+ghost use Rattle.level_walk.specs.Stretches.{AreRunsOf, IsBehind, point_at};
 
 use crate::cells::is_in_box;
 use crate::cursor::{Point, copied};
@@ -51,7 +51,7 @@ fn goes_on(run: &Run, next: &Run) -> bool
 
 /// Joins a run of one point, which comes after the others, to them.
 fn join(runs: &mut Vec<Run>, next: Run) -> Result<(), AllocError>
-    ensures { (list : List (List ℤ)) → AreJoined list runs.old.items → IsBehind list next → OnOk result (AreJoined (list ++ point_at next next.low ∷ []) runs.new.items) }
+    ensures { (list : List (List ℤ)) → AreRunsOf list runs.old.items → IsBehind list next → OnOk result (AreRunsOf (list ++ point_at next next.low ∷ []) runs.new.items) }
 {
     let count = runs.len();
     if 0 < count && goes_on(&runs[count - 1], &next) {

@@ -6,3 +6,4 @@ pub mod FrameLaws
 pub mod ListLaws
 pub mod SkeletonLaws
 pub mod RunListLaws
+pub mod CellListLaws

@@ -25,7 +25,7 @@ use Rattle.level_walk.specs.Stretches.{RunComes as StretchComes}
 use Rattle.level_walk.specs.Walks.{IsBlock, points_in}
 use Rattle.level_walk.specs.declared.runs.Run.{Run as Stretch}
 use Rattle.level_walk.specs.declared.scans.BlockScan.{BlockScan}
-use Rattle.level_walk.proofs.JoinLaws.{split_last}
+use Rattle.level_walk.proofs.RunLaws.{split_last}
 use Rattle.skeletons.specs.Boxes.{IsBoxOf}
 use Rattle.skeletons.specs.Cells.{Cell, Extent, LiesIn}
 use Rattle.skeletons.specs.Frames.{AllFind, Finds, IsFrame, IsPlaceOf, instance_at}
@@ -215,7 +215,7 @@ module _ (n : ℕ) (e : Extent) (inverse : List (List ℤ)) (blocks : List Block
           let long = place-long n e inverse blocks is lows highs box.is rank (point_at s s.low) first.0 in
           let size = length-append s.front.items (s.low ∷ []) in
           let few = is.few in
-          record { some = run.some; first = first.0; all = λ v l h. ((has-place (point_at s v)).0 (run.all v l h)).0; short = omega (arith, long, size, few); small = omega (arith, ints, al, ah, bl, bh) }
+          record { some = run.some; first = first.0; all = λ v l h. ((has-place (point_at s v)).0 (run.all v l h)).0; short = omega (arith, long, size, few); small = omega (arith, ints, al, ah, bl, bh); near_low = a; near_high = b }
 
       -- the instances at the places of a stretch are a run
       of-stretch : (s : Stretch) → IsRunOf list s → IsRun e direction cell (run_of e inverse direction rank s)

@@ -7,3 +7,4 @@ pub mod Scans
 pub mod Boxes
 pub mod Frames
 pub mod RunLists
+pub mod CellLists

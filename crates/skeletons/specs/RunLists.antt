@@ -7,6 +7,7 @@ use Rattle.domain.specs.Instances.{Instance}
 use Rattle.skeletons.specs.Cells.{Extent}
 use Rattle.skeletons.specs.Frames.{IsPlaceOf, instance_at}
 use Rattle.skeletons.specs.Runs.{Run, step_of}
+use Rattle.skeletons.specs.Scans.{IsNear}
 
 -- how many places it has
 abbrev pub count_of : Stretch → ℕ
@@ -27,3 +28,5 @@ pub record IsStretch (e : Extent) (rank : ℕ) (s : Stretch) : Type 0 where
   pub all : (value : ℤ) → s.low ≤ℤ value → value ≤ℤ s.high → IsPlaceOf e rank (point_at s value)
   pub short : length s.front.items < 16
   pub small : unsigned_abs (s.high -ℤ s.low) ≤ 2 ^ 60
+  pub near_low : IsNear s.low
+  pub near_high : IsNear s.high

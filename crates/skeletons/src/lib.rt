@@ -10,6 +10,7 @@
 mod block;
 mod cell;
 mod cell_box;
+mod cell_list;
 mod frame;
 mod inverse;
 mod places;

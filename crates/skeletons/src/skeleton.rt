@@ -7,6 +7,7 @@ ghost use Rattle.skeletons.specs.Runs.{HasRuns};
 
 use crate::block::{Scope, block_scan};
 use crate::cell::{Cell, Run};
+use crate::cell_list::cells_of;
 use crate::frame::Frame;
 use crate::inverse::transposed;
 use crate::run_list::runs_in;
@@ -73,7 +74,7 @@ impl<'a, const D: usize> Skeleton<'a, D> {
     pub fn cells(&self, alloc: Global) -> Result<Vec<Cell<D>>, AllocError>
         ensures { IfOk result (λ cells. AreCellsOf self.now cells.items) }
     {
-        Err(AllocError)
+        cells_of(alloc, self.frame())
     }
 
     /// The runs of a cell, by the rank of the block and then by the place of the first instance. A cell without

@@ -2,7 +2,7 @@ use Rattle.std.proofs.Common.{◌≡◌, ◌∙◌, true, false, ℤ, List, [], 
 use Rattle.level_walk.specs.Lattices.{in_box}
 use Rattle.level_walk.specs.Listings.{listed_in}
 use Rattle.level_walk.specs.Orders.{Precedes}
-use Rattle.level_walk.specs.Stretches.{AreJoined, IsBehind, point_at}
+use Rattle.level_walk.specs.Stretches.{AreRunsOf, IsBehind, point_at}
 use Rattle.level_walk.proofs.JoinLaws.{before_point, joined_end, long_before, long_point, one_more}
 use Rattle.level_walk.proofs.stretches.listed_runs.Goals as goal
 use Rattle.level_walk.proofs.stretches.listed_runs.Goals.{then-is_in_box+in_ok-join, else-is_in_box}
@@ -28,11 +28,11 @@ loop-point-preserved c =
           } in
           let more = w.in_ok-join.ensures (listed_in lows highs (take i ps)) c.loop-point.invariant behind in
           let list = one_more n lows highs ps c.requires.listing i p true c.loop-point-test.true c.point-item.is box in
-          subst (λ l. AreJoined l c.if-is_in_box.runs.items) (sym list) (subst (λ l. AreJoined l c.if-is_in_box.runs.items) (ap (λ (z : List ℤ). listed_in lows highs (take i ps) ++ z ∷ []) (sym is)) (subst (λ rs. AreJoined (listed_in lows highs (take i ps) ++ point_at next next.low ∷ []) rs.items) (sym w.runs-is) more))
+          subst (λ l. AreRunsOf l c.if-is_in_box.runs.items) (sym list) (subst (λ l. AreRunsOf l c.if-is_in_box.runs.items) (ap (λ (z : List ℤ). listed_in lows highs (take i ps) ++ z ∷ []) (sym is)) (subst (λ rs. AreRunsOf (listed_in lows highs (take i ps) ++ point_at next next.low ∷ []) rs.items) (sym w.runs-is) more))
       | else-is_in_box w ↦
           let box : in_box lows highs p.items ≡ false = ap (in_box lows highs) (sym c.as_slice.ensures.value) ∙ sym c.is_in_box.ensures ∙ w.if-is_in_box.false in
           let list = one_more n lows highs ps c.requires.listing i p false c.loop-point-test.true c.point-item.is box in
-          subst (λ l. AreJoined l c.if-is_in_box.runs.items) (sym list) (subst (λ rs. AreJoined (listed_in lows highs (take i ps)) rs.items) (sym w.runs-is) c.loop-point.invariant)
+          subst (λ l. AreRunsOf l c.if-is_in_box.runs.items) (sym list) (subst (λ rs. AreRunsOf (listed_in lows highs (take i ps)) rs.items) (sym w.runs-is) c.loop-point.invariant)
     ]
 
 pub returns : goal.returns
