@@ -332,9 +332,9 @@ module _ (n : ℕ) (e : Extent) (inverse : List (List ℤ)) (blocks : List Block
     λ h. subst (λ (cs : List Cell). Has cs cell) (sym more) (⊎_elim
         (λ k. has_left old (cell_at e inverse (point_at s v) ∷ []) cell ((gains cell).1 (inl k)))
         (λ k. cases_int_cmp (int_div_euclid k.of.value (pos (last_size n e.schedule))) to
-            (λ l. has_left old (cell_at e inverse (point_at s v) ∷ []) cell ((gains cell).1 (inr (record { of = k.of; before = l }))))
-            (λ f. has_right old (cell_at e inverse (point_at s v) ∷ []) cell (inl (k.of.is ∙ alike k.of f)))
-            (λ l. absurd (let b = k.before in omega (arith, ints, l, b))))
+        (λ l. has_left old (cell_at e inverse (point_at s v) ∷ []) cell ((gains cell).1 (inr (record { of = k.of; before = l }))))
+        (λ f. has_right old (cell_at e inverse (point_at s v) ∷ []) cell (inl (k.of.is ∙ alike k.of f)))
+        (λ l. absurd (let b = k.before in omega (arith, ints, l, b))))
         h),
   )
     where
@@ -368,9 +368,9 @@ module _ (n : ℕ) (e : Extent) (inverse : List (List ℤ)) (blocks : List Block
     λ h. (more cell).1 (⊎_elim
         (λ k. inl ((gains cell).1 (inl k)))
         (λ k. ⊎_elim
-            (λ l. inl ((gains cell).1 (inr (record { stretch = k.stretch; there = l; is = k.is }))))
-            (λ l. inr (only k.stretch k.is l))
-            (has_cases done (s ∷ []) k.stretch k.there))
+        (λ l. inl ((gains cell).1 (inr (record { stretch = k.stretch; there = l; is = k.is }))))
+        (λ l. inr (only k.stretch k.is l))
+        (has_cases done (s ∷ []) k.stretch k.there))
         h),
   )
     where
@@ -400,13 +400,16 @@ module _ (n : ℕ) (e : Extent) (inverse : List (List ℤ)) (blocks : List Block
     has-place z = points-of n e inverse blocks is lows highs (far-box lows highs l h) rank block finds is-block z
 
     place-in : (z : List ℤ) → IsPlaceOf e rank z → Has list z
-    place-in z p = (has-place z).1 (p, in_box-from lows highs z (a ∙ sym c) (b ∙ sym c) (λ k i.
-        let inside : k < n = omega (arith, i, c) in
-        let near = subst (λ (w : List ℤ). IsNear (counter w k)) p.there (near-places n e inverse blocks is p.at p.predicted k inside) in
-        let low = near.low in let high = near.high in
-        let f = ap (λ (xs : List ℤ). counter xs k) l ∙ get_or-replicate n k (neg_ℤ (pos (2 ^ 59))) (pos 0) inside in
-        let g = ap (λ (xs : List ℤ). counter xs k) h ∙ get_or-replicate n k (pos (2 ^ 59)) (pos 0) inside in
-        (omega (arith, ints, low, f), omega (arith, ints, high, g))))
+    place-in z p = (has-place z).1 (
+      p,
+      in_box-from lows highs z (a ∙ sym c) (b ∙ sym c) (λ k i.
+          let inside : k < n = omega (arith, i, c) in
+          let near = subst (λ (w : List ℤ). IsNear (counter w k)) p.there (near-places n e inverse blocks is p.at p.predicted k inside) in
+          let low = near.low in let high = near.high in
+          let f = ap (λ (xs : List ℤ). counter xs k) l ∙ get_or-replicate n k (neg_ℤ (pos (2 ^ 59))) (pos 0) inside in
+          let g = ap (λ (xs : List ℤ). counter xs k) h ∙ get_or-replicate n k (pos (2 ^ 59)) (pos 0) inside in
+          (omega (arith, ints, low, f), omega (arith, ints, high, g))),
+    )
       where
         a : length lows ≡ n
         a = ap length l ∙ length-replicate n (neg_ℤ (pos (2 ^ 59)))

@@ -45,7 +45,7 @@ push_runs-requires g c =
     let finds : Finds g.row.D e rank b = finds-at g.row.D e rank scans b is.finds inside at in
     let stretches = c.in_ok-stretches.stretches.items in
     let all : AllByRecursion (IsStretch e rank) c.as_slice.result.now = subst (AllByRecursion (IsStretch e rank)) (sym c.as_slice.ensures.value)
-        (all_from (IsStretch e rank) stretches (λ s h. is-stretch g.row.D e f.inverse scans is direction last c.args.cell.now c.cell_box-found.result.lows c.cell_box-found.result.highs c.cell_box-found.ensures rank b finds (item-at (IsBlock g.row.D) scans rank b is.scans.all inside at) s ((c.in_ok-stretches.ensures.has s).0 h))) in
+    (all_from (IsStretch e rank) stretches (λ s h. is-stretch g.row.D e f.inverse scans is direction last c.args.cell.now c.cell_box-found.result.lows c.cell_box-found.result.highs c.cell_box-found.ensures rank b finds (item-at (IsBlock g.row.D) scans rank b is.scans.all inside at) s ((c.in_ok-stretches.ensures.has s).0 h))) in
     search (rules, all)
 
 pub returns : goal.returns
