@@ -1,10 +1,9 @@
 -- Runs that are joined point by point, in the order of the points.
-use Rattle.std.proofs.Common.{◌≡◌, ℕ, zero, suc, ◌+◌, ◌<◌, ◌≤◌, ℤ, pos, ◌+ℤ◌, ◌-ℤ◌, ◌≤ℤ◌, ◌<ℤ◌, Bool, true, false, List, [], ◌∷◌, ◌++◌, map, length, take, drop, get_or, length-append, inl, inr, ⊎_elim, refl, sym, ap, ap₂, ◌∙◌, subst, Ordering, Less, Equal, Greater, int_cmp, arith}
+use Rattle.std.proofs.Common.{◌≡◌, ℕ, ◌+◌, ◌<◌, ◌≤◌, ℤ, pos, ◌+ℤ◌, ◌-ℤ◌, ◌≤ℤ◌, ◌<ℤ◌, Bool, true, false, List, [], ◌∷◌, ◌++◌, map, length, take, drop, get_or, length-append, inl, inr, ⊎_elim, refl, sym, ap, ap₂, ◌∙◌, subst, Ordering, Less, Equal, Greater, int_cmp, arith}
 use Rattle.std.specs.Prelude.{◌⊎◌, if◌then◌else◌, None}
 use Rattle.std.specs.Cmp.{int_ranks}
 use Rattle.std.specs.Cmp.Lexicographic.{slice_cmp}
 use Rattle.std.specs.Ordering.{MatchOrdering, ordering_then}
-use Rattle.std.proofs.Math.ListN.{set}
 use Rattle.std.proofs.lemmas.Int.{ints}
 use Rattle.std.proofs.lemmas.List.{drop_more, take_all, take_more, take-append-drop}
 use Rattle.std.proofs.lemmas.Cmp.{int_cmp_total, lists_total, tied_itself}
@@ -21,7 +20,7 @@ use Rattle.level_walk.specs.declared.runs.Run.{Run}
 use Rattle.level_walk.proofs.ListLemmas.{from_listed, long_listed, never_itself}
 use Rattle.level_walk.proofs.ListedLemmas.{left_from, left_to}
 use Rattle.level_walk.proofs.Points.{has_cases, has_left, has_right, ordered_append}
-use Rattle.level_walk.proofs.RunLaws.{IsSplit, runs_meet, runs_same, same_last}
+use Rattle.level_walk.proofs.RunLaws.{runs_meet, runs_same, same_last}
 
 -- ---- order
 
@@ -141,14 +140,14 @@ module _ (xs : List (List ℤ)) (rs : List Run) (p : Run) (joined : AreRunsOf xs
 
   pub joined_new : (Has xs (point_at p (p.low -ℤ pos 1)) → ⊥) → AreRunsOf (xs ++ point_at p p.low ∷ []) (rs ++ p ∷ [])
   joined_new gap = record {
-      ordered = ordered_append RunComes rs (p ∷ []) joined.ordered (tt, tt) across;
-      has = λ r. (
-        λ h. ⊎_elim (λ k. kept r (run-of r k) (λ f e. gap (subst (λ (z : List ℤ). Has xs z) (ends r f e) ((run-of r k).all r.high (run-of r k).some (omega (arith, ints)))))) (λ k. only r k) (has_cases rs (p ∷ []) r h),
-        λ is. ⊎_elim
-            (λ m. has_right rs (p ∷ []) r (inl (runs_meet more r p p.low is single m.0 m.1 m.2 (omega (arith, ints)) (omega (arith, ints, one)))))
-            (λ n. has_left rs (p ∷ []) r ((joined.has r).1 (was r is n)))
-            (lies r),
-      );
+    ordered = ordered_append RunComes rs (p ∷ []) joined.ordered (tt, tt) across;
+    has = λ r. (
+      λ h. ⊎_elim (λ k. kept r (run-of r k) (λ f e. gap (subst (λ (z : List ℤ). Has xs z) (ends r f e) ((run-of r k).all r.high (run-of r k).some (omega (arith, ints)))))) (λ k. only r k) (has_cases rs (p ∷ []) r h),
+      λ is. ⊎_elim
+          (λ m. has_right rs (p ∷ []) r (inl (runs_meet more r p p.low is single m.0 m.1 m.2 (omega (arith, ints)) (omega (arith, ints, one)))))
+          (λ n. has_left rs (p ∷ []) r ((joined.has r).1 (was r is n)))
+          (lies r),
+    );
     covers = λ z h. ⊎_elim (λ k. among z (joined.covers z k))
         (λ e. record { run = p; there = has_right rs (p ∷ []) p (inl refl); value = p.low; from = omega (arith, ints); to = omega (arith, ints, one); is = e })
         (parts z h);
@@ -227,14 +226,14 @@ module _ (xs : List (List ℤ)) (rs : List Run) (p : Run) (joined : AreRunsOf xs
 
   pub joined_on : (us : List Run) (l : Run) → rs ≡ us ++ l ∷ [] → l.front.items ≡ p.front.items → l.high +ℤ pos 1 ≡ p.low → AreRunsOf (xs ++ point_at p p.low ∷ []) (us ++ lengthened l p.high ∷ [])
   joined_on us l split front next = record {
-      ordered = ordered_append RunComes us ((lengthened l p.high) ∷ []) (subst (Ordered RunComes) (append_nil us) (ordered_without RunComes us [] l ordered)) (tt, tt) across;
-      has = λ r. (
-        λ h. ⊎_elim (λ k. kept r (run-of r (in-rs r k)) (λ f e. absurd (apart r k f e))) (λ k. only r k) (has_cases us ((lengthened l p.high) ∷ []) r h),
-        λ is. ⊎_elim
-            (λ k. has_right us ((lengthened l p.high) ∷ []) r (inl (runs_meet more r (lengthened l p.high) p.low is longer (k.0 ∙ sym front) k.1 k.2 (let s = isl.some in omega (arith, ints, s, next)) (omega (arith, ints, one)))))
-            (λ n. has_left us ((lengthened l p.high) ∷ []) r (other r is (subst (λ (list : List Run). Has list r) split ((joined.has r).1 (was r is n)))))
-            (lies r),
-      );
+    ordered = ordered_append RunComes us ((lengthened l p.high) ∷ []) (subst (Ordered RunComes) (append_nil us) (ordered_without RunComes us [] l ordered)) (tt, tt) across;
+    has = λ r. (
+      λ h. ⊎_elim (λ k. kept r (run-of r (in-rs r k)) (λ f e. absurd (apart r k f e))) (λ k. only r k) (has_cases us ((lengthened l p.high) ∷ []) r h),
+      λ is. ⊎_elim
+          (λ k. has_right us ((lengthened l p.high) ∷ []) r (inl (runs_meet more r (lengthened l p.high) p.low is longer (k.0 ∙ sym front) k.1 k.2 (let s = isl.some in omega (arith, ints, s, next)) (omega (arith, ints, one)))))
+          (λ n. has_left us ((lengthened l p.high) ∷ []) r (other r is (subst (λ (list : List Run). Has list r) split ((joined.has r).1 (was r is n)))))
+          (lies r),
+    );
     covers = λ z h. ⊎_elim (λ k. among z (joined.covers z k))
         (λ e. record { run = (lengthened l p.high); there = has_right us ((lengthened l p.high) ∷ []) (lengthened l p.high) (inl refl); value = p.low; from = (let s = isl.some in omega (arith, ints, s, next)); to = omega (arith, ints, one); is = e ∙ ap (λ (fs : List ℤ). fs ++ p.low ∷ []) (sym front) })
         (parts z h);

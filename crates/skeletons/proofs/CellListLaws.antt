@@ -1,5 +1,5 @@
 -- The cells of a chunk are those of the places of its blocks, one for each tile of the last row that a stretch meets.
-use Rattle.std.proofs.Common.{◌≡◌, refl, sym, ap, ap₂, ◌∙◌, subst, ℕ, zero, suc, ◌<◌, ◌≤◌, ◌+◌, ◌-◌, ◌*◌, ◌^◌, ℤ, pos, neg_ℤ, ◌+ℤ◌, ◌-ℤ◌, ◌*ℤ◌, ◌≤ℤ◌, ◌<ℤ◌, unsigned_abs, Bool, true, false, nat_lt, List, [], ◌∷◌, ◌++◌, map, length, length-append, length-drop, get_or, replicate, take, drop, ◌⊎◌, inl, inr, ⊎_elim, arith, FitsSigned, Ordering, Less, Equal, Greater, int_cmp}
+use Rattle.std.proofs.Common.{◌≡◌, refl, sym, ap, ap₂, ◌∙◌, subst, ℕ, zero, suc, ◌<◌, ◌≤◌, ◌+◌, ◌-◌, ◌*◌, ◌^◌, ℤ, pos, neg_ℤ, ◌+ℤ◌, ◌*ℤ◌, ◌≤ℤ◌, ◌<ℤ◌, unsigned_abs, Bool, true, false, nat_lt, List, [], ◌∷◌, ◌++◌, map, length, length-append, length-drop, get_or, replicate, drop, inl, inr, ⊎_elim, arith, FitsSigned, Ordering, Less, Equal, Greater, int_cmp}
 use Rattle.std.specs.Prelude.{◌↔◌, if◌then◌else◌}
 use Rattle.std.specs.Int.{int_div_euclid, w64}
 use Rattle.std.specs.List.{AllByRecursion}
@@ -19,7 +19,6 @@ use Rattle.affine.proofs.FloorLemmas.{abs-floor}
 use Rattle.affine.proofs.PlaceLaws.{quotient_is_interval}
 use Rattle.orders.specs.Orders.{Has, Ordered}
 use Rattle.orders.proofs.Lists.{has_cases, has_left, has_right}
-use Rattle.affine.specs.Matrices.{product}
 use Rattle.domain.specs.Instances.{Instance, Predicted, counter, padded}
 use Rattle.transform.specs.Schedules.{IsSchedule, Line, Schedule, along, band, leading, line_at, place, tile_along, wave, wave_of, wide_lead, wide_tile}
 use Rattle.transform.proofs.LineLaws.{get_or-place}
@@ -30,13 +29,13 @@ use Rattle.level_walk.specs.Walks.{IsBlock, IsBox, points_in}
 use Rattle.level_walk.specs.declared.runs.Run.{Run as Stretch}
 use Rattle.level_walk.specs.declared.scans.BlockScan.{BlockScan}
 use Rattle.skeletons.specs.CellLists.{Gains, IsCellAmong, IsCellOf, IsMetBelow, IsNumberIn, cell_at, last_size}
-use Rattle.skeletons.specs.Cells.{Cell, Extent, LiesIn, cell_of}
+use Rattle.skeletons.specs.Cells.{Cell, Extent, cell_of}
 use Rattle.skeletons.specs.Frames.{Finds, IsFrame, IsPlaceOf}
 use Rattle.skeletons.specs.RunLists.{IsStretch}
 use Rattle.skeletons.specs.Scans.{IsNear}
-use Rattle.skeletons.proofs.BlockLaws.{length-padded, same_numbers}
+use Rattle.skeletons.proofs.BlockLaws.{same_numbers}
 use Rattle.skeletons.proofs.BoxLaws.{in_box-from, lead-at, length-place, tile-at}
-use Rattle.skeletons.proofs.ListLaws.{near-places, place-long, point-is, points-of}
+use Rattle.skeletons.proofs.ListLaws.{near-places, point-is, points-of}
 use Rattle.skeletons.proofs.RunListLaws.{near-last}
 
 -- ---- tiles of a row
@@ -332,9 +331,9 @@ module _ (n : ℕ) (e : Extent) (inverse : List (List ℤ)) (blocks : List Block
     λ h. subst (λ (cs : List Cell). Has cs cell) (sym more) (⊎_elim
         (λ k. has_left old (cell_at e inverse (point_at s v) ∷ []) cell ((gains cell).1 (inl k)))
         (λ k. cases_int_cmp (int_div_euclid k.of.value (pos (last_size n e.schedule))) to
-            (λ l. has_left old (cell_at e inverse (point_at s v) ∷ []) cell ((gains cell).1 (inr (record { of = k.of; before = l }))))
-            (λ f. has_right old (cell_at e inverse (point_at s v) ∷ []) cell (inl (k.of.is ∙ alike k.of f)))
-            (λ l. absurd (let b = k.before in omega (arith, ints, l, b))))
+        (λ l. has_left old (cell_at e inverse (point_at s v) ∷ []) cell ((gains cell).1 (inr (record { of = k.of; before = l }))))
+        (λ f. has_right old (cell_at e inverse (point_at s v) ∷ []) cell (inl (k.of.is ∙ alike k.of f)))
+        (λ l. absurd (let b = k.before in omega (arith, ints, l, b))))
         h),
   )
     where
@@ -368,9 +367,9 @@ module _ (n : ℕ) (e : Extent) (inverse : List (List ℤ)) (blocks : List Block
     λ h. (more cell).1 (⊎_elim
         (λ k. inl ((gains cell).1 (inl k)))
         (λ k. ⊎_elim
-            (λ l. inl ((gains cell).1 (inr (record { stretch = k.stretch; there = l; is = k.is }))))
-            (λ l. inr (only k.stretch k.is l))
-            (has_cases done (s ∷ []) k.stretch k.there))
+        (λ l. inl ((gains cell).1 (inr (record { stretch = k.stretch; there = l; is = k.is }))))
+        (λ l. inr (only k.stretch k.is l))
+        (has_cases done (s ∷ []) k.stretch k.there))
         h),
   )
     where
@@ -400,13 +399,16 @@ module _ (n : ℕ) (e : Extent) (inverse : List (List ℤ)) (blocks : List Block
     has-place z = points-of n e inverse blocks is lows highs (far-box lows highs l h) rank block finds is-block z
 
     place-in : (z : List ℤ) → IsPlaceOf e rank z → Has list z
-    place-in z p = (has-place z).1 (p, in_box-from lows highs z (a ∙ sym c) (b ∙ sym c) (λ k i.
-        let inside : k < n = omega (arith, i, c) in
-        let near = subst (λ (w : List ℤ). IsNear (counter w k)) p.there (near-places n e inverse blocks is p.at p.predicted k inside) in
-        let low = near.low in let high = near.high in
-        let f = ap (λ (xs : List ℤ). counter xs k) l ∙ get_or-replicate n k (neg_ℤ (pos (2 ^ 59))) (pos 0) inside in
-        let g = ap (λ (xs : List ℤ). counter xs k) h ∙ get_or-replicate n k (pos (2 ^ 59)) (pos 0) inside in
-        (omega (arith, ints, low, f), omega (arith, ints, high, g))))
+    place-in z p = (has-place z).1 (
+      p,
+      in_box-from lows highs z (a ∙ sym c) (b ∙ sym c) (λ k i.
+          let inside : k < n = omega (arith, i, c) in
+          let near = subst (λ (w : List ℤ). IsNear (counter w k)) p.there (near-places n e inverse blocks is p.at p.predicted k inside) in
+          let low = near.low in let high = near.high in
+          let f = ap (λ (xs : List ℤ). counter xs k) l ∙ get_or-replicate n k (neg_ℤ (pos (2 ^ 59))) (pos 0) inside in
+          let g = ap (λ (xs : List ℤ). counter xs k) h ∙ get_or-replicate n k (pos (2 ^ 59)) (pos 0) inside in
+          (omega (arith, ints, low, f), omega (arith, ints, high, g))),
+    )
       where
         a : length lows ≡ n
         a = ap length l ∙ length-replicate n (neg_ℤ (pos (2 ^ 59)))

@@ -21,6 +21,7 @@ use transform::Schedule;
 
 /// The least and the greatest number of a place that is scanned.
 const LEAST: i64 = -(1 << 59);
+
 const GREATEST: i64 = 1 << 59;
 
 /// The size of the tiles of the last row; 1 where it leads.

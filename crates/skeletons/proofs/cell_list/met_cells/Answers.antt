@@ -1,14 +1,13 @@
-use Rattle.std.proofs.Common.{rules, ◌≡◌, ◌∙◌, ◌<◌, ◌≤◌, ◌+◌, ◌^◌, ℕ, ℤ, pos, neg_ℤ, List, length, replicate, get_or, refl, sym, ap, subst, arith}
+use Rattle.std.proofs.Common.{rules, ◌≡◌, ◌∙◌, ◌<◌, ◌^◌, ℕ, pos, neg_ℤ, List, length, replicate, get_or, refl, sym, ap, subst, arith}
 use Rattle.std.specs.Prelude.{◌↔◌}
 use Rattle.std.specs.List.{AllByRecursion}
 use Rattle.orders.specs.Orders.{Has}
 use Rattle.orders.proofs.Lists.{all_from}
-use Rattle.level_walk.specs.Walks.{IsBlock, IsBox}
+use Rattle.level_walk.specs.Walks.{IsBlock}
 use Rattle.level_walk.specs.declared.runs.Run.{Run as Stretch}
 use Rattle.level_walk.specs.declared.scans.BlockScan.{BlockScan}
 use Rattle.skeletons.specs.Cells.{Cell, Extent}
 use Rattle.skeletons.specs.CellLists.{Gains, IsCellAmong, IsMetBelow}
-use Rattle.skeletons.specs.Frames.{Finds}
 use Rattle.skeletons.specs.RunLists.{IsStretch}
 use Rattle.skeletons.proofs.CellListLaws.{block-cells, far-box, far-stretch, none-met}
 use Rattle.skeletons.proofs.RunListLaws.{finds-at, item-at}
@@ -40,7 +39,7 @@ push_block-requires g c =
     let block : IsBlock g.row.D b = item-at (IsBlock g.row.D) scans rank b is.scans.all inside at in
     let stretches = c.in_ok-stretches.stretches.items in
     let all : AllByRecursion (IsStretch e rank) c.as_slice.result.now = subst (AllByRecursion (IsStretch e rank)) (sym c.as_slice.ensures.value)
-        (all_from (IsStretch e rank) stretches (λ s h. far-stretch g.row.D e f.inverse scans is (replicate g.row.D (neg_ℤ (pos (2 ^ 59)))) (replicate g.row.D (pos (2 ^ 59))) refl refl rank b (finds-at g.row.D e rank scans b is.finds inside at) block s ((c.in_ok-stretches.ensures.has s).0 h))) in
+    (all_from (IsStretch e rank) stretches (λ s h. far-stretch g.row.D e f.inverse scans is (replicate g.row.D (neg_ℤ (pos (2 ^ 59)))) (replicate g.row.D (pos (2 ^ 59))) refl refl rank b (finds-at g.row.D e rank scans b is.finds inside at) block s ((c.in_ok-stretches.ensures.has s).0 h))) in
     search (rules, all)
 
 pub loop-rank-init : goal.loop-rank-init
