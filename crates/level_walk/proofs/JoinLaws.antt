@@ -1,10 +1,9 @@
 -- Runs that are joined point by point, in the order of the points.
-use Rattle.std.proofs.Common.{◌≡◌, ℕ, zero, suc, ◌+◌, ◌<◌, ◌≤◌, ℤ, pos, ◌+ℤ◌, ◌-ℤ◌, ◌≤ℤ◌, ◌<ℤ◌, Bool, true, false, List, [], ◌∷◌, ◌++◌, map, length, take, drop, get_or, length-append, inl, inr, ⊎_elim, refl, sym, ap, ap₂, ◌∙◌, subst, Ordering, Less, Equal, Greater, int_cmp, arith}
+use Rattle.std.proofs.Common.{◌≡◌, ℕ, ◌+◌, ◌<◌, ◌≤◌, ℤ, pos, ◌+ℤ◌, ◌-ℤ◌, ◌≤ℤ◌, ◌<ℤ◌, Bool, true, false, List, [], ◌∷◌, ◌++◌, map, length, take, drop, get_or, length-append, inl, inr, ⊎_elim, refl, sym, ap, ap₂, ◌∙◌, subst, Ordering, Less, Equal, Greater, int_cmp, arith}
 use Rattle.std.specs.Prelude.{◌⊎◌, if◌then◌else◌, None}
 use Rattle.std.specs.Cmp.{int_ranks}
 use Rattle.std.specs.Cmp.Lexicographic.{slice_cmp}
 use Rattle.std.specs.Ordering.{MatchOrdering, ordering_then}
-use Rattle.std.proofs.Math.ListN.{set}
 use Rattle.std.proofs.lemmas.Int.{ints}
 use Rattle.std.proofs.lemmas.List.{drop_more, take_all, take_more, take-append-drop}
 use Rattle.std.proofs.lemmas.Cmp.{int_cmp_total, lists_total, tied_itself}
@@ -21,7 +20,7 @@ use Rattle.level_walk.specs.declared.runs.Run.{Run}
 use Rattle.level_walk.proofs.ListLemmas.{from_listed, long_listed, never_itself}
 use Rattle.level_walk.proofs.ListedLemmas.{left_from, left_to}
 use Rattle.level_walk.proofs.Points.{has_cases, has_left, has_right, ordered_append}
-use Rattle.level_walk.proofs.RunLaws.{IsSplit, runs_meet, runs_same, same_last}
+use Rattle.level_walk.proofs.RunLaws.{runs_meet, runs_same, same_last}
 
 -- ---- order
 

@@ -1,5 +1,5 @@
 -- The cells of a chunk are those of the places of its blocks, one for each tile of the last row that a stretch meets.
-use Rattle.std.proofs.Common.{◌≡◌, refl, sym, ap, ap₂, ◌∙◌, subst, ℕ, zero, suc, ◌<◌, ◌≤◌, ◌+◌, ◌-◌, ◌*◌, ◌^◌, ℤ, pos, neg_ℤ, ◌+ℤ◌, ◌-ℤ◌, ◌*ℤ◌, ◌≤ℤ◌, ◌<ℤ◌, unsigned_abs, Bool, true, false, nat_lt, List, [], ◌∷◌, ◌++◌, map, length, length-append, length-drop, get_or, replicate, take, drop, ◌⊎◌, inl, inr, ⊎_elim, arith, FitsSigned, Ordering, Less, Equal, Greater, int_cmp}
+use Rattle.std.proofs.Common.{◌≡◌, refl, sym, ap, ap₂, ◌∙◌, subst, ℕ, zero, suc, ◌<◌, ◌≤◌, ◌+◌, ◌-◌, ◌*◌, ◌^◌, ℤ, pos, neg_ℤ, ◌+ℤ◌, ◌*ℤ◌, ◌≤ℤ◌, ◌<ℤ◌, unsigned_abs, Bool, true, false, nat_lt, List, [], ◌∷◌, ◌++◌, map, length, length-append, length-drop, get_or, replicate, drop, inl, inr, ⊎_elim, arith, FitsSigned, Ordering, Less, Equal, Greater, int_cmp}
 use Rattle.std.specs.Prelude.{◌↔◌, if◌then◌else◌}
 use Rattle.std.specs.Int.{int_div_euclid, w64}
 use Rattle.std.specs.List.{AllByRecursion}
@@ -19,7 +19,6 @@ use Rattle.affine.proofs.FloorLemmas.{abs-floor}
 use Rattle.affine.proofs.PlaceLaws.{quotient_is_interval}
 use Rattle.orders.specs.Orders.{Has, Ordered}
 use Rattle.orders.proofs.Lists.{has_cases, has_left, has_right}
-use Rattle.affine.specs.Matrices.{product}
 use Rattle.domain.specs.Instances.{Instance, Predicted, counter, padded}
 use Rattle.transform.specs.Schedules.{IsSchedule, Line, Schedule, along, band, leading, line_at, place, tile_along, wave, wave_of, wide_lead, wide_tile}
 use Rattle.transform.proofs.LineLaws.{get_or-place}
@@ -30,13 +29,13 @@ use Rattle.level_walk.specs.Walks.{IsBlock, IsBox, points_in}
 use Rattle.level_walk.specs.declared.runs.Run.{Run as Stretch}
 use Rattle.level_walk.specs.declared.scans.BlockScan.{BlockScan}
 use Rattle.skeletons.specs.CellLists.{Gains, IsCellAmong, IsCellOf, IsMetBelow, IsNumberIn, cell_at, last_size}
-use Rattle.skeletons.specs.Cells.{Cell, Extent, LiesIn, cell_of}
+use Rattle.skeletons.specs.Cells.{Cell, Extent, cell_of}
 use Rattle.skeletons.specs.Frames.{Finds, IsFrame, IsPlaceOf}
 use Rattle.skeletons.specs.RunLists.{IsStretch}
 use Rattle.skeletons.specs.Scans.{IsNear}
-use Rattle.skeletons.proofs.BlockLaws.{length-padded, same_numbers}
+use Rattle.skeletons.proofs.BlockLaws.{same_numbers}
 use Rattle.skeletons.proofs.BoxLaws.{in_box-from, lead-at, length-place, tile-at}
-use Rattle.skeletons.proofs.ListLaws.{near-places, place-long, point-is, points-of}
+use Rattle.skeletons.proofs.ListLaws.{near-places, point-is, points-of}
 use Rattle.skeletons.proofs.RunListLaws.{near-last}
 
 -- ---- tiles of a row

@@ -1,5 +1,5 @@
 -- The runs of a cell are the stretches of the places that its blocks have in its box.
-use Rattle.std.proofs.Common.{◌≡◌, refl, sym, ap, ap₂, ◌∙◌, subst, ℕ, zero, suc, ◌<◌, ◌≤◌, ◌+◌, ◌-◌, ◌^◌, ℤ, pos, negsuc, ◌+ℤ◌, ◌-ℤ◌, ◌*ℤ◌, ◌≤ℤ◌, ◌<ℤ◌, unsigned_abs, true, List, [], ◌∷◌, ◌++◌, map, length, length-append, get_or, replicate, take, set, inl, inr, ⊎_elim, arith, Less, int_cmp}
+use Rattle.std.proofs.Common.{◌≡◌, refl, sym, ap, ap₂, ◌∙◌, subst, ℕ, zero, suc, ◌<◌, ◌≤◌, ◌+◌, ◌-◌, ℤ, pos, negsuc, ◌+ℤ◌, ◌-ℤ◌, ◌*ℤ◌, ◌≤ℤ◌, unsigned_abs, true, List, [], ◌∷◌, ◌++◌, map, length, length-append, get_or, replicate, set, ⊎_elim, arith, int_cmp}
 use Rattle.std.specs.Prelude.{◌↔◌}
 use Rattle.std.specs.List.{AllByRecursion}
 use Rattle.std.specs.Cmp.Lexicographic.{slice_cmp}
@@ -7,7 +7,7 @@ use Rattle.std.proofs.lemmas.Int.{ints}
 use Rattle.std.proofs.lemmas.Bool.{cases_lt}
 use Rattle.std.proofs.lemmas.List.{length-replicate}
 use Rattle.orders.specs.Orders.{Has, Ordered}
-use Rattle.orders.proofs.Lists.{all_from, has_cases, has_left, has_right, ordered_append}
+use Rattle.orders.proofs.Lists.{has_cases, has_left, has_right, ordered_append}
 use Rattle.plain_lemmas.proofs.OrderLaws.{ordering_then-less, ordering_then-same}
 use Rattle.affine.specs.Inverses.{IsInverse, across}
 use Rattle.affine.specs.Matrices.{product, unit_row}
@@ -28,7 +28,7 @@ use Rattle.level_walk.specs.declared.scans.BlockScan.{BlockScan}
 use Rattle.level_walk.proofs.RunLaws.{split_last}
 use Rattle.skeletons.specs.Boxes.{IsBoxOf}
 use Rattle.skeletons.specs.Cells.{Cell, Extent, LiesIn}
-use Rattle.skeletons.specs.Frames.{AllFind, Finds, IsFrame, IsPlaceOf, instance_at}
+use Rattle.skeletons.specs.Frames.{AllFind, Finds, IsFrame, IsPlaceOf}
 use Rattle.skeletons.specs.RunLists.{IsStretch, count_of, first_at, run_of}
 use Rattle.skeletons.specs.Runs.{AreRunsOf as AreCellRuns, HasPoint, IsDirection, IsRun, Run, RunComes, along, step_of}
 use Rattle.skeletons.specs.Scans.{IsNear}

@@ -1,4 +1,4 @@
-use Rattle.std.proofs.Common.{rules, ◌≡◌, ◌∙◌, ◌≤◌, ◌<◌, ℕ, ℤ, List, length, refl, sym, ap, ap₂, subst, FitsSigned, arith}
+use Rattle.std.proofs.Common.{rules, ◌≡◌, ◌∙◌, ℕ, ℤ, List, length, sym, ap, ap₂, subst, FitsSigned, arith}
 use Rattle.std.specs.Int.{w64, w128}
 use Rattle.std.proofs.lemmas.Int.{to_z-of_z}
 use Rattle.affine.specs.Matrices.{product}
@@ -6,8 +6,7 @@ use Rattle.domain.specs.Tables.{cut}
 use Rattle.domain.specs.Instances.{counter, padded}
 use Rattle.domain.proofs.PointLaws.{cut_same}
 use Rattle.transform.specs.Schedules.{wave, wide_lead, wide_tile}
-use Rattle.skeletons.specs.Cells.{Cell, Extent}
-use Rattle.skeletons.specs.Frames.{IsFrame, IsPlaceOf}
+use Rattle.skeletons.specs.Cells.{Extent}
 use Rattle.skeletons.specs.CellLists.{cell_at}
 use Rattle.skeletons.proofs.BlockLaws.{length-padded}
 use Rattle.skeletons.proofs.CellListLaws.{cell-is, lead-fits, lead-long, tile-fits, tile-long, wave-fits}

@@ -1,14 +1,13 @@
-use Rattle.std.proofs.Common.{rules, ◌≡◌, ◌∙◌, ◌<◌, ◌≤◌, ◌+◌, ◌^◌, ℕ, ℤ, pos, neg_ℤ, List, length, replicate, get_or, refl, sym, ap, subst, arith}
+use Rattle.std.proofs.Common.{rules, ◌≡◌, ◌∙◌, ◌<◌, ◌^◌, ℕ, pos, neg_ℤ, List, length, replicate, get_or, refl, sym, ap, subst, arith}
 use Rattle.std.specs.Prelude.{◌↔◌}
 use Rattle.std.specs.List.{AllByRecursion}
 use Rattle.orders.specs.Orders.{Has}
 use Rattle.orders.proofs.Lists.{all_from}
-use Rattle.level_walk.specs.Walks.{IsBlock, IsBox}
+use Rattle.level_walk.specs.Walks.{IsBlock}
 use Rattle.level_walk.specs.declared.runs.Run.{Run as Stretch}
 use Rattle.level_walk.specs.declared.scans.BlockScan.{BlockScan}
 use Rattle.skeletons.specs.Cells.{Cell, Extent}
 use Rattle.skeletons.specs.CellLists.{Gains, IsCellAmong, IsMetBelow}
-use Rattle.skeletons.specs.Frames.{Finds}
 use Rattle.skeletons.specs.RunLists.{IsStretch}
 use Rattle.skeletons.proofs.CellListLaws.{block-cells, far-box, far-stretch, none-met}
 use Rattle.skeletons.proofs.RunListLaws.{finds-at, item-at}

@@ -1,4 +1,4 @@
-use Rattle.std.proofs.Common.{rules, ◌≡◌, ◌∙◌, ◌+◌, List, ◌∷◌, ◌++◌, [], take, subst, sym, ap}
+use Rattle.std.proofs.Common.{rules, ◌∙◌, List, ◌∷◌, ◌++◌, [], take, subst, sym, ap}
 use Rattle.std.proofs.lemmas.List.{take_all, take_more}
 use Rattle.level_walk.specs.declared.runs.Run.{Run as Stretch}
 use Rattle.skeletons.specs.Cells.{Extent}

@@ -1,12 +1,12 @@
-use Rattle.std.proofs.Common.{rules, ◌≡◌, ◌∙◌, ◌+◌, ◌^◌, ◌≤◌, ◌<◌, ℤ, pos, ◌+ℤ◌, ◌≤ℤ◌, ◌<ℤ◌, unsigned_abs, ℕ, List, ◌∷◌, ◌++◌, [], subst, sym, ap, refl, FitsSigned, w64, to_z, arith}
+use Rattle.std.proofs.Common.{rules, ◌≡◌, ◌∙◌, ℤ, pos, ◌+ℤ◌, ◌≤ℤ◌, ◌<ℤ◌, ℕ, ◌∷◌, ◌++◌, [], subst, sym, ap, FitsSigned, w64, to_z, arith}
 use Rattle.std.specs.Int.{int_div_euclid}
 use Rattle.std.proofs.lemmas.Int.{fits_signed_from_abs, ints, to_z-of_z}
 use Rattle.plain_lemmas.proofs.IntegerLaws.{int_lt-false, int_lt-true}
 use Rattle.level_walk.specs.Stretches.{point_at}
 use Rattle.skeletons.specs.Cells.{Cell, Extent}
-use Rattle.skeletons.specs.CellLists.{Gains, IsNumberIn, cell_at, last_size}
+use Rattle.skeletons.specs.CellLists.{IsNumberIn, cell_at, last_size}
 use Rattle.skeletons.specs.Frames.{IsPlaceOf}
-use Rattle.skeletons.proofs.CellListLaws.{IsBefore, all-tiles, near-fits, none-before, one-tile}
+use Rattle.skeletons.proofs.CellListLaws.{all-tiles, near-fits, none-before, one-tile}
 use Rattle.skeletons.proofs.cell_list.push_cells.Goals as goal
 
 pub overflow_add-tile-end : goal.overflow_add-tile-end

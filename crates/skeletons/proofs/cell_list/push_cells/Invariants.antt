@@ -1,4 +1,4 @@
-use Rattle.std.proofs.Common.{◌≤ℤ◌, ◌+ℤ◌, pos}
+use Rattle.std.proofs.Common.{◌≤ℤ◌}
 use Rattle.skeletons.specs.CellLists.{Gains}
 use Rattle.skeletons.proofs.CellListLaws.{IsBefore}
 use Rattle.skeletons.proofs.cell_list.push_cells.Given as goal

@@ -1,4 +1,4 @@
-use Rattle.std.proofs.Common.{rules, ◌≡◌, ◌≤◌, ◌^◌, ◌∙◌, ℕ, ℤ, pos, unsigned_abs, sym, ap, subst, FitsSigned, w64, arith}
+use Rattle.std.proofs.Common.{rules, ◌≡◌, ◌≤◌, ◌^◌, ℤ, pos, unsigned_abs, sym, subst, FitsSigned, w64, arith}
 use Rattle.std.specs.Int.{int_div_euclid}
 use Rattle.std.proofs.lemmas.Int.{to_z-of_z}
 use Rattle.skeletons.proofs.CellListLaws.{floor-small}

@@ -1,15 +1,14 @@
-use Rattle.std.proofs.Common.{rules, ◌≡◌, ◌∙◌, ◌<◌, ◌≤◌, ◌+◌, ◌-◌, ℕ, ℤ, List, [], ◌∷◌, ◌++◌, map, length, get_or, refl, sym, ap, subst, arith}
+use Rattle.std.proofs.Common.{rules, ◌≡◌, ◌∙◌, ◌<◌, ◌≤◌, ◌+◌, ◌-◌, ℤ, List, [], ◌++◌, map, length, get_or, sym, ap, subst}
 use Rattle.std.specs.List.{AllByRecursion}
 use Rattle.orders.proofs.Lists.{all_from}
-use Rattle.level_walk.specs.Stretches.{AreRunsOf}
-use Rattle.level_walk.specs.Walks.{IsBlock, points_in}
+use Rattle.level_walk.specs.Walks.{IsBlock}
 use Rattle.level_walk.specs.declared.runs.Run.{Run as Stretch}
 use Rattle.level_walk.specs.declared.scans.BlockScan.{BlockScan}
 use Rattle.skeletons.specs.Cells.{Extent}
 use Rattle.skeletons.specs.Frames.{Finds}
 use Rattle.skeletons.specs.RunLists.{IsStretch, run_of}
-use Rattle.skeletons.specs.Runs.{IsDirection, Run}
-use Rattle.skeletons.proofs.RunListLaws.{AreRunsTo, finds-at, is-direction, is-stretch, item-at, no_runs, runs-end, runs-more}
+use Rattle.skeletons.specs.Runs.{IsDirection}
+use Rattle.skeletons.proofs.RunListLaws.{AreRunsTo, finds-at, is-direction, is-stretch, item-at, runs-end, runs-more}
 use Rattle.skeletons.proofs.run_list.runs_in.Goals as goal
 
 pub loop-rank-preserved : goal.loop-rank-preserved

@@ -1,4 +1,4 @@
-use Rattle.std.proofs.Common.{subst, List}
+use Rattle.std.proofs.Common.{subst}
 use Rattle.std.specs.Prelude.{IfOk}
 use Rattle.skeletons.specs.Cells.{Extent}
 use Rattle.skeletons.specs.Runs.{HasRuns}
