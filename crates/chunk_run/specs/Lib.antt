@@ -1,1 +1,2 @@
 pub mod ScheduleLaw
+pub mod ChunkEnds

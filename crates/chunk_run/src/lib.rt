@@ -9,3 +9,6 @@
 #![tactic(auto)]
 
 pub mod laws;
+mod run;
+
+pub use run::{ChunkEnd, run_chunk};
