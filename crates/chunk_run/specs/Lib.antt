@@ -1,2 +1,3 @@
 pub mod ScheduleLaw
 pub mod ChunkEnds
+pub mod Parts

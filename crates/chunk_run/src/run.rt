@@ -4,12 +4,19 @@ ghost use Rattle.std.specs.Prelude.{◌≡◌, ◌+◌, ◌≤◌, ◌^◌, fals
 ghost use Rattle.shared_words.specs.Memories.{signed};
 ghost use Rattle.worker.specs.Bases.{unstored};
 ghost use Rattle.follow_chunk.specs.Tasks.{IsTask};
+ghost use Rattle.tiles.specs.Plans.{IsPlanOf};
+ghost use Rattle.chunk_run.specs.Parts.{ChangesChunk, IsAttempt};
 ghost use Rattle.chunk_run.specs.ChunkEnds.{IsLegalFor, HasEnded, between};
 
+use crate::phases::follow_over;
+use crate::scalars::{begins, close};
+use backup::{restore, take};
 use follow_chunk::Task;
 use nest_lang::Budget;
 use shared_words::{MainSeat, SharedWords};
+use skeletons::Skeleton;
 use std::alloc::{AllocError, Global};
+use tiles::{ChunkPlan, plan};
 use transform::Schedule;
 
 /// How the run of a chunk ended.
@@ -25,6 +32,35 @@ pub enum ChunkEnd {
     },
     /// It has a deviation, and all is as before.
     RolledBack,
+}
+
+/// Follows a chunk over the main seat from these scalars, with so many steps left. It gives the steps that are left then;
+/// None where the chunk has a deviation.
+fn attempt<const D: usize>(
+    task: &Task<'_, D>,
+    skeleton: &Skeleton<'_, D>,
+    plan: &ChunkPlan<D>,
+    scalars: &[i64],
+    main: &mut MainSeat,
+    words: &SharedWords,
+    left: u64,
+) -> Option<u64>
+    requires task { IsTask D task.now.scalars task.now.nest.now.loops task.now.pred.now task.now.outer task.now.chunk (pos (length main.old.view.base)) }
+    requires legal { IsLegalFor task.now.pred.now skeleton.now.schedule task.now.chunk }
+    requires extent { skeleton.now.table ≡ task.now.pred.now }
+    requires chunk { skeleton.now.chunk ≡ task.now.chunk }
+    requires planned { IsPlanOf skeleton.now (length main.old.view.base) plan.now }
+    requires scalars { length scalars.now ≡ task.now.scalars }
+    requires table { main.old.table ≡ words.now }
+    requires unposted { main.old.view.posted ≡ false }
+    ensures attempted { IsAttempt task.now.pred.now task.now.nest.now.loops task.now.outer task.now.chunk (signed main.old.view.base) scalars.now left result (signed main.new.view.base) }
+    ensures changes { ChangesChunk task.now.pred.now task.now.chunk (signed main.old.view.base) (signed main.new.view.base) }
+    ensures seat { unstored main.new ≡ unstored main.old }
+{
+    if !begins(task, scalars) {
+        return None;
+    }
+    follow_over(task, skeleton, plan.phases.as_slice(), main, words, left)
 }
 
 /// Runs a launched chunk in the order of a schedule over the main seat, each instance verified against its prediction.
@@ -52,6 +88,21 @@ pub fn run_chunk<const D: usize>(
         (between (signed main.old.view.base) scalars.old steps.old) (between (signed main.new.view.base) scalars.new steps.new) result }
     ensures seat { unstored main.new ≡ unstored main.old }
 {
-    let _task = (alloc, task, schedule, scalars, main, words, steps);
-    Err(AllocError)
+    let plan = plan(alloc, task, schedule, main.count(words))?;
+    let backup = take(alloc, main, words, plan.stripes.as_slice())?;
+    let skeleton = Skeleton::new(alloc, task.pred, schedule, task.chunk)?;
+    let Some(left) = attempt(task, &skeleton, &plan, scalars, main, words, steps.left) else {
+        restore(main, words, &backup);
+        return Ok(ChunkEnd::RolledBack);
+    };
+    close(task, scalars);
+    let taken = steps.left - left;
+    steps.left = left;
+    steps.used += taken;
+    Ok(ChunkEnd::Committed {
+        instances: plan.instances,
+        phases: plan.phases.len() as u64,
+        tiles: plan.tiles,
+        steps: taken,
+    })
 }
