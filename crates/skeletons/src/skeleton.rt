@@ -1,10 +1,12 @@
 //! The skeleton of a chunk.
 
 ghost use Rattle.std.specs.Prelude.{◌≡◌, ◌<◌, ◌≤◌, IfOk};
-ghost use Rattle.skeletons.specs.Cells.{IsLaunch};
+ghost use Rattle.skeletons.specs.Cells.{AreCellsOf, IsLaunch};
 ghost use Rattle.skeletons.specs.Frames.{IsFrame};
+ghost use Rattle.skeletons.specs.Runs.{HasRuns};
 
 use crate::block::{Scope, block_scan};
+use crate::cell::{Cell, Run};
 use crate::frame::Frame;
 use crate::inverse::transposed;
 use domain::{Chunk, Prediction};
@@ -64,6 +66,21 @@ impl<'a, const D: usize> Skeleton<'a, D> {
                 blocks,
             },
         })
+    }
+
+    /// The cells that have an instance, by phase key and then by tile, and so each once.
+    pub fn cells(&self, alloc: Global) -> Result<Vec<Cell<D>>, AllocError>
+        ensures { IfOk result (λ cells. AreCellsOf self.now cells.items) }
+    {
+        Err(AllocError)
+    }
+
+    /// The runs of a cell, by the rank of the block and then by the place of the first instance. A cell without
+    /// instances has none.
+    pub fn runs(&self, alloc: Global, cell: &Cell<D>) -> Result<Vec<Run<D>>, AllocError>
+        ensures { IfOk result (λ runs. HasRuns D self.now cell.now runs.items) }
+    {
+        Err(AllocError)
     }
 
     /// Its fields.
