@@ -86,7 +86,7 @@ list-predicted e (c ∷ cells) (ys ∷ lists) (suc tile) x f h = list-predicted 
 
 -- ---- each cell has a list: what lies in it, sorted
 
-in-order : {X : Type 0} (R : X → X → Type 0) (xs : List X) → InOrder R xs → Ordered R xs
+pub in-order : {X : Type 0} (R : X → X → Type 0) (xs : List X) → InOrder R xs → Ordered R xs
 in-order R [] h = tt
 in-order R (x ∷ xs) h = (h.0, in-order R xs h.1)
 

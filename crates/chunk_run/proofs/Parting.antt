@@ -5,7 +5,7 @@ use Rattle.nest_lang.specs.declared.tree.Loop.{Loop}
 use Rattle.nest_lang.specs.declared.state.Outer.{Outer}
 use Rattle.orders.specs.Orders.{Has}
 use Rattle.orders.specs.Runs.{Outcome, plus, and_then}
-use Rattle.orders.proofs.Lists.{has_cases}
+use Rattle.orders.proofs.Lists.{has_cases, has_right}
 use Rattle.orders.proofs.Swaps.{some_injective}
 use Rattle.domain.specs.declared.chunk.Chunk.{Chunk}
 use Rattle.domain.specs.Tables.{Table}
@@ -30,9 +30,6 @@ and-then-some (Some a) go r e = by (go a.memory) refl e
     by (Some b) f g = (a, b, refl, f, sym (ap (λ (y : Outcome). y.steps) (some_injective _ _ g)))
 
 module _ (t : Table) (loops : List Loop) (o : Outer) where
-  abbrev run : List Instance → List ℤ → Option Outcome
-  run xs m = followed t loops o xs m
-
   abbrev one : Instance → List ℤ → Option Outcome
   one x m = follow_one (forecast_of t) (scalars_after t) (item_at t loops o x) m
 
@@ -93,15 +90,23 @@ module _ (t : Table) (loops : List Loop) (o : Outer) where
 
   -- ---- an instance of a list, behind those that were followed
 
-  module _ (xs front : List Instance) (x : Instance) (behind : List Instance) (m w : List ℤ) (left mid : ℕ) (are : xs ≡ front ++ x ∷ behind) (f : FollowsWithin t loops o front m left w mid) where
-    pub fails-here : FailsWithin t loops o (x ∷ []) w mid → FailsWithin t loops o xs m left
-    fails-here g = subst (λ (zs : List Instance). FailsWithin t loops o zs m left) (sym are) (fails-second front (x ∷ behind) m w left mid f (fails-first (x ∷ []) behind w mid g))
+  module _ (xs front rest : List Instance) (x : Instance) (behind : List Instance) (m w : List ℤ) (left mid : ℕ) (are : xs ≡ front ++ rest) (next : rest ≡ x ∷ behind) (f : FollowsWithin t loops o front m left w mid) where
+    are-all : xs ≡ front ++ x ∷ behind
+    are-all = are ∙ ap (λ (zs : List Instance). front ++ zs) next
 
-    pub front-more : xs ≡ (front ++ x ∷ []) ++ behind
-    front-more = are ∙ sym (append_assoc front (x ∷ []) behind)
+    pub fails-here : FailsWithin t loops o (x ∷ []) w mid → FailsWithin t loops o xs m left
+    fails-here g = subst (λ (zs : List Instance). FailsWithin t loops o zs m left) (sym are-all) (fails-second front (x ∷ behind) m w left mid f (fails-first (x ∷ []) behind w mid g))
+
+    pub front-more : (v : List ℤ) (steps : ℕ) → Follows t loops o x steps w v → steps ≤ mid → ClosesSmall t x → (more : List Instance) × (xs ≡ more ++ behind) × FollowsWithin t loops o more m left v (mid - steps)
+    front-more v steps g few small =
+        (front ++ x ∷ [], are-all ∙ sym (append_assoc front (x ∷ []) behind), within-append front (x ∷ []) m w v left mid (mid - steps) f (one-within x w mid v steps g few small))
 
   pub within-all : (xs front rest : List Instance) (m w : List ℤ) (left mid : ℕ) → xs ≡ front ++ rest → rest ≡ [] → FollowsWithin t loops o front m left w mid → FollowsWithin t loops o xs m left w mid
   within-all xs front rest m w left mid are none f = subst (λ (zs : List Instance). FollowsWithin t loops o zs m left w mid) (sym (are ∙ ap (λ (zs : List Instance). front ++ zs) none ∙ append-nil front)) f
+
+-- what holds of a list holds of the instance behind a part of it
+pub holds-here : (P : Instance → Type 0) (xs front rest : List Instance) (x : Instance) (behind : List Instance) → xs ≡ front ++ rest → rest ≡ x ∷ behind → ((y : Instance) → Has xs y → P y) → P x
+holds-here P xs front rest x behind are next all = all x (subst (λ (zs : List Instance). Has zs x) (sym (are ∙ ap (λ (zs : List Instance). front ++ zs) next)) (has_right front (x ∷ behind) x (inl refl)))
 
 -- ---- what changes
 

@@ -69,7 +69,7 @@ module _ (e : Extent) where
       more : (c : Cell) → Has phase.cells c → (x : Instance) → LiesIn e c x → Keys phases → Keys (phase ∷ phases)
       more c at x lies rest = record {
         keys = key_of x ∷ rest.keys;
-        many = ap (λ (n : ℕ). n + 1) rest.many;
+        many = (let m = rest.many in omega (arith, m));
         once = (all_from (Differ (key_of x)) rest.keys apart, rest.once);
         has = λ key. (there key, back key);
       }

@@ -9,7 +9,7 @@ use Rattle.orders.specs.Tiles.{flat}
 use Rattle.orders.proofs.Lists.{all_has, all_from, has_from_contains, contains_from_has}
 use Rattle.orders.proofs.Sorts.{has_flat, flat_has, ordered_flat}
 use Rattle.domain.specs.Instances.{Instance, Predicted, IsOriginal, padded}
-use Rattle.transform.specs.Schedules.{place, wave, wide_lead, wide_tile}
+use Rattle.transform.specs.Schedules.{wave, wide_lead, wide_tile}
 use Rattle.dependence.specs.Laws.{key_at, ComesFirst, IsScheduled}
 use Rattle.skeletons.specs.Cells.{Cell, Extent, LiesIn, Comes, CellComes, IsListOf, AreListsOf, AreCellsOf, cell_of, place_key}
 use Rattle.chunk_run.proofs.Keys.{cmp-key, same-itself}
@@ -32,12 +32,24 @@ module _ (e : Extent) where
   abbrev point : Instance → List ℤ
   point x = padded e.table x
 
+  abbrev by_lead : Instance → Instance → Ordering
+  by_lead x y = slice_cmp int_cmp (wide_lead e.schedule (point x)) (wide_lead e.schedule (point y))
+
+  abbrev by_wave : Instance → Instance → Ordering
+  by_wave x y = int_cmp (wave e.schedule (point x)) (wave e.schedule (point y))
+
+  abbrev by_tile : Instance → Instance → Ordering
+  by_tile x y = slice_cmp int_cmp (wide_tile e.schedule (point x)) (wide_tile e.schedule (point y))
+
+  abbrev by_place : Instance → Instance → Ordering
+  by_place x y = slice_cmp int_cmp (place_key e x) (place_key e y)
+
   -- in one cell the order is that by place and then by rank
   within-cell : (cell : Cell) (x y : Instance) → LiesIn e cell x → LiesIn e cell y → Comes e x y → ComesFirst e.table e.schedule x y
   within-cell cell x y f g h =
       let same : cell_of e.schedule (point x) ≡ cell_of e.schedule (point y) = f.inside ∙ sym g.inside in
       cmp-key e.schedule (point x) (point y) (pos x.block) (pos y.block)
-      ∙ tied _ _ _ _ (same-itself (wide_lead e.schedule (point x)) (wide_lead e.schedule (point y)) (ap (λ (c : Cell). c.lead) same))
+      ∙ tied (by_lead x y) (by_wave x y) (by_tile x y) (by_place x y) (same-itself (wide_lead e.schedule (point x)) (wide_lead e.schedule (point y)) (ap (λ (c : Cell). c.lead) same))
       (subst (λ (z : ℤ). int_cmp (wave e.schedule (point x)) z ≡ Equal) (ap (λ (c : Cell). c.wave) same) (tied_itself int_cmp_total (wave e.schedule (point x))))
       (same-itself (wide_tile e.schedule (point x)) (wide_tile e.schedule (point y)) (ap (λ (c : Cell). c.tile) same))
       ∙ h
@@ -46,7 +58,7 @@ module _ (e : Extent) where
   across-cells : (c d : Cell) (x y : Instance) → CellComes c d → LiesIn e c x → LiesIn e d y → ComesFirst e.table e.schedule x y
   across-cells c d x y h f g =
       cmp-key e.schedule (point x) (point y) (pos x.block) (pos y.block)
-      ∙ decides _ _ _ _ (subst (λ (b : Cell). CellComes (cell_of e.schedule (point x)) b) (sym g.inside) (subst (λ (b : Cell). CellComes b d) (sym f.inside) h))
+      ∙ decides (by_lead x y) (by_wave x y) (by_tile x y) (by_place x y) (subst (λ (b : Cell). CellComes (cell_of e.schedule (point x)) b) (sym g.inside) (subst (λ (b : Cell). CellComes b d) (sym f.inside) h))
 
   each-ordered : (cells : List Cell) (lists : List (List Instance)) → AreListsOf e cells lists → AllByRecursion (Ordered (ComesFirst e.table e.schedule)) lists
   each-ordered [] [] f = tt

@@ -1,5 +1,6 @@
 -- Chunk ends: a launched chunk is committed, and then the state is that of the plain run of its turns, or rolled back.
-use Rattle.std.specs.Prelude.{◌≡◌, ◌↔◌, ℕ, ℤ, pos, ◌+◌, ◌<◌, ◌≤ℤ◌, unsigned_abs, List, [], length, Result, Ok, Err, AllocError}
+use Rattle.std.specs.Prelude.{◌≡◌, ◌↔◌, ℕ, ℤ, pos, ◌+◌, ◌<◌, ◌≤ℤ◌, unsigned_abs, List, [], length, Result, Ok, Err}
+use Rattle.std.specs.declared.alloc.AllocError.{AllocError}
 use Rattle.nest_lang.specs.declared.tree.Loop.{Loop}
 use Rattle.nest_lang.specs.declared.state.Outer.{Outer}
 use Rattle.nest_lang.specs.declared.budget.Budget.{Budget}
@@ -79,10 +80,10 @@ pub record HasNumbers (e : Extent) (words : ℤ) (instances phases tiles : ℕ) 
   pub launched : IsLaunched e.table words e.chunk instances
   pub keys : List (List ℤ)
   pub are_keys : ArePhaseKeysOf e keys
-  pub phases : length keys ≡ phases
+  pub count_keys : length keys ≡ phases
   pub cells : List Cell
   pub are_cells : AreCellsOf e cells
-  pub tiles : length cells ≡ tiles
+  pub count_cells : length cells ≡ tiles
 
 -- ---- ends
 

@@ -12,7 +12,7 @@ use crate::tile::follow_tile;
 use block_exec::Port;
 use follow_chunk::Task;
 use shared_words::{MainSeat, SharedWords};
-use skeletons::{Skeleton, TileWalk};
+use skeletons::{Skeleton, TileWalk, Walk};
 use tiles::Phase;
 use worker::MainPort;
 
@@ -24,10 +24,11 @@ fn follow_phase<P: Port, const D: usize>(
     port: &mut P,
     left: u64,
 ) -> Option<u64>
+    requires few { D < 7 }
     requires task { IsTask D task.now.scalars task.now.nest.now.loops task.now.pred.now task.now.outer task.now.chunk (pos (length (P.memory port.old))) }
     requires table { skeleton.now.table ≡ task.now.pred.now }
     requires chunk { skeleton.now.chunk ≡ task.now.chunk }
-    requires few { length phase.now.cells < 2 ^ 32 }
+    requires cells { length phase.now.cells < 2 ^ 32 }
     requires plain { (P.expects port.old).verifies ≡ false }
     ensures followed { IsPartOf skeleton.now task.now.nest.now.loops task.now.outer phase.now.cells (P.memory port.old) left result (P.memory port.new) }
     ensures changes { ChangesChunk task.now.pred.now task.now.chunk (P.memory port.old) (P.memory port.new) }
@@ -51,10 +52,11 @@ fn follow_phases<P: Port, const D: usize>(
     port: &mut P,
     left: u64,
 ) -> Option<u64>
+    requires few { D < 7 }
     requires task { IsTask D task.now.scalars task.now.nest.now.loops task.now.pred.now task.now.outer task.now.chunk (pos (length (P.memory port.old))) }
     requires table { skeleton.now.table ≡ task.now.pred.now }
     requires chunk { skeleton.now.chunk ≡ task.now.chunk }
-    requires few { All (λ (phase : Plan). length phase.cells < 2 ^ 32) phases.now }
+    requires cells { All (λ (phase : Plan). length phase.cells < 2 ^ 32) phases.now }
     requires plain { (P.expects port.old).verifies ≡ false }
     ensures followed { IsPartOf skeleton.now task.now.nest.now.loops task.now.outer (cells_of phases.now) (P.memory port.old) left result (P.memory port.new) }
     ensures changes { ChangesChunk task.now.pred.now task.now.chunk (P.memory port.old) (P.memory port.new) }
@@ -78,10 +80,11 @@ pub fn follow_over<const D: usize>(
     words: &SharedWords,
     left: u64,
 ) -> Option<u64>
+    requires few { D < 7 }
     requires task { IsTask D task.now.scalars task.now.nest.now.loops task.now.pred.now task.now.outer task.now.chunk (pos (length main.old.view.base)) }
     requires extent { skeleton.now.table ≡ task.now.pred.now }
     requires chunk { skeleton.now.chunk ≡ task.now.chunk }
-    requires few { All (λ (phase : Plan). length phase.cells < 2 ^ 32) phases.now }
+    requires cells { All (λ (phase : Plan). length phase.cells < 2 ^ 32) phases.now }
     requires table { main.old.table ≡ words.now }
     requires unposted { main.old.view.posted ≡ false }
     ensures followed { IsPartOf skeleton.now task.now.nest.now.loops task.now.outer (cells_of phases.now) (signed main.old.view.base) left result (signed main.new.view.base) }

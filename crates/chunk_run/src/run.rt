@@ -1,9 +1,10 @@
 //! One launched chunk, followed in the order of a schedule.
 
-ghost use Rattle.std.specs.Prelude.{◌≡◌, ◌+◌, ◌≤◌, ◌^◌, false, length, pos};
+ghost use Rattle.std.specs.Prelude.{◌≡◌, ◌+◌, ◌<◌, ◌≤◌, ◌^◌, false, length, pos};
 ghost use Rattle.shared_words.specs.Memories.{signed};
 ghost use Rattle.worker.specs.Bases.{unstored};
 ghost use Rattle.follow_chunk.specs.Tasks.{IsTask};
+ghost use Rattle.transform.specs.Schedules.{IsSchedule};
 ghost use Rattle.tiles.specs.Plans.{IsPlanOf};
 ghost use Rattle.chunk_run.specs.Parts.{ChangesChunk, IsAttempt};
 ghost use Rattle.chunk_run.specs.ChunkEnds.{IsLegalFor, HasEnded, between};
@@ -45,7 +46,9 @@ fn attempt<const D: usize>(
     words: &SharedWords,
     left: u64,
 ) -> Option<u64>
+    requires few { D < 7 }
     requires task { IsTask D task.now.scalars task.now.nest.now.loops task.now.pred.now task.now.outer task.now.chunk (pos (length main.old.view.base)) }
+    requires schedule { IsSchedule D skeleton.now.schedule }
     requires legal { IsLegalFor task.now.pred.now skeleton.now.schedule task.now.chunk }
     requires extent { skeleton.now.table ≡ task.now.pred.now }
     requires chunk { skeleton.now.chunk ≡ task.now.chunk }
@@ -78,6 +81,7 @@ pub fn run_chunk<const D: usize>(
     words: &SharedWords,
     steps: &mut Budget,
 ) -> Result<ChunkEnd, AllocError>
+    requires few { D < 7 }
     requires task { IsTask D task.now.scalars task.now.nest.now.loops task.now.pred.now task.now.outer task.now.chunk (pos (length main.old.view.base)) }
     requires legal { IsLegalFor task.now.pred.now schedule.now task.now.chunk }
     requires table { main.old.table ≡ words.now }
@@ -88,6 +92,8 @@ pub fn run_chunk<const D: usize>(
         (between (signed main.old.view.base) scalars.old steps.old) (between (signed main.new.view.base) scalars.new steps.new) result }
     ensures seat { unstored main.new ≡ unstored main.old }
 {
+    // what is kept by every schedule is said by its matrix
+    let _matrix = schedule.matrix();
     let plan = plan(alloc, task, schedule, main.count(words))?;
     let backup = take(alloc, main, words, plan.stripes.as_slice())?;
     let skeleton = Skeleton::new(alloc, task.pred, schedule, task.chunk)?;

@@ -1,6 +1,6 @@
 //! The scalars that a chunk is expected to begin with, and those that it is expected to leave.
 
-ghost use Rattle.std.specs.Prelude.{◌≡◌, ◌↔◌, length, IsTrue};
+ghost use Rattle.std.specs.Prelude.{◌≡◌, ◌↔◌, ◌<◌, length, IsTrue};
 ghost use Rattle.domain.specs.Instances.{opening_at};
 ghost use Rattle.follow_chunk.specs.Predicted.{scalars_at};
 ghost use Rattle.follow_chunk.specs.Tasks.{IsSomeTask};
@@ -35,6 +35,7 @@ fn are_same(scalars: &[i64], expected: &[i128]) -> bool
 
 /// Whether these are the scalars that are expected of the chunk's first instance.
 pub fn begins<const D: usize>(task: &Task<'_, D>, scalars: &[i64]) -> bool
+    requires few { D < 7 }
     requires task { IsSomeTask D task.now.scalars task.now.nest.now.loops task.now.pred.now task.now.outer task.now.chunk }
     requires count { length scalars.now ≡ task.now.scalars }
     ensures { IsTrue result ↔ (scalars.now ≡ scalars_at task.now.pred.now (opening_at task.now.pred.now task.now.chunk.first)) }
@@ -46,6 +47,7 @@ pub fn begins<const D: usize>(task: &Task<'_, D>, scalars: &[i64]) -> bool
 
 /// Sets the scalars to those that are expected after the chunk's last instance, which are i64s.
 pub fn close<const D: usize>(task: &Task<'_, D>, scalars: &mut [i64])
+    requires few { D < 7 }
     requires task { IsSomeTask D task.now.scalars task.now.nest.now.loops task.now.pred.now task.now.outer task.now.chunk }
     requires count { length scalars.old ≡ task.now.scalars }
     requires fits { ClosingFits task.now.pred.now task.now.chunk }

@@ -1,6 +1,6 @@
 //! The instances of a tile, one after another.
 
-ghost use Rattle.std.specs.Prelude.{◌≡◌, false, length, pos};
+ghost use Rattle.std.specs.Prelude.{◌≡◌, ◌<◌, false, length, pos};
 ghost use Rattle.orders.specs.Orders.{Has};
 ghost use Rattle.domain.specs.Instances.{Instance as Point, Predicted};
 ghost use Rattle.follow_chunk.specs.Tasks.{IsTask};
@@ -19,6 +19,7 @@ pub fn follow_tile<P: Port, W: Walk<D>, const D: usize>(
     port: &mut P,
     left: u64,
 ) -> Option<u64>
+    requires few { D < 7 }
     requires task { IsTask D task.now.scalars task.now.nest.now.loops task.now.pred.now task.now.outer task.now.chunk (pos (length (P.memory port.old))) }
     requires predicted { (x : Point) → Has (W.rest walk.old) x → Predicted task.now.pred.now task.now.chunk x }
     requires plain { (P.expects port.old).verifies ≡ false }
