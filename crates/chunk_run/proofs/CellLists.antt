@@ -1,9 +1,8 @@
 -- Cell lists: each cell has one list, and the lists of cells together.
-use Rattle.std.proofs.Common.{◌≡◌, refl, sym, ap, ap₂, ◌∙◌, subst, ℕ, zero, suc, inl, inr, ⊎_elim, ℤ, pos, Bool, true, List, [], ◌∷◌, ◌++◌, append-nil, length, take, drop, get_or, arith, Ordering, Less, Equal, int_cmp}
+use Rattle.std.proofs.Common.{◌≡◌, refl, sym, ap, ap₂, ◌∙◌, subst, ℕ, zero, suc, inl, inr, ℤ, pos, Bool, List, [], ◌∷◌, ◌++◌, append-nil, length, drop, get_or, arith, Ordering, Less, Equal, int_cmp}
 use Rattle.std.specs.Cmp.{IsTotalOrder}
 use Rattle.std.specs.Cmp.Lexicographic.{slice_cmp}
-use Rattle.std.specs.List.{AllByRecursion}
-use Rattle.std.proofs.lemmas.Cmp.{tied_itself, lists_total, int_cmp_total}
+use Rattle.std.proofs.lemmas.Cmp.{lists_total, int_cmp_total}
 use Rattle.std.proofs.lemmas.Grind.{flat_map-append}
 use Rattle.std.proofs.lemmas.List.{length-map}
 use Rattle.plain_lemmas.proofs.OrderLaws.{slice_cmp-exact}
@@ -11,13 +10,12 @@ use Rattle.orders.specs.Orders.{Ordered, Has, sorted}
 use Rattle.orders.specs.Tiles.{flat}
 use Rattle.orders.proofs.Lists.{all_has, all_from, has_from_contains, contains_from_has}
 use Rattle.orders.proofs.Sorts.{ordering_unique, never_itself, never_both, sorted_is_ordering, has_flat}
-use Rattle.affine.specs.Matrices.{product}
-use Rattle.domain.specs.Tables.{Table, IsTable, depth}
+use Rattle.domain.specs.Tables.{IsTable}
 use Rattle.domain.specs.Instances.{Instance, Predicted, Precedes, IsOriginal, original_key, padded, Ordered as InOrder}
-use Rattle.transform.specs.Schedules.{IsSchedule, along, matrix, place}
+use Rattle.transform.specs.Schedules.{IsSchedule, along, place}
 use Rattle.transform.proofs.LineLaws.{place-product}
 use Rattle.dependence.proofs.SystemLaws.{length-padded}
-use Rattle.skeletons.specs.Cells.{Cell, Extent, LiesIn, Comes, IsListOf, AreListsOf, cell_of, place_key}
+use Rattle.skeletons.specs.Cells.{Cell, Extent, Comes, IsListOf, AreListsOf, cell_of, place_key}
 use Rattle.skeletons.specs.Frames.{chosen, is_cell}
 use Rattle.skeletons.proofs.ListLaws.{chosen-has, has-chosen, chosen-ordered, same-cell, cell-same}
 

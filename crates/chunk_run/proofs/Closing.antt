@@ -1,5 +1,5 @@
 -- Closing: what follows the last instance of a chunk is the instance behind it.
-use Rattle.std.proofs.Common.{◌≡◌, refl, sym, ap, ◌∙◌, subst, ℕ, ◌<◌, inl, inr, ⊎_elim, ◌⊎◌, ℤ, pos, negsuc, ◌≤ℤ◌, unsigned_abs, FitsSigned, w64, List, [], ◌∷◌, get_or, arith, int_cmp}
+use Rattle.std.proofs.Common.{◌≡◌, refl, sym, ◌∙◌, subst, ℕ, ◌<◌, inl, inr, ⊎_elim, ◌⊎◌, ℤ, pos, negsuc, ◌≤ℤ◌, unsigned_abs, FitsSigned, w64, List, [], ◌∷◌, get_or, arith, int_cmp}
 use Rattle.std.specs.Cmp.Lexicographic.{slice_cmp}
 use Rattle.std.proofs.lemmas.Int.{ints}
 use Rattle.std.proofs.lemmas.Cmp.{lists_total, int_cmp_total}
@@ -11,17 +11,15 @@ use Rattle.orders.proofs.Lists.{all_has, has_from_contains, contains_from_has}
 use Rattle.orders.proofs.Sorts.{never_itself, never_both}
 use Rattle.domain.specs.declared.chunk.Chunk.{Chunk}
 use Rattle.domain.specs.Tables.{Table}
-use Rattle.domain.specs.Instances.{Instance, Predicted, Precedes, IsOriginal, IsSuccessor, original_key}
+use Rattle.domain.specs.Instances.{Instance, Precedes, IsOriginal, original_key}
 use Rattle.domain.specs.Steps.{next}
 use Rattle.domain.proofs.OriginalLaws.{successor-law}
-use Rattle.follow.specs.Plans.{planned, Item}
+use Rattle.follow.specs.Plans.{Item}
 use Rattle.follow.proofs.Having.{planned-some}
 use Rattle.follow_chunk.specs.Predicted.{scalars_at, forecast_of}
-use Rattle.follow_chunk.specs.Items.{items_at}
 use Rattle.follow_chunk.specs.Followed.{ClosesSmall}
 use Rattle.follow_chunk.specs.Tasks.{IsTask}
 use Rattle.compare.specs.ChainLaw.{behind}
-use Rattle.compare.specs.Chunks.{IsNextChunk}
 use Rattle.compare.proofs.PredictedChains.{planned-are_predicted, tasks-are_chunks}
 use Rattle.chunk_run.specs.Parts.{ClosingFits}
 use Rattle.chunk_run.proofs.CellLists.{in-order}

@@ -1,24 +1,20 @@
 -- Committing: a chunk that was followed in the order of a schedule, against the plain run of its turns.
-use Rattle.std.proofs.Common.{◌≡◌, refl, sym, ap, ap₂, ◌∙◌, subst, ℕ, ◌<◌, ◌≤◌, ◌+◌, ◌-◌, min, inl, inr, ⊎_elim, ℤ, pos, ◌≤ℤ◌, unsigned_abs, Bool, true, false, List, [], ◌∷◌, ◌++◌, length, take, set, Option, Some, None, arith}
+use Rattle.std.proofs.Common.{◌≡◌, refl, sym, ap, ap₂, ◌∙◌, subst, ℕ, ◌<◌, ◌≤◌, ◌+◌, ◌-◌, min, ⊎_elim, ℤ, pos, Bool, true, false, List, [], ◌∷◌, length, take, set, Option, Some, None, arith}
 use Rattle.std.specs.Prelude.{nat_le, ◌↔◌, if◌then◌else◌}
 use Rattle.std.proofs.lemmas.Bool.Decides.{nat_tests}
-use Rattle.std.proofs.lemmas.List.{take_all}
 use Rattle.nest_lang.specs.declared.tree.Loop.{Loop}
 use Rattle.nest_lang.specs.declared.state.Outer.{Outer}
-use Rattle.nest_lang.specs.declared.budget.Budget.{Budget}
-use Rattle.nest_lang.specs.Lookups.{plain}
 use Rattle.nest_lang.specs.Stores.{Store, store_of, Effect, Nothing, Local, Scalar, Word, effect_on}
-use Rattle.nest_lang.specs.Traces.{Trace, Entry, Halt, Cut, Finish, Done, Limited, finish_of, after_all, cut, cut_of}
-use Rattle.nest_lang.specs.Turns.{turns_trace}
+use Rattle.nest_lang.specs.Traces.{Trace, Entry, Cut, Finish, Done, Limited, finish_of, after_all, cut, cut_of}
 use Rattle.orders.specs.Orders.{Has}
 use Rattle.orders.specs.Runs.{Outcome}
 use Rattle.orders.specs.Tiles.{flat}
 use Rattle.domain.specs.declared.chunk.Chunk.{Chunk}
 use Rattle.domain.specs.Tables.{Table}
-use Rattle.domain.specs.Instances.{Instance, Predicted, IsOriginal, opening_at}
-use Rattle.transform.specs.Schedules.{Schedule, IsSchedule}
+use Rattle.domain.specs.Instances.{Instance, IsOriginal, opening_at}
+use Rattle.transform.specs.Schedules.{IsSchedule}
 use Rattle.skeletons.specs.Cells.{Cell, Extent, AreCellsOf}
-use Rattle.follow.specs.Deviations.{Deviation, IsDeviation, FollowsPrediction}
+use Rattle.follow.specs.Deviations.{FollowsPrediction}
 use Rattle.follow.specs.ChainLaw.{Ends}
 use Rattle.follow.proofs.Deviating.{deviates-or_follows}
 use Rattle.follow_chunk.specs.Predicted.{scalars_at, forecast_of}

@@ -1,17 +1,16 @@
 -- Ending: a chunk that succeeds is committed, and one that fails is rolled back.
-use Rattle.std.proofs.Common.{◌≡◌, refl, sym, ap, ◌∙◌, subst, ℕ, zero, suc, ◌<◌, ◌+◌, ◌-◌, ℤ, pos, List, [], ◌∷◌, length, length-append, get_or, arith}
+use Rattle.std.proofs.Common.{◌≡◌, sym, subst, ℕ, zero, suc, ◌<◌, ◌+◌, ◌-◌, ℤ, pos, List, [], ◌∷◌, length, length-append, get_or, arith}
 use Rattle.std.specs.Prelude.{◌^◌}
-use Rattle.std.specs.List.{All, AllByRecursion}
+use Rattle.std.specs.List.{All}
 use Rattle.nest_lang.specs.declared.tree.Loop.{Loop}
 use Rattle.nest_lang.specs.declared.state.Outer.{Outer}
-use Rattle.nest_lang.specs.declared.budget.Budget.{Budget}
 use Rattle.orders.specs.Orders.{Has}
 use Rattle.orders.proofs.Lists.{all_from, contains_from_has}
 use Rattle.domain.specs.declared.chunk.Chunk.{Chunk}
 use Rattle.domain.specs.Tables.{Table}
 use Rattle.domain.specs.Launches.{IsLaunched}
 use Rattle.transform.specs.Schedules.{Schedule}
-use Rattle.skeletons.specs.Cells.{Cell, Extent}
+use Rattle.skeletons.specs.Cells.{Extent}
 use Rattle.follow_chunk.specs.Predicted.{scalars_at}
 use Rattle.follow_chunk.specs.Tasks.{IsTask}
 use Rattle.compare.specs.ChainLaw.{behind}

@@ -1,12 +1,12 @@
 -- Keys: the key of a schedule against the parts of a cell.
-use Rattle.std.proofs.Common.{◌≡◌, refl, sym, ap, ap₂, ◌∙◌, subst, ℕ, ◌+◌, ◌-◌, ℤ, pos, List, [], ◌∷◌, ◌++◌, length, length-append, map, get_or, arith, Ordering, Less, Equal, Greater, int_cmp}
+use Rattle.std.proofs.Common.{◌≡◌, refl, sym, ap, ap₂, ◌∙◌, subst, ℕ, ◌+◌, ◌-◌, ℤ, pos, List, [], ◌∷◌, ◌++◌, length, length-append, get_or, arith, Ordering, Less, Equal, Greater, int_cmp}
 use Rattle.std.specs.Prelude.{replicate}
 use Rattle.std.specs.Ordering.{ordering_then}
 use Rattle.std.specs.Cmp.Lexicographic.{slice_cmp}
 use Rattle.std.proofs.lemmas.Cmp.{tied_itself, lists_total, int_cmp_total}
 use Rattle.std.proofs.lemmas.List.{length-map}
 use Rattle.plain_lemmas.proofs.OrderLaws.{slice_cmp-append_same, slice_cmp-exact}
-use Rattle.transform.specs.Schedules.{Line, Schedule, leading, band, lead, tile, wave, phase, place, wide_lead, wide_tile, along, tile_along}
+use Rattle.transform.specs.Schedules.{Schedule, leading, band, lead, tile, wave, phase, place, wide_lead, wide_tile, along, tile_along}
 use Rattle.dependence.specs.Laws.{schedule_key}
 
 then-assoc : (a b c : Ordering) → ordering_then a (ordering_then b c) ≡ ordering_then (ordering_then a b) c

@@ -1,5 +1,5 @@
 -- Phasing: the phases of a plan have the phase keys of a chunk, one each.
-use Rattle.std.proofs.Common.{◌≡◌, refl, sym, ap, ap₂, ◌∙◌, subst, ℕ, ◌≤◌, ◌+◌, inl, inr, ⊎_elim, ℤ, List, [], ◌∷◌, ◌++◌, length, Ordering, Less, int_cmp, arith}
+use Rattle.std.proofs.Common.{◌≡◌, refl, sym, ap, ap₂, ◌∙◌, subst, ◌≤◌, inl, inr, ⊎_elim, ℤ, List, [], ◌∷◌, ◌++◌, length, Less, int_cmp, arith}
 use Rattle.std.specs.Prelude.{◌↔◌}
 use Rattle.std.specs.List.{AllByRecursion}
 use Rattle.std.specs.Cmp.Lexicographic.{slice_cmp}
@@ -7,7 +7,7 @@ use Rattle.std.proofs.lemmas.Cmp.{lists_total, int_cmp_total}
 use Rattle.orders.specs.Orders.{Ordered, Has, Differ}
 use Rattle.orders.proofs.Lists.{all_has, all_from, has_left, has_right, has_cases}
 use Rattle.orders.proofs.Sorts.{never_itself}
-use Rattle.domain.specs.Instances.{Instance, Predicted, padded}
+use Rattle.domain.specs.Instances.{Instance, padded}
 use Rattle.transform.specs.Schedules.{phase}
 use Rattle.skeletons.specs.Cells.{Cell, Extent, LiesIn, AreCellsOf, cell_of}
 use Rattle.tiles.specs.Plans.{Phase, cells_of, phase_key, KeyLess, IsOnePhase, PhaseComes}

@@ -1,5 +1,5 @@
 -- Restoring: what was changed of a chunk's words is what was kept.
-use Rattle.std.proofs.Common.{◌≡◌, refl, sym, ap, ap₂, ◌∙◌, subst, ℕ, ℤ, pos, true, true≢false, ◌==◌, List, eq-eqb}
+use Rattle.std.proofs.Common.{◌≡◌, refl, sym, ap, ap₂, ◌∙◌, subst, ℕ, ℤ, true, true≢false, ◌==◌, List, eq-eqb}
 use Rattle.std.specs.List.{Contains}
 use Rattle.std.proofs.lemmas.List.Folds.{list_any_at}
 use Rattle.core_steps.specs.Numbers.{has}
@@ -9,7 +9,7 @@ use Rattle.backup.specs.declared.keep.Kept.{Kept}
 use Rattle.backup.specs.Backups.{addresses_kept, DiffersOnlyAt, IsRestoredView}
 use Rattle.backup.specs.Stripes.{addresses_of_all}
 use Rattle.skeletons.specs.Cells.{Extent}
-use Rattle.tiles.specs.Plans.{ChunkPlan, ChunkWrites, IsPlanOf}
+use Rattle.tiles.specs.Plans.{ChunkPlan, IsPlanOf}
 use Rattle.worker.specs.Bases.{unstored}
 use Rattle.chunk_run.specs.Parts.{ChangesChunk}
 
@@ -22,7 +22,7 @@ pub differs-at_kept : (e : Extent) (words : ℕ) (plan : ChunkPlan) (backup : Li
 differs-at_kept e words plan backup m w is kept changes = record {
   length = sym changes.long;
   others = λ a away. sym (changes.others a (λ x p writes.
-  true≢false (sym (has-contained (addresses_of_all plan.stripes) a ((is.stores a).1 (record { at = x; predicted = p; writes = writes }))) ∙ ap (has a) (sym kept) ∙ away)));
+      true≢false (sym (has-contained (addresses_of_all plan.stripes) a ((is.stores a).1 (record { at = x; predicted = p; writes = writes }))) ∙ ap (has a) (sym kept) ∙ away)));
 }
 
 -- a seat whose view was restored is as it was, but for the base and the latest store

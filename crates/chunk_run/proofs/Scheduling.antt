@@ -1,17 +1,17 @@
 -- Scheduling: the lists of a chunk's cells, one after another, are its scheduled list.
-use Rattle.std.proofs.Common.{◌≡◌, refl, sym, ap, ap₂, ◌∙◌, subst, ℕ, inl, inr, ℤ, pos, List, [], ◌∷◌, ◌++◌, Ordering, Less, Equal, Greater, int_cmp}
+use Rattle.std.proofs.Common.{◌≡◌, refl, sym, ap, ◌∙◌, subst, ℤ, pos, List, [], ◌∷◌, Ordering, Less, Equal, Greater, int_cmp}
 use Rattle.std.specs.List.{AllByRecursion}
 use Rattle.std.specs.Ordering.{ordering_then}
 use Rattle.std.specs.Cmp.Lexicographic.{slice_cmp}
 use Rattle.std.proofs.lemmas.Cmp.{tied_itself, int_cmp_total}
-use Rattle.orders.specs.Orders.{Ordered, Has, SameElements, Across}
+use Rattle.orders.specs.Orders.{Ordered, Has, Across}
 use Rattle.orders.specs.Tiles.{flat}
 use Rattle.orders.proofs.Lists.{all_has, all_from, has_from_contains, contains_from_has}
-use Rattle.orders.proofs.Sorts.{has_flat, flat_has, ordered_flat}
-use Rattle.domain.specs.Instances.{Instance, Predicted, IsOriginal, padded}
+use Rattle.orders.proofs.Sorts.{flat_has, ordered_flat}
+use Rattle.domain.specs.Instances.{Instance, IsOriginal, padded}
 use Rattle.transform.specs.Schedules.{wave, wide_lead, wide_tile}
-use Rattle.dependence.specs.Laws.{key_at, ComesFirst, IsScheduled}
-use Rattle.skeletons.specs.Cells.{Cell, Extent, LiesIn, Comes, CellComes, IsListOf, AreListsOf, AreCellsOf, cell_of, place_key}
+use Rattle.dependence.specs.Laws.{ComesFirst, IsScheduled}
+use Rattle.skeletons.specs.Cells.{Cell, Extent, LiesIn, Comes, CellComes, AreListsOf, AreCellsOf, cell_of, place_key}
 use Rattle.chunk_run.proofs.Keys.{cmp-key, same-itself}
 use Rattle.chunk_run.proofs.CellLists.{ordered-into, cell-list, list-cell, flat-predicted}
 
@@ -73,8 +73,8 @@ module _ (e : Extent) where
   across (c ∷ cells) [] ord f = absurd f
   across (c ∷ cells) (xs ∷ lists) ord f = (
     all_from (Across (ComesFirst e.table e.schedule) xs) lists (λ ys there x y h k.
-    let (d, found, is) = list-cell e cells lists ys f.1 there in
-    across-cells c d x y (all_has (CellComes c) cells d ord.0 found) ((f.0.has x).0 h) ((is.has y).0 k)),
+        let (d, found, is) = list-cell e cells lists ys f.1 there in
+        across-cells c d x y (all_has (CellComes c) cells d ord.0 found) ((f.0.has x).0 h) ((is.has y).0 k)),
     across cells lists ord.1 f.1,
   )
 

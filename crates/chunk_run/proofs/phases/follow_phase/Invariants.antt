@@ -1,4 +1,4 @@
-use Rattle.std.proofs.Common.{◌≡◌, List, length, take}
+use Rattle.std.proofs.Common.{◌≡◌, length, take}
 use Rattle.orders.specs.Tiles.{flat}
 use Rattle.skeletons.specs.Cells.{AreListsOf}
 use Rattle.chunk_run.specs.Parts.{FollowsWithin, ChangesChunk}

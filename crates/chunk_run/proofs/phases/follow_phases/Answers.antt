@@ -1,4 +1,4 @@
-use Rattle.std.proofs.Common.{◌≡◌, refl, sym, ◌∙◌, ap, subst, ℕ, ◌<◌, ◌+◌, length, pos, List, Option, None, Some, take, arith, rules}
+use Rattle.std.proofs.Common.{◌≡◌, refl, sym, ◌∙◌, ap, subst, ℕ, ◌<◌, length, pos, Option, None, Some, rules}
 use Rattle.std.specs.Prelude.{◌^◌}
 use Rattle.nest_lang.specs.Lookups.{Expectation}
 use Rattle.tiles.specs.Plans.{Phase, cells_of}

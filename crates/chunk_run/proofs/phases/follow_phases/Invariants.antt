@@ -1,4 +1,4 @@
-use Rattle.std.proofs.Common.{◌≡◌, List, take, Some}
+use Rattle.std.proofs.Common.{◌≡◌, take, Some}
 use Rattle.tiles.specs.Plans.{cells_of}
 use Rattle.chunk_run.specs.Parts.{IsPartOf, ChangesChunk}
 use Rattle.chunk_run.proofs.phases.follow_phases.Given as goal

@@ -1,10 +1,9 @@
-use Rattle.std.proofs.Common.{◌≡◌, refl, sym, ◌∙◌, ap, subst, ℕ, ℤ, ◌<◌, length, true≢false, List, rules}
+use Rattle.std.proofs.Common.{◌≡◌, sym, ◌∙◌, ap, subst, ◌<◌, length, true≢false, List, rules}
 use Rattle.std.specs.Prelude.{◌^◌}
 use Rattle.std.specs.Int.{w64, cast_signed}
 use Rattle.std.specs.List.{All}
 use Rattle.std.proofs.lemmas.List.{length-map}
 use Rattle.shared_words.specs.Memories.{signed}
-use Rattle.skeletons.specs.Cells.{Cell}
 use Rattle.tiles.specs.Plans.{ChunkPlan, Phase, cells_of}
 use Rattle.chunk_run.specs.Parts.{IsPartOf}
 use Rattle.chunk_run.proofs.Parting.{changes-none}

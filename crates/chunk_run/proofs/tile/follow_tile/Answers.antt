@@ -1,4 +1,4 @@
-use Rattle.std.proofs.Common.{◌≡◌, sym, ◌∙◌, ap, subst, ℕ, length, pos, ◌∷◌, arith, rules}
+use Rattle.std.proofs.Common.{sym, ◌∙◌, ap, subst, ℕ, length, pos, arith, rules}
 use Rattle.nest_lang.specs.Lookups.{Expectation}
 use Rattle.domain.specs.Instances.{Predicted}
 use Rattle.follow_chunk.specs.Tasks.{IsTask}
