@@ -1,2 +1,13 @@
 mod Listed
 mod Scheduled
+mod Parting
+mod Keys
+mod CellLists
+mod Scheduling
+mod Phasing
+mod Passing
+mod Closing
+mod Opening
+mod Committing
+mod Restoring
+mod Ending

@@ -32,7 +32,7 @@ from-head : (h : Head) (o : Outer) → IsPosition h o → pos 0 ≤ℤ o.next
 from-head (For lower upper stride) o (n, m, is, left, rest) = omega (arith, ints, is)
 from-head (While condition) o (n, is, rest) = omega (arith, ints, is)
 
-from-position : (loops : List Loop) (o : Outer) → IsPositionIn loops o → pos 0 ≤ℤ o.next
+pub from-position : (loops : List Loop) (o : Outer) → IsPositionIn loops o → pos 0 ≤ℤ o.next
 from-position [] o at = absurd at
 from-position (l ∷ ls) o at = from-head l.head o at
 

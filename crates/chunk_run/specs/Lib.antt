@@ -1,1 +1,4 @@
 pub mod ScheduleLaw
+pub mod ChunkEnds
+pub mod Parts
+pub mod Examples

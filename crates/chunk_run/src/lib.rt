@@ -1,11 +1,20 @@
 //! One chunk of turns in the order of a schedule.
 //!
-//! The schedule law says that a launched chunk may be run in the order of a legal schedule: the follow run of the
-//! scheduled list is that of the predicted instances in original order. It stands on the conflict law of `dependence`
-//! (a legal schedule keeps the order of each conflicting pair), on the permutation law of `follow` (a list in which each
-//! conflicting pair keeps its order has the same follow run) and on `follow_chunk` (predicted instances conflict as what
-//! they run does). The layer above, which commits a chunk or rolls it back, rests on this law and on the chain law of
-//! `compare`.
+//! `run_chunk` runs a launched chunk phase by phase and tile by tile, each instance verified against its prediction, and
+//! commits it or rolls it back. It commits exactly where the original order follows its prediction, and the state is then
+//! that of the plain run of the chunk's turns; otherwise all is as before.
+//!
+//! It stands on `tiles` (the plan of the chunk), `skeletons` (the instances of a tile), `follow_chunk` (one instance against
+//! its prediction), `backup` (the words that are predicted to be stored to), and `worker` (the port over the main seat).
+//! That the schedule's order may stand for the original one is the schedule law, from the conflict law of `dependence` and
+//! the permutation law of `follow`; that following the prediction is running plainly is the chain law of `compare`. The
+//! layer above goes from chunk to chunk.
 #![tactic(auto)]
 
 pub mod laws;
+mod phases;
+mod run;
+mod scalars;
+mod tile;
+
+pub use run::{ChunkEnd, run_chunk};

@@ -30,9 +30,9 @@ use Rattle.orders.proofs.Swaps.{some_injective}
 use Rattle.orders.proofs.Lifts.{any_has, has_any, or_from_first, or_from_second}
 use Rattle.follow.specs.Forecasts.{same_all, all_agree, Forecast}
 use Rattle.follow.specs.Reaches.{plus, reach_by, reach, Reached}
-use Rattle.follow.specs.Plans.{frame_with, work_trace, Item, Work, Runs, Evaluates}
+use Rattle.follow.specs.Plans.{frame_with, work_trace, item_trace, Item, Work, Runs, Evaluates}
 use Rattle.follow.specs.FollowRuns.{state_of, ended_with}
-use Rattle.follow.specs.Footprints.{same_kind, work_accesses, lies_in_one, follow_machine}
+use Rattle.follow.specs.Footprints.{same_kind, work_accesses, lies_in_one, item_writes, follow_machine}
 use Rattle.follow.specs.ReorderLaws.{FollowIsLawful}
 use Rattle.follow.proofs.Accessing.{only, is_access, own_accesses, own-accesses}
 
@@ -235,6 +235,15 @@ module _ (p : Forecast) where
     work-leaves (Evaluates head) s a none =
         let f : Frame = own (Evaluates head) in
         ap (λ (u : Store). slice_get u.memory a) (head-leaves (announced f s) (head_of f head s).seen (head_of f head s).value s)
+
+  -- all that an instance does leaves as many words, and each that is none of its writes
+  pub item-long : (i : Item) (s : Store) → length (after_all s (item_trace p i s).entries).memory ≡ length s.memory
+  item-long i s = after-long (item_trace p i s).entries s
+
+  pub item-leaves : (i : Item) (s : Store) (a : ℕ) → item_writes p i a ≡ false → word (after_all s (item_trace p i s).entries).memory a ≡ word s.memory a
+  item-leaves i s a none =
+      ap (λ (t : Trace). word (after_all s t.entries).memory a) (own-accesses p i.at i.values i.work s)
+      ∙ word-get (after_all s (work_trace (own i.at i.values i.work) i.work s).entries).memory s.memory a (work-leaves i.at i.values i.work s a none)
 
   module _ (after : Item → List ℤ) (words : ℕ) where
     abbrev s : Machine Item

@@ -1,6 +1,7 @@
 //! One instance of a head, evaluated at its expected scalars and compared with what is expected of it.
 
-ghost use Rattle.std.specs.Prelude.{◌≡◌, ◌≤◌, ◌+◌, ◌-◌, ◌^◌, [], length, true, false};
+ghost use Rattle.std.specs.Prelude.{◌≡◌, ◌<◌, ◌≤◌, ◌+◌, ◌-◌, ◌^◌, ℕ, pos, [], length, slice_index_or, true, false, IsOk, FitsSigned};
+ghost use Rattle.std.specs.Int.{w64};
 ghost use Rattle.nest_lang.specs.Rules.{strides};
 ghost use Rattle.nest_lang.specs.Heads.{head_of};
 ghost use Rattle.nest_lang.specs.Stores.{store_of};
@@ -116,8 +117,9 @@ fn head_verified<P: Port>(
 
 /// Evaluates an instance of a head with these scalars, and compares it with what is expected of it: each address
 /// before the port is asked, the lower bound and the trip of a `for` or the condition of a `while`, and then each
-/// scalar. It gives the steps, which are at most those left, or how it differs first. The steps left are at most
-/// 2^32, there are at most 256 scalars, and a stride is not 0.
+/// scalar. It gives the steps, which are at most those left, or how it differs first. Where it doesn't differ, the scalars
+/// that are expected after it are i64s. The steps left are at most 2^32, there are at most 256 scalars, and a stride is
+/// not 0.
 pub fn follow_head<P: Port>(
     site: &Site<'_>,
     head: &Head,
@@ -134,6 +136,7 @@ pub fn follow_head<P: Port>(
     ensures followed { (p : Forecast) (next : Occurrence) → Foretold p (occurrence_at site.now) next scalars.old expected.now.intervals.now expected.now.after.now → IsTurning p (occurrence_at site.now) head.now turning
         → IsFollowed p next (work_trace (frame_at site.now (expectation_at p (occurrence_at site.now))) (Evaluates head.now) (store_of (P.memory port.old) scalars.old [])) (store_of (P.memory port.old) scalars.old []) left result (P.memory port.new) }
     ensures memory { P.memory port.new ≡ P.memory port.old }
+    ensures fits { IsOk result → (k : ℕ) → k < length scalars.old → FitsSigned w64 (slice_index_or expected.now.after.now k (pos 0)) }
     ensures scalars { scalars.new ≡ scalars.old }
     ensures expects { P.expects port.new ≡ P.expects port.old }
     ensures basis { P.basis port.new ≡ P.basis port.old }

@@ -1,6 +1,7 @@
 //! How a run differs from what is expected of it.
 
-ghost use Rattle.std.specs.Prelude.{◌≡◌, ◌≤◌, Err, length};
+ghost use Rattle.std.specs.Prelude.{◌≡◌, ◌<◌, ◌≤◌, ℕ, pos, Err, IsNone, length, slice_index_or, FitsSigned};
+ghost use Rattle.std.specs.Int.{w64};
 ghost use Rattle.block_exec.specs.Halts.{finish_of};
 ghost use Rattle.follow.specs.Hows.{how_of_finish, scalars_differ};
 ghost use Rattle.follow.specs.Turnings.{turns_differ};
@@ -88,10 +89,11 @@ impl How {
         }
     }
 
-    /// The first scalar that differs from the expected one.
+    /// The first scalar that differs from the expected one. Where there is none, each of these is expected to be an i64.
     pub(crate) fn of_scalars(expected: &[i128], scalars: &[i64]) -> Option<How>
         requires { length scalars.now ≤ 256 }
-        ensures { result ≡ scalars_differ expected.now 0 scalars.now }
+        ensures first { result ≡ scalars_differ expected.now 0 scalars.now }
+        ensures fits { IsNone result → (k : ℕ) → k < length scalars.now → FitsSigned w64 (slice_index_or expected.now k (pos 0)) }
     {
         for (number, scalar) in scalars.iter().enumerate() {
             let wanted = expected.get(number).copied().unwrap_or(0);

@@ -1,6 +1,7 @@
 //! One instance, run from its expected scalars and compared with what is expected of it.
 
-ghost use Rattle.std.specs.Prelude.{◌≡◌, ◌≤◌, ◌+◌, ◌^◌, [], length, false};
+ghost use Rattle.std.specs.Prelude.{◌≡◌, ◌<◌, ◌≤◌, ◌+◌, ◌^◌, ℕ, pos, [], length, slice_index_or, false, IsOk, FitsSigned};
+ghost use Rattle.std.specs.Int.{w64};
 ghost use Rattle.nest_lang.specs.Stores.{store_of};
 ghost use Rattle.nest_lang.specs.Traces.{cut, cut_of};
 ghost use Rattle.nest_lang.specs.Statements.{instance_trace};
@@ -91,8 +92,9 @@ pub struct Expected<'e> {
 
 /// Runs an instance of a block that has statements, with these scalars, and compares it with what is expected of
 /// it: each address before the port is asked, and after the last statement each scalar. It gives the steps, which
-/// are at most those left, or how it differs first. The steps left are at most 2^32, and there are at most 256
-/// scalars.
+/// are at most those left, or how it differs first. The port's words are then those after the steps that were taken;
+/// where it doesn't differ, the scalars that are expected after it are i64s. The steps left are at most 2^32, and there
+/// are at most 256 scalars.
 pub fn follow_block<P: Port>(
     site: &Site<'_>,
     block: &[Stmt],
@@ -106,6 +108,8 @@ pub fn follow_block<P: Port>(
     requires plain { (P.expects port.old).verifies ≡ false }
     ensures followed { (p : Forecast) (next : Occurrence) → Foretold p (occurrence_at site.now) next scalars.old expected.now.intervals.now expected.now.after.now
         → IsFollowed p next (instance_trace (frame_at site.now (expectation_at p (occurrence_at site.now))) block.now (store_of (P.memory port.old) scalars.old [])) (store_of (P.memory port.old) scalars.old []) left result (P.memory port.new) }
+    ensures words { P.memory port.new ≡ (cut (instance_trace (frame_at site.now (verified_by expected.now.intervals.now)) block.now (store_of (P.memory port.old) scalars.old [])) (store_of (P.memory port.old) scalars.old []) left 0).store.memory }
+    ensures fits { IsOk result → (k : ℕ) → k < length scalars.old → FitsSigned w64 (slice_index_or expected.now.after.now k (pos 0)) }
     ensures scalars { length scalars.new ≡ length scalars.old }
     ensures expects { P.expects port.new ≡ P.expects port.old }
     ensures basis { P.basis port.new ≡ P.basis port.old }

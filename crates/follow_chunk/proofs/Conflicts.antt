@@ -117,7 +117,7 @@ same-store kinds.Store kinds.Store h = refl
 same-store kinds.Load kinds.Store h = absurd (cc)
 same-store kinds.Store kinds.Load h = absurd (cc)
 
-module _ (D scalars words : ℕ) (loops : List Loop) (t : Table) (o : Outer) (chunk : Chunk) (x : Instance) (task : IsTask D scalars loops t o chunk (pos words)) (p : Predicted t chunk x) where
+module _ (D scalars : ℕ) (words : ℤ) (loops : List Loop) (t : Table) (o : Outer) (chunk : Chunk) (x : Instance) (task : IsTask D scalars loops t o chunk words) (p : Predicted t chunk x) where
   abbrev accesses : List NestAccess
   accesses = accesses_of loops (block_ref (block_of t x).part (block_of t x).level)
 
@@ -125,16 +125,16 @@ module _ (D scalars words : ℕ) (loops : List Loop) (t : Table) (o : Outer) (ch
   i = item_at t loops o x
 
   at-is : instance_of t (item_at t loops o x).at ≡ x
-  at-is = ap (instance_of t) (whole.item-at D scalars loops t o chunk (pos words) task x p) ∙ instance-occurrence D t task.shape x p.is
+  at-is = ap (instance_of t) (whole.item-at D scalars loops t o chunk words task x p) ∙ instance-occurrence D t task.shape x p.is
 
   of : map (λ (a : Access). a.stores) (block_of t x).accesses ≡ map (λ (a : NestAccess). is_store a.kind) accesses
-  of = (standing.block-is D scalars loops t o chunk (pos words) task x p).accesses
+  of = (standing.block-is D scalars loops t o chunk words task x p).accesses
 
   numbered : AreNumbered accesses
-  numbered = standing.numbered-here D scalars loops t o chunk (pos words) task x p
+  numbered = standing.numbered-here D scalars loops t o chunk words task x p
 
   work-is : work_accesses (item_at t loops o x).work ≡ accesses
-  work-is = standing.item-accesses D scalars loops t o chunk (pos words) task x p
+  work-is = standing.item-accesses D scalars loops t o chunk words task x p
 
   interval-is : (n : ℕ) → interval_at t x n ≡ about (access_at (block_of t x) n) x.at
   unfolding interval_at expected_of form_of tube_of
@@ -188,30 +188,31 @@ module _ (D scalars words : ℕ) (loops : List Loop) (t : Table) (o : Outer) (ch
   pub writes-from : (a : ℕ) → table.Writes t x (pos a) → item_writes (forecast_of t) i a ≡ true
   writes-from a h = ap (λ (as_are : List NestAccess). lies_in_one (forecast_of t) kinds.Store i.at as_are a) work-is ∙ to-list kinds.Store a h
 
-  pub touches-to : (a : ℕ) → item_touches (forecast_of t) words i a ≡ true → table.Reads t (pos words) x (pos a) ⊎ table.Writes t x (pos a)
-  touches-to a h = by (nat_lt a words) refl (lies_in_one (forecast_of t) kinds.Load i.at (work_accesses i.work) a) refl h
+module _ (D scalars words : ℕ) (loops : List Loop) (t : Table) (o : Outer) (chunk : Chunk) (x : Instance) (task : IsTask D scalars loops t o chunk (pos words)) (p : Predicted t chunk x) where
+  pub touches-to : (a : ℕ) → item_touches (forecast_of t) words (item_at t loops o x) a ≡ true → table.Reads t (pos words) x (pos a) ⊎ table.Writes t x (pos a)
+  touches-to a h = by (nat_lt a words) refl (lies_in_one (forecast_of t) kinds.Load (item_at t loops o x).at (work_accesses (item_at t loops o x).work) a) refl h
     where
-      by : (b : Bool) → nat_lt a words ≡ b → (c : Bool) → lies_in_one (forecast_of t) kinds.Load i.at (work_accesses i.work) a ≡ c → (b && c) || item_writes (forecast_of t) i a ≡ true → table.Reads t (pos words) x (pos a) ⊎ table.Writes t x (pos a)
+      by : (b : Bool) → nat_lt a words ≡ b → (c : Bool) → lies_in_one (forecast_of t) kinds.Load (item_at t loops o x).at (work_accesses (item_at t loops o x).work) a ≡ c → (b && c) || item_writes (forecast_of t) (item_at t loops o x) a ≡ true → table.Reads t (pos words) x (pos a) ⊎ table.Writes t x (pos a)
       by true e true f g =
           let l : a < words = grind (arith, nat_tests) in
-          inl (to-table kinds.Load a (sym (ap (λ (as_are : List NestAccess). lies_in_one (forecast_of t) kinds.Load i.at as_are a) work-is) ∙ f), omega (arith, ints), omega (arith, ints))
-      by true e false f g = inr (writes-to a g)
-      by false e c f g = inr (writes-to a g)
+          inl (to-table D scalars (pos words) loops t o chunk x task p kinds.Load a (sym (ap (λ (as_are : List NestAccess). lies_in_one (forecast_of t) kinds.Load (item_at t loops o x).at as_are a) (work-is D scalars (pos words) loops t o chunk x task p)) ∙ f), omega (arith, ints), omega (arith, ints))
+      by true e false f g = inr (writes-to D scalars (pos words) loops t o chunk x task p a g)
+      by false e c f g = inr (writes-to D scalars (pos words) loops t o chunk x task p a g)
 
   or-true : (b : Bool) → b || true ≡ true
   or-true true = refl
   or-true false = refl
 
-  pub touches-from : (a : ℕ) → table.Reads t (pos words) x (pos a) ⊎ table.Writes t x (pos a) → item_touches (forecast_of t) words i a ≡ true
-  touches-from a (inr h) = ap (λ (b : Bool). item_reads (forecast_of t) words i a || b) (writes-from a h) ∙ or-true (item_reads (forecast_of t) words i a)
+  pub touches-from : (a : ℕ) → table.Reads t (pos words) x (pos a) ⊎ table.Writes t x (pos a) → item_touches (forecast_of t) words (item_at t loops o x) a ≡ true
+  touches-from a (inr h) = ap (λ (b : Bool). item_reads (forecast_of t) words (item_at t loops o x) a || b) (writes-from D scalars (pos words) loops t o chunk x task p a h) ∙ or-true (item_reads (forecast_of t) words (item_at t loops o x) a)
   touches-from a (inl h) =
       let below = h.2 in
       let l : nat_lt a words ≡ true = (let m : a < words = omega (arith, ints) in grind (arith, nat_tests)) in
-      ap (λ (b : Bool). b || item_writes (forecast_of t) i a) (ap₂ (λ (u v : Bool). u && v) l (ap (λ (as_are : List NestAccess). lies_in_one (forecast_of t) kinds.Load i.at as_are a) work-is ∙ to-list kinds.Load a h.0))
+      ap (λ (b : Bool). b || item_writes (forecast_of t) (item_at t loops o x) a) (ap₂ (λ (u v : Bool). u && v) l (ap (λ (as_are : List NestAccess). lies_in_one (forecast_of t) kinds.Load (item_at t loops o x).at as_are a) (work-is D scalars (pos words) loops t o chunk x task p) ∙ to-list D scalars (pos words) loops t o chunk x task p kinds.Load a h.0))
 
 pub conflicts-agree : ConflictsAgree
 conflicts-agree D scalars words loops t o chunk x y task p q = (
-  λ c. (pos c.0, ⊎_elim (λ h. inl (writes-to D scalars words loops t o chunk x task p c.0 h.0, touches-to D scalars words loops t o chunk y task q c.0 h.1)) (λ h. inr (writes-to D scalars words loops t o chunk y task q c.0 h.0, touches-to D scalars words loops t o chunk x task p c.0 h.1)) c.1),
+  λ c. (pos c.0, ⊎_elim (λ h. inl (writes-to D scalars (pos words) loops t o chunk x task p c.0 h.0, touches-to D scalars words loops t o chunk y task q c.0 h.1)) (λ h. inr (writes-to D scalars (pos words) loops t o chunk y task q c.0 h.0, touches-to D scalars words loops t o chunk x task p c.0 h.1)) c.1),
   λ c. back c.0 c.1,
 )
   where
@@ -220,7 +221,7 @@ conflicts-agree D scalars words loops t o chunk x y task p q = (
 
     back : (a : ℤ) → (table.Writes t x a × (table.Reads t (pos words) y a ⊎ table.Writes t y a)) ⊎ (table.Writes t y a × (table.Reads t (pos words) x a ⊎ table.Writes t x a))
         → list.Conflict (forecast_of t) words (item_at t loops o x) (item_at t loops o y)
-    back (pos a) (inl h) = (a, inl (writes-from D scalars words loops t o chunk x task p a h.0, touches-from D scalars words loops t o chunk y task q a h.1))
-    back (pos a) (inr h) = (a, inr (writes-from D scalars words loops t o chunk y task q a h.0, touches-from D scalars words loops t o chunk x task p a h.1))
+    back (pos a) (inl h) = (a, inl (writes-from D scalars (pos words) loops t o chunk x task p a h.0, touches-from D scalars words loops t o chunk y task q a h.1))
+    back (pos a) (inr h) = (a, inr (writes-from D scalars (pos words) loops t o chunk y task q a h.0, touches-from D scalars words loops t o chunk x task p a h.1))
     back (negsuc n) (inl h) = absurd (let l = word x p (negsuc n) h.0 in omega (arith, ints))
     back (negsuc n) (inr h) = absurd (let l = word y q (negsuc n) h.0 in omega (arith, ints))

@@ -10,3 +10,4 @@ pub mod Whole
 pub mod Listing
 pub mod Conflicts
 pub mod Premises
+pub mod Keeping

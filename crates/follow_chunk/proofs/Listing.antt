@@ -22,7 +22,7 @@ module _ (p : Forecast) (after : Item → List ℤ) where
   plus-zero None = refl
   plus-zero (Some r) = let e : 0 + r.steps ≡ r.steps = omega arith in ap (λ (n : ℕ). Some (record { memory = r.memory; steps = n })) e
 
-  run-append : (xs ys : List Item) (m : List ℤ) → follow_run p after (xs ++ ys) m ≡ and_then (follow_run p after xs m) (follow_run p after ys)
+  pub run-append : (xs ys : List Item) (m : List ℤ) → follow_run p after (xs ++ ys) m ≡ and_then (follow_run p after xs m) (follow_run p after ys)
   run-append [] ys m = sym (plus-zero (follow_run p after ys m))
   run-append (x ∷ xs) ys m = by (λ w. run-append xs ys w) (follow_one p after x m) ∙ sym (then-then (follow_one p after x m) (follow_run p after xs) (follow_run p after ys))
     where

@@ -119,10 +119,10 @@ module _ (D scalars : ℕ) (loops : List Loop) (t : Table) (o : Outer) (chunk : 
     pub site-is : occurrence_at site ≡ occurrence_of t x
     site-is = at-site ∙ standing.occurrence-here D scalars loops t o chunk words task x p
 
-    told : Foretold q (occurrence_at site) (occurrence_of t (next t x)) (scalars_at t x) intervals (scalars_at t (next t x))
+    pub told : Foretold q (occurrence_at site) (occurrence_of t (next t x)) (scalars_at t x) intervals (scalars_at t (next t x))
     told = subst (λ (i : Occurrence). Foretold q i (occurrence_of t (next t x)) (scalars_at t x) intervals (scalars_at t (next t x))) (sym site-is) (foretold intervals each)
 
-    frame-is : frame_at site (expectation_at q (occurrence_at site)) ≡ frame_with here (standing.A D scalars loops t o chunk words task x p).values (expectation_at q here)
+    pub frame-is : frame_at site (expectation_at q (occurrence_at site)) ≡ frame_with here (standing.A D scalars loops t o chunk words task x p).values (expectation_at q here)
     frame-is = frames (expectation_at q (occurrence_at site)) ∙ ap (λ (i : Occurrence). frame_with here (standing.A D scalars loops t o chunk words task x p).values (expectation_at q i)) at-site
 
     pub run-work : (w : Work) → item_at t loops o x ≡ item (block_of t x).part (block_of t x).level (standing.A D scalars loops t o chunk words task x p) w

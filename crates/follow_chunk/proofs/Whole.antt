@@ -168,7 +168,7 @@ module _ (D scalars : ℕ) (loops : List Loop) (t : Table) (o : Outer) (chunk : 
   pub item-at : (item_at t loops o x).at ≡ occurrence_of t x
   item-at = ap (λ (i : Item). i.at) works.1 ∙ standing.occurrence-here D scalars loops t o chunk words task x p
 
-  few-steps : (s : Store) → length (item_trace q (item_at t loops o x) s).entries ≤ 2 ^ 32
+  pub few-steps : (s : Store) → length (item_trace q (item_at t loops o x) s).entries ≤ 2 ^ 32
   few-steps s = subst (λ (i : Item). length (item_trace q i s).entries ≤ 2 ^ 32) (sym works.1) (works.2 _ s)
 
   -- the follow run of one instance, in the terms of its run

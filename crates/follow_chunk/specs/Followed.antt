@@ -1,11 +1,13 @@
 -- Followed: instances of a table against what is expected of them.
-use Rattle.std.specs.Prelude.{◌≡◌, ◌≢◌, ◌^◌, ℕ, List, ℤ, [], ◌∷◌, ◌++◌, Some, None, Result, Ok, Err}
+use Rattle.std.specs.Prelude.{◌≡◌, ◌≢◌, ◌^◌, ℕ, List, ℤ, pos, [], ◌∷◌, ◌++◌, length, slice_index_or, FitsSigned, Some, None, Result, Ok, Err}
+use Rattle.std.specs.Int.{w64}
 use Rattle.nest_lang.specs.declared.tree.Loop.{Loop}
 use Rattle.nest_lang.specs.declared.state.Outer.{Outer}
 use Rattle.nest_lang.specs.Stores.{Store, store_of}
 use Rattle.domain.specs.Tables.{Table}
 use Rattle.domain.specs.Instances.{Instance}
 use Rattle.domain.specs.Steps.{next}
+use Rattle.domain.specs.Footprints.{Writes}
 use Rattle.follow.specs.declared.how.How.{How}
 use Rattle.follow.specs.declared.how.How.TheVariants.{Limit}
 use Rattle.follow.specs.Plans.{item_trace}
@@ -41,6 +43,20 @@ pub record Deviates (t : Table) (loops : List Loop) (o : Outer) (x : Instance) (
 abbrev pub IsInstanceFollowed : {D : ℕ} → Table → List Loop → Outer → Instance → List ℤ → Followed D → List ℤ → Type 0
 IsInstanceFollowed t loops o x words (Same steps) after = Follows t loops o x steps words after
 IsInstanceFollowed t loops o x words (Differs d) after = (d.at ≡ x) × Deviates t loops o x d.how words
+
+-- whether it deviates or not, it leaves as many words, and each that is none of its writes
+pub record ChangesWrites (t : Table) (x : Instance) (words after : List ℤ) : Type 0 where
+  pub long : length after ≡ length words
+  pub others : (address : ℕ) → (Writes t x (pos address) → ⊥) → slice_index_or after address (pos 0) ≡ slice_index_or words address (pos 0)
+
+-- each scalar that the successor of an instance begins with is an i64
+abbrev pub ClosesSmall : Table → Instance → Type 0
+ClosesSmall t x = (number : ℕ) → FitsSigned w64 (slice_index_or (scalars_at t (next t x)) number (pos 0))
+
+-- and so it is where the instance doesn't deviate
+abbrev pub IsClosedSmall : {D : ℕ} → Table → Instance → Followed D → Type 0
+IsClosedSmall t x (Same steps) = ClosesSmall t x
+IsClosedSmall t x (Differs d) = Unit {0}
 
 -- x is the first instance of a list that deviates, run from where those before it lead
 pub record FirstDeviates (t : Table) (loops : List Loop) (o : Outer) (xs : List Instance) (x : Instance) (how : How) (words : List ℤ) : Type 0 where

@@ -1,6 +1,6 @@
 //! One instance, run from its expected scalars and compared with what is predicted of it.
 
-ghost use Rattle.std.specs.Prelude.{◌≡◌, ◌<◌, ℕ, Some, false, length, pos};
+ghost use Rattle.std.specs.Prelude.{◌≡◌, ◌<◌, ℕ, Some, false, length, pos, IsOk};
 ghost use Rattle.nest_lang.specs.declared.tree.Part.TheVariants.{Head as HeadPart};
 ghost use Rattle.nest_lang.specs.Blocks.{block_ref, head_at};
 ghost use Rattle.domain.specs.Instances.{block_of, Predicted};
@@ -9,7 +9,7 @@ ghost use Rattle.follow.specs.Intervals.{interval_of};
 ghost use Rattle.follow.specs.Turnings.{IsTurning};
 ghost use Rattle.follow_chunk.specs.Predicted.{occurrence_of, scalars_at, interval_at, forecast_of};
 ghost use Rattle.follow_chunk.specs.Tasks.{IsTask, IsSomeTask};
-ghost use Rattle.follow_chunk.specs.Followed.{IsRun, IsInstanceFollowed};
+ghost use Rattle.follow_chunk.specs.Followed.{IsRun, IsInstanceFollowed, ChangesWrites, ClosesSmall, IsClosedSmall};
 
 use crate::expect::{intervals_at, narrowed, scalars_at};
 use crate::place::cut;
@@ -98,6 +98,8 @@ impl<const D: usize> Task<'_, D> {
         requires predicted { Predicted self.now.pred.now self.now.chunk inst.now }
         requires plain { (P.expects port.old).verifies ≡ false }
         ensures run { IsRun self.now.pred.now self.now.nest.now.loops self.now.outer inst.now (P.memory port.old) result (P.memory port.new) }
+        ensures changes { ChangesWrites self.now.pred.now inst.now (P.memory port.old) (P.memory port.new) }
+        ensures closes { IsOk result → ClosesSmall self.now.pred.now inst.now }
         ensures expects { P.expects port.new ≡ P.expects port.old }
         ensures basis { P.basis port.new ≡ P.basis port.old }
     {
@@ -126,7 +128,8 @@ impl<const D: usize> Task<'_, D> {
 
 /// Runs one instance from its expected scalars, and compares it with what is predicted of it: each address before the
 /// port is asked, what a head yields, and after the last step each scalar with that expected of the instance's
-/// successor. The instance is predicted in the task's chunk, and the port doesn't verify.
+/// successor, which is then an i64. Whether it differs or not, it changes no word that is none of its writes. The instance
+/// is predicted in the task's chunk, and the port doesn't verify.
 pub fn follow_instance<P: Port, const D: usize>(
     task: &Task<'_, D>,
     inst: &Instance<D>,
@@ -137,6 +140,8 @@ pub fn follow_instance<P: Port, const D: usize>(
     requires predicted { Predicted task.now.pred.now task.now.chunk inst.now }
     requires plain { (P.expects port.old).verifies ≡ false }
     ensures followed { IsInstanceFollowed task.now.pred.now task.now.nest.now.loops task.now.outer inst.now (P.memory port.old) result (P.memory port.new) }
+    ensures changes { ChangesWrites task.now.pred.now inst.now (P.memory port.old) (P.memory port.new) }
+    ensures closes { IsClosedSmall task.now.pred.now inst.now result }
     ensures expects { P.expects port.new ≡ P.expects port.old }
     ensures basis { P.basis port.new ≡ P.basis port.old }
 {

@@ -19,6 +19,7 @@ mod list;
 mod place;
 mod task;
 
+pub use expect::{narrowed, scalars_at};
 pub use instance::follow_instance;
 pub use list::follow_list;
 pub use task::{Deviation, Followed, Task};

@@ -73,7 +73,7 @@ ordered_map {X} {Y} f R S (x ∷ xs) h o = (
   ordered_map f R S xs (λ a b k l. h a b (inr k) (inr l)) o.1,
 )
 
-chosen-has : (p : Instance → Bool) (xs : List Instance) (x : Instance) → Has (chosen p xs) x → Has xs x × (p x ≡ true)
+pub chosen-has : (p : Instance → Bool) (xs : List Instance) (x : Instance) → Has (chosen p xs) x → Has xs x × (p x ≡ true)
 chosen-has p [] x h = absurd h
 chosen-has p (y ∷ ys) x h = by (p y) refl h (λ k. chosen-has p ys x k)
   where
@@ -82,7 +82,7 @@ chosen-has p (y ∷ ys) x h = by (p y) refl h (λ k. chosen-has p ys x k)
     by true e (inr k) more = let a = more k in (inr a.0, a.1)
     by false e k more = let a = more k in (inr a.0, a.1)
 
-has-chosen : (p : Instance → Bool) (xs : List Instance) (x : Instance) → Has xs x → p x ≡ true → Has (chosen p xs) x
+pub has-chosen : (p : Instance → Bool) (xs : List Instance) (x : Instance) → Has xs x → p x ≡ true → Has (chosen p xs) x
 has-chosen p [] x h i = absurd h
 has-chosen p (y ∷ ys) x h i = by (p y) refl h (λ k. has-chosen p ys x k i)
   where
@@ -92,7 +92,7 @@ has-chosen p (y ∷ ys) x h i = by (p y) refl h (λ k. has-chosen p ys x k i)
     by false e (inl f) more = absurd (let w : true ≡ false = sym i ∙ ap p f ∙ e in cc)
     by false e (inr k) more = more k
 
-chosen-ordered : (p : Instance → Bool) (R : Instance → Instance → Type 0) (xs : List Instance) → Ordered R xs → Ordered R (chosen p xs)
+pub chosen-ordered : (p : Instance → Bool) (R : Instance → Instance → Type 0) (xs : List Instance) → Ordered R xs → Ordered R (chosen p xs)
 chosen-ordered p R [] o = tt
 chosen-ordered p R (x ∷ xs) o = by (p x) (chosen-ordered p R xs o.1)
   where
@@ -105,7 +105,7 @@ equal-is Less h = absurd (let w : false ≡ true = h in cc)
 equal-is Equal h = refl
 equal-is Greater h = absurd (let w : false ≡ true = h in cc)
 
-same-cell : (c d : Cell) → is_cell c d ≡ true → c ≡ d
+pub same-cell : (c d : Cell) → is_cell c d ≡ true → c ≡ d
 same-cell c d h =
     let a = and_parts (is_eq (slice_cmp int_cmp c.lead d.lead) && is_eq (slice_cmp int_cmp (c.wave ∷ []) (d.wave ∷ []))) (is_eq (slice_cmp int_cmp c.tile d.tile)) h in
     let b = and_parts (is_eq (slice_cmp int_cmp c.lead d.lead)) (is_eq (slice_cmp int_cmp (c.wave ∷ []) (d.wave ∷ []))) a.0 in
@@ -114,7 +114,7 @@ same-cell c d h =
     cells : c.lead ≡ d.lead → c.wave ≡ d.wave → c.tile ≡ d.tile → c ≡ d
     cells a b e = ap₂ (λ (l t : List ℤ). record { lead = l; wave = c.wave; tile = t }) a e ∙ ap (λ (w : ℤ). record { lead = d.lead; wave = w; tile = d.tile }) b
 
-cell-same : (c d : Cell) → c ≡ d → is_cell c d ≡ true
+pub cell-same : (c d : Cell) → c ≡ d → is_cell c d ≡ true
 cell-same c d h = subst (λ (x : Cell). is_cell c x ≡ true) h (both (is_eq (slice_cmp int_cmp c.lead c.lead) && is_eq (slice_cmp int_cmp (c.wave ∷ []) (c.wave ∷ []))) (is_eq (slice_cmp int_cmp c.tile c.tile))
     (both (is_eq (slice_cmp int_cmp c.lead c.lead)) (is_eq (slice_cmp int_cmp (c.wave ∷ []) (c.wave ∷ []))) (itself c.lead) (itself (c.wave ∷ []))) (itself c.tile))
   where

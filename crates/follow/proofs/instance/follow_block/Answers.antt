@@ -1,4 +1,5 @@
-use Rattle.std.proofs.Common.{◌≡◌, [], Some, None, rules}
+use Rattle.std.proofs.Common.{◌≡◌, ap, [], Some, None, rules}
+use Rattle.nest_lang.specs.Traces.{Cut}
 use Rattle.follow.specs.Followed.{occurrence_at}
 use Rattle.follow.specs.Hows.{scalars_differ}
 use Rattle.follow.proofs.FollowedLaws.{block-cut, block-scalar, block-done}
@@ -23,3 +24,12 @@ returns-clause-followed g c = λ p next told.
     block-done p (occurrence_at c.args.site.now) next c.args.site.now.values.now c.args.scalars.now c.args.expected.now.intervals.now c.args.expected.now.after.now told (g.P.Port.memory c.args.port.now) c.args.block.now
     c.args.left c.block_verified-ended.result.steps.left c.block_verified-ended.result.steps.used c.block_verified-ended.result.end c.in_default.field-0 c.block_verified-ended.result.halt
     (g.P.Port.memory c.block_verified-ended.new.port) c.block_verified-ended.new.scalars c.block_verified-ended.ensures.ran c.in_default.is c.block_verified-ended.ensures.steps c.block_verified-ended.ensures.scalars same
+
+pub returns-in-Err-clause-words : goal.returns-in-Err-clause-words
+returns-in-Err-clause-words g c = ap (λ (z : Cut). z.store.memory) c.block_verified-ended.ensures.ran
+
+pub returns-in-Some-clause-words : goal.returns-in-Some-clause-words
+returns-in-Some-clause-words g c = ap (λ (z : Cut). z.store.memory) c.block_verified-ended.ensures.ran
+
+pub returns-clause-words : goal.returns-clause-words
+returns-clause-words g c = ap (λ (z : Cut). z.store.memory) c.block_verified-ended.ensures.ran

@@ -14,6 +14,7 @@ use Rattle.follow.specs.Intervals.{interval_of}
 use Rattle.follow_chunk.specs.Items.{around_of}
 use Rattle.follow_chunk.proofs.Standing.{counters-here, none-head, strides-here, head-same}
 use Rattle.follow_chunk.proofs.Running.{run-block, run-head}
+use Rattle.follow_chunk.proofs.Keeping.{changes-nothing, changes-block, closes-small}
 use Rattle.follow_chunk.proofs.task.Task.follow.Goals as goal
 
 pub places-places-requires : goal.places-places-requires
@@ -70,3 +71,47 @@ returns-clause-run g c =
     let none = ap (statements_of loops) (sym c.block-block.ensures) ∙ sym c.statements.ensures ∙ ap (option_map (λ ss. ss.now)) c.in_default-statements.is in
     run-head g.row.D self.scalars self.nest.now.loops self.pred.now self.outer self.chunk task.0 task.1 x p c.site-site.result frames c.as_slice.result.now each (g.P.Port.memory c.args.port.now) (g.P.Port.memory c.follow_head.new.port) c.follow_head.result
     c.as_mut_slice-scalars.result.now c.as_slice-2.result.now c.in-Some-head.head.now c.turning-turning.result begins closes head_is (none-head g.row.D self.scalars self.nest.now.loops self.pred.now self.outer self.chunk task.0 task.1 x p none) c.turning-turning.ensures c.follow_head.ensures.followed
+
+pub returns-in-Some-statements-clause-changes : goal.returns-in-Some-statements-clause-changes
+returns-in-Some-statements-clause-changes g c =
+    let self = c.args.self.now in
+    let task = c.requires.task in
+    let x = c.args.inst.now in
+    let p = c.requires.predicted in
+    let t = self.pred.now in
+    let loops = self.nest.now.loops in
+    let counts : c.in-Some.loops ≡ counters t (block_of t x) = (let e = sym c.in-Some.is ∙ c.counters.ensures ∙ ap (counters_of loops) c.block-block.ensures ∙ counters-here g.row.D self.scalars self.nest.now.loops self.pred.now self.outer self.chunk task.0 task.1 x p in cc) in
+    let frames = λ (e : Expectation). c.site-site.ensures e ∙ ap (λ (r : BlockRef). frame_of e r.part r.level (around_at c.in-Some.loops c.places-places.result)) c.block-block.ensures
+    ∙ ap (frame_of e (block_of t x).part (block_of t x).level) (c.places-places.ensures ∙ ap (λ (n : ℕ). around_of t loops self.outer (take n x.at)) counts) in
+    let each = λ (access : ℕ). c.due-due.ensures.intervals access ∙ ap (λ (xs : List (Option Interval)). interval_of xs access) (sym c.as_slice.ensures.value) in
+    let begins = c.as_mut_slice-scalars.ensures.value ∙ c.due-due.ensures.scalars in
+    let is = ap (statements_of loops) (sym c.block-block.ensures) ∙ sym c.statements.ensures ∙ ap (option_map (λ ss. ss.now)) c.in-Some-statements.is in
+    changes-block g.row.D self.scalars self.nest.now.loops self.pred.now self.outer self.chunk task.0 task.1 x p c.site-site.result frames c.as_slice.result.now each (g.P.Port.memory c.args.port.now) (g.P.Port.memory c.follow_block.new.port)
+    c.as_mut_slice-scalars.result.now c.in-Some-statements.statements.now begins is c.follow_block.ensures.words
+
+pub returns-in-Some-statements-clause-closes : goal.returns-in-Some-statements-clause-closes
+returns-in-Some-statements-clause-closes g c = λ ok.
+    let self = c.args.self.now in
+    let task = c.requires.task in
+    let x = c.args.inst.now in
+    let p = c.requires.predicted in
+    let t = self.pred.now in
+    let loops = self.nest.now.loops in
+    let begins = c.as_mut_slice-scalars.ensures.value ∙ c.due-due.ensures.scalars in
+    let closes = c.as_slice-2.ensures.value ∙ c.due-due.ensures.after in
+    closes-small g.row.D self.scalars loops t self.outer self.chunk task.0 task.1 x p c.as_mut_slice-scalars.result.now c.as_slice-2.result.now begins closes (c.follow_block.ensures.fits ok)
+
+pub returns-clause-changes : goal.returns-clause-changes
+returns-clause-changes g c = changes-nothing c.args.self.now.pred.now c.args.inst.now (g.P.Port.memory c.args.port.now) (g.P.Port.memory c.follow_head.new.port) c.follow_head.ensures.memory
+
+pub returns-clause-closes : goal.returns-clause-closes
+returns-clause-closes g c = λ ok.
+    let self = c.args.self.now in
+    let task = c.requires.task in
+    let x = c.args.inst.now in
+    let p = c.requires.predicted in
+    let t = self.pred.now in
+    let loops = self.nest.now.loops in
+    let begins = c.as_mut_slice-scalars.ensures.value ∙ c.due-due.ensures.scalars in
+    let closes = c.as_slice-2.ensures.value ∙ c.due-due.ensures.after in
+    closes-small g.row.D self.scalars loops t self.outer self.chunk task.0 task.1 x p c.as_mut_slice-scalars.result.now c.as_slice-2.result.now begins closes (c.follow_head.ensures.fits ok)
