@@ -1,4 +1,5 @@
-//! Walks over the whole-number points of a set, level by level, in lexicographic order, without memory.
+//! Walks over the whole-number points of a set, level by level, in lexicographic order, without memory; and the runs of
+//! such points, as a list.
 #![tactic(auto)]
 
 pub mod blocks;

@@ -58,7 +58,7 @@ pub record AreRunsOf (e : Extent) (direction : List ℤ) (cell : Cell) (runs : L
   pub ordered : Ordered (RunComes e) runs
   pub has : (r : Run) → Has runs r ↔ IsRun e direction cell r
 
--- exactly the runs of the cell in the last direction of the schedule, which is the only one that its matrix maps so
+-- exactly the runs of the cell, in the direction that the schedule's matrix maps to the last unit vector
 pub record HasRuns (n : ℕ) (e : Extent) (cell : Cell) (list : List Run) : Type 0 where
   pub direction : List ℤ
   pub last : IsDirection n e.schedule direction

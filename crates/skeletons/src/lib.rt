@@ -3,8 +3,9 @@
 //! A skeleton is made once a chunk: of each block the rows that the places of its predicted instances meet, over the
 //! numbers of the place alone, with the rows before each elimination. A walk over cells then finds the instances of each
 //! cell by place and then by rank, and takes no memory. The crate stands on `level_walk` (points level by level, several
-//! blocks merged), `domain` (instances, launched chunks) and `transform` (schedules and their inverse). The layers above
-//! plan phases of cells, and follow the instances of a `Walk`.
+//! blocks merged), `domain` (instances, launched chunks) and `transform` (schedules and their inverse). The cells
+//! of the chunk and the runs of a cell are listed from the same scans. The layers above plan phases of cells, and follow
+//! the instances of a `Walk`.
 #![tactic(auto)]
 
 mod block;
