@@ -1,0 +1,9 @@
+pub mod RunLaws
+pub mod CountLaws
+pub mod StripLaws
+pub mod GroupLaws
+pub mod PhaseLaws
+pub mod PlanLaws
+pub mod WordLaws
+pub mod DirectionLaws
+pub mod NearLaws

@@ -1,0 +1,5 @@
+pub mod Strips
+pub mod Plans
+pub mod Groups
+pub mod Counts
+pub mod Examples
