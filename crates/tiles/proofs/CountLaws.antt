@@ -1,15 +1,12 @@
 -- The instances of the runs of some cells are those of the cells, each once: so many as the counts of the runs say.
-use Rattle.std.proofs.Common.{◌≡◌, refl, sym, ap, ap₂, ◌∙◌, subst, ℕ, zero, suc, ◌<◌, ◌≤◌, ◌+◌, ℤ, pos, List, [], ◌∷◌, ◌++◌, map, length, ◌⊎◌, inl, inr, ⊎_elim, arith, Ordering, Less, Equal, int_cmp, length-append, sum_by}
-use Rattle.std.specs.Prelude.{Contains}
-use Rattle.std.specs.List.{AllByRecursion, flat_map, range_with_len}
-use Rattle.std.specs.Ordering.{ordering_then}
-use Rattle.std.specs.Cmp.Lexicographic.{slice_cmp}
+use Rattle.std.proofs.Common.{◌≡◌, refl, sym, ap, ap₂, ◌∙◌, subst, ℕ, zero, suc, ◌<◌, ◌≤◌, ◌+◌, ℤ, List, [], ◌∷◌, ◌++◌, map, length, inl, inr, ⊎_elim, arith, Less, Equal, length-append}
+use Rattle.std.specs.List.{flat_map, range_with_len}
 use Rattle.std.proofs.lemmas.Cmp.{int_cmp_total, lists_total, tied_itself}
 use Rattle.std.proofs.lemmas.List.Sums.{sum_by-cons}
 use Rattle.orders.specs.Orders.{Has, Ordered, Differ}
 use Rattle.orders.proofs.Lists.{all_from, all_has, has_left, has_right, has_cases, has_split, contains_from_has, has_from_contains, ordered_append, ordered_weaker}
 use Rattle.domain.specs.Tables.{IsTable, depth}
-use Rattle.domain.specs.Instances.{Instance, Predicted, Precedes, original_key, padded}
+use Rattle.domain.specs.Instances.{Instance, Precedes, original_key, padded}
 use Rattle.domain.specs.Instances.{Ordered as InOrder}
 use Rattle.transform.specs.Schedules.{IsSchedule}
 use Rattle.skeletons.specs.Cells.{AreCellsOf, Cell, CellComes, Extent, IsLaunch, LiesIn, cell_of}
@@ -72,9 +69,9 @@ differ-map_range : {X : Type 0} (f : ℕ → X) (n first : ℕ) → ((k l : ℕ)
 differ-map_range f zero first apart = tt
 differ-map_range {X} f (suc n) first apart = (
   all_from (Differ (f first)) (map f (range_with_len (first + 1) n)) (λ z h e.
-  let (l, there, at) = map_has f (range_with_len (first + 1) n) z h in
-  let (from, to) = range_has n (first + 1) l there in
-  apart first l (omega arith) (omega arith) (omega arith) (e ∙ at)),
+      let (l, there, at) = map_has f (range_with_len (first + 1) n) z h in
+      let (from, to) = range_has n (first + 1) l there in
+      apart first l (omega arith) (omega arith) (omega arith) (e ∙ at)),
   differ-map_range f n (first + 1) (λ k l from less to. apart k l (omega arith) less (omega arith)),
 )
 

@@ -1,20 +1,18 @@
 -- Cells that are gathered in order stand in phases whose keys rise.
-use Rattle.std.proofs.Common.{◌≡◌, refl, sym, ap, ap₂, ◌∙◌, subst, ℕ, zero, suc, ◌<◌, ◌≤◌, ◌+◌, ◌-◌, ℤ, pos, Bool, true, false, Option, Some, None, List, [], ◌∷◌, ◌++◌, length, get_or, set, ◌⊎◌, inl, inr, ⊎_elim, arith, Ordering, Less, Equal, Greater, int_cmp, int_eq, append_assoc, length-append}
-use Rattle.std.specs.Prelude.{◌&&◌, if◌then◌else◌, slice_get, slice_index_or}
-use Rattle.std.specs.List.{AllByRecursion, flat_map}
+use Rattle.std.proofs.Common.{◌≡◌, refl, sym, ap, ap₂, ◌∙◌, subst, ℕ, ◌-◌, ℤ, Bool, true, false, Option, Some, List, [], ◌∷◌, ◌++◌, length, get_or, set, ◌⊎◌, inl, inr, ⊎_elim, arith, Ordering, Less, Equal, Greater, int_cmp, int_eq, append_assoc, length-append}
+use Rattle.std.specs.Prelude.{◌&&◌, if◌then◌else◌, slice_get}
 use Rattle.std.specs.Ordering.{ordering_then}
 use Rattle.std.specs.Cmp.Lexicographic.{pointwise, slice_cmp}
 use Rattle.std.proofs.lemmas.Bool.{and_parts}
 use Rattle.std.proofs.lemmas.Bool.Decides.{Decides-int_eq}
-use Rattle.std.proofs.lemmas.Cmp.{int_cmp_total, lists_total}
 use Rattle.std.proofs.lemmas.Grind.{flat_map-append}
 use Rattle.std.proofs.lemmas.List.{append-nil}
 use Rattle.std.proofs.lemmas.Slice.Eq.{slice_eq-Decides}
 use Rattle.core_steps.specs.declared.plan.Tile.{Tile}
 use Rattle.orders.specs.Orders.{Has, Ordered}
 use Rattle.orders.proofs.Lists.{all_from, all_has, has_left, has_right, has_cases, ordered_across, ordered_append}
-use Rattle.plain_lemmas.proofs.OrderLaws.{slice_cmp-append_less, slice_cmp-append_same, slice_cmp-exact, ordering_then-less}
-use Rattle.domain.proofs.OriginalLaws.{not-back, not-itself}
+use Rattle.plain_lemmas.proofs.OrderLaws.{slice_cmp-append_less, slice_cmp-append_same, slice_cmp-exact}
+use Rattle.domain.proofs.OriginalLaws.{not-back}
 use Rattle.skeletons.specs.Cells.{Cell, CellComes, Extent}
 use Rattle.tiles.specs.Groups.{added, alone, begins_with_key, ends_with_key, first_has_key, grown, has_key_of, last_has_key}
 use Rattle.tiles.specs.Plans.{AreTilesOf, IsOnePhase, IsTileOf, KeyLess, Phase, PhaseComes, cells_of, phase_key}

@@ -1,26 +1,23 @@
 -- The plan of a phase is separate: instances in different tiles of one phase don't conflict.
-use Rattle.std.proofs.Common.{◌≡◌, ◌≢◌, refl, sym, ap, ap₂, ◌∙◌, subst, ℕ, zero, suc, ◌<◌, ◌≤◌, ℤ, pos, ◌+ℤ◌, ◌≤ℤ◌, ◌<ℤ◌, ◌+◌, ◌-◌, Bool, true, false, true≢false, ◌||◌, Option, Some, None, List, [], ◌∷◌, ◌++◌, length, replicate, get_or, ◌⊎◌, inl, inr, ⊎_elim, arith, length-append}
+use Rattle.std.proofs.Common.{◌≡◌, ◌≢◌, refl, sym, ap, ap₂, ◌∙◌, subst, ℕ, zero, suc, ℤ, pos, ◌+◌, ◌-◌, Bool, true, false, true≢false, ◌||◌, Some, List, [], ◌∷◌, ◌++◌, length, replicate, ◌⊎◌, inl, inr, ⊎_elim, arith, length-append}
 use Rattle.std.specs.Prelude.{Contains, slice_get, slice_index_or}
 use Rattle.std.proofs.lemmas.Bool.{false_from_ne_true, or_cases}
 use Rattle.std.proofs.lemmas.Int.{ints}
 use Rattle.std.proofs.lemmas.List.{append_cancel_right, length-replicate}
-use Rattle.core_steps.specs.declared.plan.Plan.{Plan}
 use Rattle.core_steps.specs.declared.plan.Tile.{Tile}
 use Rattle.core_steps.specs.Numbers.{has}
-use Rattle.core_steps.specs.Plans.{AreApart, IsInside, IsSeparate, no_tile, touches_of, writes_of}
+use Rattle.core_steps.specs.Plans.{IsInside, IsSeparate, no_tile, touches_of, writes_of}
 use Rattle.core_steps.proofs.NumberLists.{has_cons}
 use Rattle.orders.specs.Orders.{Has, Ordered}
 use Rattle.orders.proofs.Lists.{all_has, contains_from_has}
-use Rattle.domain.specs.declared.chunk.Chunk.{Chunk}
-use Rattle.domain.specs.Tables.{Table, IsTable}
-use Rattle.domain.specs.Instances.{Instance, Predicted, padded}
-use Rattle.domain.specs.Footprints.{Conflict, Reads, Writes}
+use Rattle.domain.specs.Tables.{IsTable}
+use Rattle.domain.specs.Instances.{Instance, padded}
+use Rattle.domain.specs.Footprints.{Conflict}
 use Rattle.domain.proofs.LaunchedLaws.{launched_words}
-use Rattle.dependence.specs.Laws.{InOtherTiles, IsShortLaunch}
-use Rattle.dependence.specs.Legality.{Legal}
+use Rattle.dependence.specs.Laws.{IsShortLaunch}
 use Rattle.dependence.proofs.ScheduleLaws.{tiles_apart}
 use Rattle.dependence.proofs.VerdictLaws.{legal_is_unmet}
-use Rattle.transform.specs.Schedules.{IsSchedule, Schedule, lead, phase, tile, wave, wide_lead, wide_tile, leading, along}
+use Rattle.transform.specs.Schedules.{IsSchedule, Schedule, lead, tile, wave, wide_lead, wide_tile, leading, along}
 use Rattle.skeletons.specs.Cells.{Cell, CellComes, Extent, LiesIn, cell_of}
 use Rattle.tiles.specs.Plans.{AreTilesOf, CellReads, CellWrites, IsOnePhase, IsPlannable, IsTileOf, Phase, phase_key}
 use Rattle.tiles.proofs.CountLaws.{cell-itself, length-map}

@@ -1,6 +1,6 @@
 -- The plan of a chunk, from its cells, the tiles and the stripes that were gathered of them.
-use Rattle.std.proofs.Common.{◌≡◌, refl, sym, ap, ◌∙◌, subst, ℕ, zero, suc, ◌<◌, ◌≤◌, ◌+◌, ◌-◌, ◌^◌, ℤ, pos, ◌+ℤ◌, ◌≤ℤ◌, ◌<ℤ◌, unsigned_abs, Some, None, List, [], ◌∷◌, ◌++◌, map, take, length, get_or, ◌⊎◌, inl, inr, ⊎_elim, arith, length-append}
-use Rattle.std.specs.Prelude.{◌↔◌, Contains}
+use Rattle.std.proofs.Common.{◌≡◌, refl, sym, ap, ◌∙◌, subst, ℕ, zero, suc, ◌<◌, ◌≤◌, ◌+◌, ◌-◌, ◌^◌, ℤ, pos, unsigned_abs, Some, None, List, [], ◌∷◌, ◌++◌, map, take, length, get_or, inl, inr, ⊎_elim, arith, length-append}
+use Rattle.std.specs.Prelude.{Contains}
 use Rattle.std.specs.List.{All, flat_map, range_with_len}
 use Rattle.std.proofs.lemmas.Bool.{cases_lt}
 use Rattle.std.proofs.lemmas.Grind.{flat_map-append}
@@ -168,9 +168,9 @@ module _ (e : Extent) (words : ℕ) (some : 1 ≤ depth e.table) (few : depth e.
       instances = subst (IsLaunched e.table (pos words) e.chunk) (sym (count ∙ all)) can.launched;
       tiles = ap length (sym gathered.cells_are);
       few = (let most = cells-most e some few table schedule (launch-of e words can) cells runs (λ c h. (are.has c).0 h) have in
-      let least = launched-few e.table (pos words) e.chunk can.instances can.launched in
-      let total = all in
-      omega (arith, most, least, total));
+          let least = launched-few e.table (pos words) e.chunk can.instances can.launched in
+          let total = all in
+          omega (arith, most, least, total));
       stripes = subst (λ (l : List Cell). AreStripesOf e l stripes) (sym gathered.cells_are) (record { runs = runs; have = have; strips = same });
       within = stripes-within;
       stores = λ address. (stored address, kept address);

@@ -1,6 +1,6 @@
 -- The runs of a cell have each instance of the cell, once.
-use Rattle.std.proofs.Common.{◌≡◌, refl, sym, ap, ap₂, ◌∙◌, subst, ℕ, zero, suc, ◌<◌, ◌≤◌, ◌+◌, ◌-◌, ◌^◌, ℤ, pos, negsuc, neg_ℤ, ◌+ℤ◌, ◌*ℤ◌, ◌≤ℤ◌, ◌<ℤ◌, unsigned_abs, Bool, true, false, nat_lt, List, [], ◌∷◌, length, get_or, replicate, ◌⊎◌, inl, inr, ⊎_elim, arith, Ordering, Less, Equal, Greater, int_cmp}
-use Rattle.std.specs.Prelude.{if◌then◌else◌, Contains}
+use Rattle.std.proofs.Common.{◌≡◌, refl, sym, ap, ap₂, ◌∙◌, subst, ℕ, zero, suc, ◌<◌, ◌≤◌, ◌+◌, ◌-◌, ◌^◌, ℤ, pos, negsuc, neg_ℤ, ◌+ℤ◌, ◌*ℤ◌, unsigned_abs, Bool, true, false, nat_lt, List, [], ◌∷◌, length, get_or, replicate, ◌⊎◌, inl, inr, ⊎_elim, arith, Ordering, Less, Equal, Greater, int_cmp}
+use Rattle.std.specs.Prelude.{if◌then◌else◌}
 use Rattle.std.specs.Cmp.Lexicographic.{slice_cmp}
 use Rattle.std.proofs.Math.IntN.{+ℤ_idr, zero-*ℤ, *ℤ-zero}
 use Rattle.std.proofs.lemmas.Bool.{cases_lt}
@@ -10,22 +10,19 @@ use Rattle.std.proofs.lemmas.Int.{ints}
 use Rattle.std.proofs.lemmas.List.{get_or-set_same, length-replicate}
 use Rattle.plain_lemmas.proofs.IntegerLaws.{one-*ℤ, +ℤ-*ℤ}
 use Rattle.plain_lemmas.proofs.OrderLaws.{slice_cmp-exact}
-use Rattle.affine.specs.Forms.{AllWithinSize}
 use Rattle.affine.specs.Matrices.{product, unit_row}
-use Rattle.affine.specs.Sums.{dot, weighted}
-use Rattle.affine.proofs.SumLemmas.{dot-weighted_point, get_or-weighted, length-weighted}
+use Rattle.affine.specs.Sums.{dot}
+use Rattle.affine.proofs.SumLemmas.{dot-weighted_point, get_or-weighted}
 use Rattle.orders.specs.Orders.{Has}
 use Rattle.orders.proofs.Lists.{contains_from_has, has_from_contains}
-use Rattle.domain.specs.Tables.{Table, Block, IsTable, block_at, counters, cut, depth}
+use Rattle.domain.specs.Tables.{IsTable, block_at, counters, cut, depth}
 use Rattle.domain.specs.Instances.{Instance, instance, block_of, counter, padded, Predicted, IsInstance}
-use Rattle.domain.proofs.CounterLaws.{launched_counters}
 use Rattle.domain.proofs.PlaceLaws.{place-counter}
 use Rattle.domain.proofs.PointLaws.{length-cut}
 use Rattle.transform.specs.Schedules.{IsSchedule, matrix, place}
 use Rattle.transform.proofs.LineLaws.{place-product}
 use Rattle.skeletons.specs.Cells.{Cell, Extent, IsLaunch, LiesIn, cell_of}
 use Rattle.skeletons.specs.Runs.{Run, IsDirection, HasPoint, IsRun, along, step_of}
-use Rattle.skeletons.specs.Scans.{IsNear}
 use Rattle.skeletons.proofs.BlockLaws.{length-padded, padded-at}
 use Rattle.skeletons.proofs.FrameLaws.{is-cut}
 use Rattle.skeletons.proofs.ListLaws.{near-places_of}

@@ -1,34 +1,29 @@
 -- The strips of a cell's runs have exactly the addresses that are expected of the cell's instances.
-use Rattle.std.proofs.Common.{◌≡◌, refl, sym, ap, ap₂, ◌∙◌, subst, ℕ, zero, suc, ◌<◌, ◌≤◌, ◌+◌, ◌^◌, ℤ, pos, ◌+ℤ◌, ◌-ℤ◌, ◌*ℤ◌, ◌≤ℤ◌, ◌<ℤ◌, unsigned_abs, Bool, true, false, Option, Some, None, List, [], ◌∷◌, map, length, get_or, replicate, inl, inr, ⊎_elim, arith, nat_lt}
-use Rattle.std.specs.Prelude.{◌↔◌, Contains, int_lt, if◌then◌else◌, slice_get}
-use Rattle.std.specs.List.{All, flat_map, range_with_len}
+use Rattle.std.proofs.Common.{◌≡◌, refl, sym, ap, ◌∙◌, subst, ℕ, zero, suc, ◌<◌, ◌≤◌, ◌+◌, ◌^◌, ℤ, pos, ◌+ℤ◌, ◌-ℤ◌, ◌≤ℤ◌, ◌<ℤ◌, unsigned_abs, Bool, true, false, Option, Some, None, List, [], ◌∷◌, map, length, replicate, inl, inr, arith, nat_lt}
+use Rattle.std.specs.Prelude.{int_lt, if◌then◌else◌, slice_get}
+use Rattle.std.specs.List.{flat_map, range_with_len}
 use Rattle.std.proofs.Math.IntN.{*ℤ_comm, *ℤ-zero}
-use Rattle.std.proofs.lemmas.Bool.{cases_lt}
-use Rattle.std.proofs.lemmas.Bool.Decides.{nat_tests}
 use Rattle.std.proofs.lemmas.Int.{ints}
-use Rattle.std.proofs.lemmas.List.{get_or_default, get_or-replicate, length-replicate}
+use Rattle.std.proofs.lemmas.List.{get_or_default}
 use Rattle.plain_lemmas.proofs.IntegerLaws.{int_lt-true, int_lt-false}
 use Rattle.affine.specs.Forms.{Affine, AllWithinSize, value_at}
 use Rattle.affine.specs.Sums.{dot}
 use Rattle.affine.proofs.SumLemmas.{dot_comm}
-use Rattle.backup.specs.declared.stripe.Stripe.{Stripe}
-use Rattle.backup.specs.Stripes.{IsWithin, addresses_of, addresses_of_all}
 use Rattle.core_steps.specs.declared.plan.Tile.{Tile}
 use Rattle.orders.specs.Orders.{Has}
-use Rattle.orders.proofs.Lists.{contains_from_has, has_from_contains}
-use Rattle.domain.specs.Tables.{Table, Access, Block, IsTable, access_at, counters, cut, depth}
-use Rattle.domain.specs.Instances.{Instance, block_of, counter, padded, Predicted}
-use Rattle.domain.specs.Footprints.{Expects, LiesAbout, IsListOf, Reads, Touches, Writes}
+use Rattle.domain.specs.Tables.{Table, Access, IsTable, access_at, counters, cut, depth}
+use Rattle.domain.specs.Instances.{Instance, block_of, Predicted}
+use Rattle.domain.specs.Footprints.{Expects, LiesAbout, IsListOf, Touches, Writes}
 use Rattle.domain.proofs.CounterLaws.{launched_counters}
 use Rattle.domain.proofs.LaunchedLaws.{launched_words}
-use Rattle.domain.proofs.PointLaws.{dot-zeros, length-cut}
+use Rattle.domain.proofs.PointLaws.{dot-zeros}
 use Rattle.transform.specs.Schedules.{IsSchedule}
-use Rattle.skeletons.specs.Cells.{AreCellsOf, Cell, Extent, IsLaunch, LiesIn, cell_of}
-use Rattle.skeletons.specs.Runs.{HasRuns, IsDirection, IsRun, Run, along}
+use Rattle.skeletons.specs.Cells.{Cell, Extent, IsLaunch, LiesIn}
+use Rattle.skeletons.specs.Runs.{HasRuns, IsDirection, IsRun, Run}
 use Rattle.skeletons.proofs.SideLaws.{cut-small, zeros-small}
 use Rattle.tiles.specs.declared.strip.Strip.{Strip}
-use Rattle.tiles.specs.Plans.{CellReads, CellWrites, ChunkWrites, HaveRuns, IsTileOf}
-use Rattle.tiles.specs.Strips.{IsListOfWords, IsPlannedRun, IsSmallRun, IsStored, IsWordOf, access_strips, address_at, line_strips, load_strips, loads_of_run, offset_at, offset_count, run_strip, store_strips, stores_of_run, strip_of}
+use Rattle.tiles.specs.Plans.{CellReads, CellWrites, IsTileOf}
+use Rattle.tiles.specs.Strips.{IsListOfWords, IsPlannedRun, IsSmallRun, IsStored, IsWordOf, access_strips, address_at, line_strips, load_strips, loads_of_run, offset_at, offset_count, run_strip, store_strips, stores_of_run}
 use Rattle.tiles.proofs.CountLaws.{flat_map_has, has_flat_map, has_map, has_range, map_has, range_has}
 use Rattle.tiles.proofs.RunLaws.{dot-along, run-lies, run_at, run_of, step-long}
 

@@ -1,5 +1,5 @@
 -- Words of strips, as they are gathered in lists.
-use Rattle.std.proofs.Common.{◌≡◌, refl, sym, ap, ◌∙◌, subst, ℕ, zero, suc, ◌<◌, ◌≤◌, ◌+◌, ◌^◌, ℤ, pos, ◌+ℤ◌, ◌*ℤ◌, ◌≤ℤ◌, ◌<ℤ◌, unsigned_abs, Option, Some, None, List, [], ◌∷◌, ◌++◌, map, take, length, get_or, ◌⊎◌, inl, inr, ⊎_elim, arith, append_assoc}
+use Rattle.std.proofs.Common.{◌≡◌, refl, sym, ap, ◌∙◌, subst, ℕ, zero, suc, ◌<◌, ◌≤◌, ◌+◌, ℤ, pos, ◌≤ℤ◌, ◌<ℤ◌, Option, Some, None, List, [], ◌∷◌, ◌++◌, map, take, length, get_or, ◌⊎◌, inl, inr, ⊎_elim, arith, append_assoc}
 use Rattle.std.specs.Prelude.{◌↔◌, Contains}
 use Rattle.std.specs.List.{flat_map, range_with_len}
 use Rattle.std.specs.List.Sorted.{IsStrictlyIncreasing}
@@ -65,12 +65,12 @@ below-more words s n address xs ys zs at first second a = (
 
 pub below-all : (words : ℕ) (s : Strip) (n : ℕ) (xs ys : List ℕ) → n ≡ s.count → Gains (IsWordBelow words s n) xs ys → Gains (IsWordOf words (s ∷ [])) xs ys
 below-all words s n xs ys end g = gains-same (IsWordBelow words s n) (IsWordOf words (s ∷ [])) xs ys (λ a. (
-    λ w. record { strip = s; has = inl refl; place = w.place; below = (let b = w.below in omega (arith, b, end)); is = w.is; word = w.word },
-    λ w. ⊎_elim
-        (λ e. record { place = w.place; below = (let b = w.below in let c = ap (λ (z : Strip). z.count) e in omega (arith, b, c, end)); is = w.is ∙ ap (λ (z : Strip). address_at z w.place) e; word = w.word })
-        (λ z. absurd z)
-        w.has,
-  )) g
+  λ w. record { strip = s; has = inl refl; place = w.place; below = (let b = w.below in omega (arith, b, end)); is = w.is; word = w.word },
+  λ w. ⊎_elim
+      (λ e. record { place = w.place; below = (let b = w.below in let c = ap (λ (z : Strip). z.count) e in omega (arith, b, c, end)); is = w.is ∙ ap (λ (z : Strip). address_at z w.place) e; word = w.word })
+      (λ z. absurd z)
+      w.has,
+)) g
 
 -- ---- some strips
 

@@ -1,5 +1,5 @@
 -- Computed examples: the strips of a run, phases, and one cell more.
-use Rattle.std.specs.Prelude.{◌≡◌, pos, negsuc, true, false, Some, None, List, [], ◌∷◌, map, refl}
+use Rattle.std.specs.Prelude.{◌≡◌, pos, negsuc, true, false, Some, None, [], ◌∷◌, map, refl}
 use Rattle.affine.specs.Forms.{Affine}
 use Rattle.core_steps.specs.declared.plan.Tile.{Tile}
 use Rattle.domain.specs.Tables.{Access}

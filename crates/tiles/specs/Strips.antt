@@ -1,5 +1,5 @@
 -- Strips: the addresses of a run about the line of an access, at one offset of its tube.
-use Rattle.std.specs.Prelude.{◌≡◌, ◌↔◌, ℕ, ℤ, pos, ◌<◌, ◌≤◌, ◌^◌, ◌+ℤ◌, ◌*ℤ◌, ◌≤ℤ◌, ◌<ℤ◌, ◌+◌, ◌-ℤ◌, unsigned_abs, int_lt, if◌then◌else◌, List, [], ◌∷◌, map, length, Option, Some, None, Contains}
+use Rattle.std.specs.Prelude.{◌≡◌, ◌↔◌, ℕ, ℤ, pos, ◌<◌, ◌≤◌, ◌^◌, ◌+ℤ◌, ◌*ℤ◌, ◌≤ℤ◌, ◌<ℤ◌, ◌+◌, ◌-ℤ◌, unsigned_abs, int_lt, if◌then◌else◌, List, [], map, length, Option, Some, None, Contains}
 use Rattle.std.specs.List.{flat_map, range_with_len}
 use Rattle.std.specs.List.Sorted.{IsStrictlyIncreasing}
 use Rattle.affine.specs.Forms.{Affine, AllWithinSize, value_at}

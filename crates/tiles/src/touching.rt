@@ -179,8 +179,5 @@ pub fn tile_of_runs<const D: usize>(
     for run in runs {
         touching.gain_run(pred, run, words, stripes)?;
     }
-    Ok(Tile::new(
-        in_order(touching.reads),
-        in_order(touching.writes),
-    ))
+    Ok(Tile::new(in_order(touching.reads), in_order(touching.writes)))
 }

@@ -1,10 +1,9 @@
-use Rattle.std.proofs.Common.{◌≡◌, ◌<◌, ◌≤◌, ◌+◌, ◌^◌, sym, ap, ◌∙◌, subst, ℕ, List, ◌++◌, map, length, arith, rules}
+use Rattle.std.proofs.Common.{◌≡◌, ◌<◌, ◌+◌, ◌^◌, sym, ap, ◌∙◌, subst, ℕ, List, ◌++◌, map, length, arith, rules}
 use Rattle.std.specs.List.{flat_map}
 use Rattle.domain.specs.Tables.{IsTable}
 use Rattle.transform.specs.Schedules.{IsSchedule}
 use Rattle.skeletons.specs.Cells.{AreCellsOf, Extent}
 use Rattle.skeletons.specs.Runs.{HasRuns, Run}
-use Rattle.tiles.specs.declared.strip.Strip.{Strip}
 use Rattle.tiles.specs.Counts.{count_of}
 use Rattle.tiles.specs.Plans.{IsPlanOf, Phase}
 use Rattle.tiles.specs.Strips.{IsListOfWords, IsPlannedRun, loads_of_run, stores_of_run, strip_of}

@@ -1,4 +1,4 @@
-use Rattle.std.proofs.Common.{◌≡◌, refl, ℕ, ℤ, pos, FitsSigned, rules}
+use Rattle.std.proofs.Common.{◌≡◌, refl, pos, FitsSigned, rules}
 use Rattle.std.specs.Int.{w128}
 use Rattle.std.proofs.lemmas.Int.{to_z-of_z}
 use Rattle.tiles.proofs.WordLaws.{gains-no_word, gains-word}

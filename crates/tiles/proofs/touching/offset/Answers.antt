@@ -1,4 +1,4 @@
-use Rattle.std.proofs.Common.{◌≡◌, sym, ◌<◌, ◌∙◌, ap, subst, ℤ, ◌+ℤ◌, pos, FitsSigned, w64, arith, rules, unsigned_abs, ◌≤◌}
+use Rattle.std.proofs.Common.{◌≡◌, sym, ◌<◌, ◌∙◌, ap, subst, ℤ, ◌+ℤ◌, pos, FitsSigned, w64, rules, unsigned_abs, ◌≤◌}
 use Rattle.std.proofs.lemmas.Int.{to_z-of_z}
 use Rattle.domain.specs.Tables.{Access}
 use Rattle.tiles.specs.Strips.{offset_count}

@@ -1,4 +1,4 @@
-use Rattle.std.proofs.Common.{◌≡◌, sym, ap, ◌∙◌, subst, List, [], ◌++◌, map, take, rules}
+use Rattle.std.proofs.Common.{sym, ap, ◌∙◌, subst, List, [], ◌++◌, map, take, rules}
 use Rattle.std.specs.List.{flat_map}
 use Rattle.domain.specs.Footprints.{Gains}
 use Rattle.tiles.specs.declared.strip.Strip.{Strip}

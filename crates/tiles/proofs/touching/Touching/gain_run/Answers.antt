@@ -1,4 +1,4 @@
-use Rattle.std.proofs.Common.{◌≡◌, ◌≤◌, sym, ap, ◌∙◌, subst, ℕ, List, ◌++◌, map, take, length, arith, rules}
+use Rattle.std.proofs.Common.{◌≡◌, sym, ap, ◌∙◌, subst, ℕ, List, ◌++◌, map, take, rules}
 use Rattle.std.specs.List.{flat_map}
 use Rattle.domain.specs.Footprints.{Gains}
 use Rattle.domain.specs.Tables.{Access, Block, block_at}
@@ -16,9 +16,19 @@ gain_access-requires g c =
     let items : c.deref-access-items.result.now ≡ (block_of c.args.pred.now c.args.run.now.first).accesses =
     c.deref-access-items.ensures.value ∙ ap (λ (b : Block). b.accesses) (c.behind-pred.view_is ∙ c.block.ensures.block)
     ∙ ap (λ (rank : ℕ). (block_at c.args.pred.now rank).accesses) (ap (λ (x : Instance). x.block) c.first.view_is ∙ ap (λ (r : Run). r.first.block) c.run.view_is) in
-    let there = subst (λ (l : List Access). Has l c.access-item.result) items (get_or-has c.deref-access-items.result.now c.loop-access.access-index c.access-item.result c.loop-access-test.true c.access-item.is) in
-    (search rules, (search rules, (c.requires.few, (c.requires.planned.small,
-    λ strip h. c.requires.planned.stores strip (has_flat_map (store_strips c.args.run.now) (block_of c.args.pred.now c.args.run.now.first).accesses c.access-item.result strip there h)))))
+    let there = subst (λ (l : List Access). Has l c.access-item.result) items (get_or-has c.deref-access-items.result.now c.loop-access.access-index c.access-item.result c.loop-access-test.true c.access-item.is) in (
+      search rules,
+      (
+        search rules,
+        (
+          c.requires.few,
+          (
+            c.requires.planned.small,
+            λ strip h. c.requires.planned.stores strip (has_flat_map (store_strips c.args.run.now) (block_of c.args.pred.now c.args.run.now.first).accesses c.access-item.result strip there h),
+          ),
+        ),
+      ),
+    )
 
 pub loop-access-preserved : goal.loop-access-preserved
 loop-access-preserved g c =
