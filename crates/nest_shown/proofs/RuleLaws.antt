@@ -2,11 +2,8 @@
 use Rattle.std.proofs.Common.{◌≡◌, ℕ, ◌≤◌, nat_le, length, List, [], ◌∷◌, true, arith}
 use Rattle.std.proofs.lemmas.Bool.{and_parts}
 use Rattle.std.proofs.lemmas.Bool.Decides.{nat_tests}
-use Rattle.nest_lang.specs.declared.tree.BlockRef.{BlockRef}
 use Rattle.nest_lang.specs.declared.tree.Loop.{Loop}
-use Rattle.nest_lang.specs.Accesses.{accesses_of}
 use Rattle.nest_lang.specs.Rules.{loop_keeps, loops_keep, NestKeeps}
-use Rattle.nest_lang.proofs.AccessLaws.{accesses_of-within}
 
 pub loops_keep_of : {scalars : ℕ} {loops : List Loop} → NestKeeps scalars loops → loops_keep loops ≡ true
 loops_keep_of k = k.loops_keep
@@ -20,6 +17,3 @@ few (l ∷ ls) h =
 
 pub few_loops_of : {scalars : ℕ} {loops : List Loop} → NestKeeps scalars loops → length loops ≤ 6
 few_loops_of {loops = loops} k = few loops k.loops_keep
-
-pub few_accesses_of : {scalars : ℕ} {loops : List Loop} → NestKeeps scalars loops → (block : BlockRef) → length (accesses_of loops block) ≤ 64
-few_accesses_of k block = accesses_of-within k block
