@@ -1,1 +1,2 @@
 pub mod NestedLaws
+pub mod ListedLaws

@@ -1,10 +1,12 @@
 //! What is written for a line.
 
-ghost use Rattle.std.specs.Prelude.{◌<◌, ◌^◌, length};
+ghost use Rattle.std.specs.Prelude.{◌<◌};
+ghost use Rattle.dependence.specs.Systems.{IsSystemOf};
 
 use crate::asked::{Asked, Shape, Word};
 use crate::candidates::schedules;
 use crate::nested::nested;
+use dependence::{Side, System, systems, violation};
 use domain::Prediction;
 use legality::{Choice, Dependence, Judged, Refusal, choose, dependences, judge};
 use nest_text::{NestFile, ReadRefusal, read_nest};
@@ -62,6 +64,7 @@ fn text_of<const D: usize>(
     match word {
         Word::List => list_text(alloc, &pred, &schedules, length),
         Word::Judge => judge_text(alloc, &pred, &schedules, length),
+        Word::Systems => systems_text(alloc, &pred, &schedules, length),
     }
 }
 
@@ -110,6 +113,54 @@ fn judge_text<const D: usize>(
         }
     }
     Ok(text)
+}
+
+/// All systems.
+fn systems_text<const D: usize>(
+    alloc: Global,
+    pred: &Prediction<D>,
+    schedules: &[Schedule<D>],
+    length: i64,
+) -> Result<String, AllocError>
+    requires some { 0 < D }
+    requires few { D < 7 }
+{
+    let mut text = String::from_str(alloc, "nest")?;
+    let systems = systems(alloc, pred, length)?;
+    for system in &systems {
+        push_system(alloc, &mut text, pred, schedules, system)?;
+    }
+    Ok(text)
+}
+
+/// Writes a system with the number of its rows, and of those where the last row of each schedule falls.
+fn push_system<const D: usize>(
+    alloc: Global,
+    text: &mut String,
+    pred: &Prediction<D>,
+    schedules: &[Schedule<D>],
+    system: &System,
+) -> Result<(), AllocError>
+    requires some { 0 < D }
+    requires few { D < 7 }
+    requires of { IsSystemOf pred.now system.now }
+{
+    let (first, second) = (system.first, system.second);
+    let more = format!(in alloc;
+        "\n  system {}.{} {}.{} case {} rows {}:",
+        first.block,
+        first.access,
+        second.block,
+        second.access,
+        system.case,
+        system.rows.len()
+    )?;
+    text.push_str(more.as_str())?;
+    for schedule in schedules {
+        let rows = violation(alloc, pred, system, schedule, D as u8, Side::Below)?;
+        text.push_str(format!(in alloc; " {}", rows.len())?.as_str())?;
+    }
+    Ok(())
 }
 
 /// Writes a system that may be met, with the ranks of its blocks and the numbers of its accesses.

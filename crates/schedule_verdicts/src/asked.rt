@@ -19,6 +19,8 @@ pub enum Word {
     List,
     /// The judgement of each candidate.
     Judge,
+    /// All systems, with the number of their rows and of those of a violation by each candidate.
+    Systems,
 }
 
 /// What is asked of a nest, for chunks of at most so many turns.
@@ -36,6 +38,7 @@ impl Asked {
         let word = match word {
             "list" => Word::List,
             "judge" => Word::Judge,
+            "systems" => Word::Systems,
             _ => return None,
         };
         Some(Asked { word, length })
