@@ -1,0 +1,5 @@
+pub mod Lists
+pub mod Listings
+pub mod Parts
+pub mod Laws
+pub mod Examples
