@@ -1,4 +1,4 @@
-// What a call answers in place of its result.
+//! What a call answers in place of its result.
 ghost use Rattle.std.specs.Prelude.{◌≡◌};
 ghost use Rattle.core_steps.specs.declared.ends.CoreEnd.TheVariants.{NoMemory as OutOfMemory};
 

@@ -1,4 +1,4 @@
-// The core as a value that takes steps.
+//! The core as a value that takes steps.
 ghost use Rattle.std.specs.Prelude.{◌≡◌, ◌==◌, ◌<◌, ◌-◌, ◌^◌, ◌++◌, ◌↔◌, IfOk, IsTrue, length, true, position, replicate};
 ghost use Rattle.std.specs.Int.{w64, cast_unsigned};
 ghost use Rattle.core_steps.specs.declared.plan.Plan.{Plan as APlan};

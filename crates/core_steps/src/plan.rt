@@ -1,4 +1,4 @@
-// Tiles and plans.
+//! Tiles and plans.
 ghost use Rattle.std.specs.Prelude.{◌≡◌, ◌↔◌, ◌<◌, ℕ, IsTrue, IfOk, length};
 ghost use Rattle.core_steps.specs.Plans.{touches, writes, IsSeparate, IsInside, writes_of, touches_of, are_apart, are_below, keeps_inside, WritesAlone, no_plan};
 ghost use Rattle.std.specs.List.{list_all};

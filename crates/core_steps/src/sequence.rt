@@ -1,4 +1,4 @@
-// A `Vec` that contracts see as a list.
+//! A `Vec` that contracts see as a list.
 ghost use Rattle.std.specs.Prelude.{◌≡◌, [], ◌∷◌, ◌++◌, IfOk, length, ◌<◌, slice_set, ◌↔◌, IsTrue};
 
 use std::alloc::{AllocError, Global};

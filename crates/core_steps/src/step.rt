@@ -1,4 +1,4 @@
-// The kinds of step.
+//! The kinds of step.
 use crate::plan::Plan;
 
 /// A step of the machine. Seat 0 is main's, and workers have numbers from 1 up. `State` in the specs is what a step

@@ -1,4 +1,4 @@
-// Tables of steps with their answers: one phase, refusals, and a long list over two phases.
+//! Tables of steps with their answers: one phase, refusals, and a long list over two phases.
 use crate::{Core, CoreEnd, Plan, Step, Tile};
 use std::alloc::Global;
 use std::process::Abort;

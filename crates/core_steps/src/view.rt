@@ -1,4 +1,4 @@
-// What a seat knows.
+//! What a seat knows.
 ghost use Rattle.std.specs.Prelude.{◌≡◌, ◌+◌, ◌<◌, ◌^◌, OnOk, OnErr, IfOk, length};
 ghost use Rattle.core_steps.specs.Views.{may_load, may_store, first_view, spent_view, posted_view, lent_view, based_view, storing_view, seeing_view, failed_view, claiming_view, knowing_view, holding_view, joined_view, settled_view, forgetting_view};
 ghost use Rattle.core_steps.specs.Numbers.{without};
