@@ -13,6 +13,7 @@
 
 mod answer;
 mod check;
+mod deps;
 pub mod laws;
 mod plain;
 mod run;

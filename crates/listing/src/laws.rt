@@ -1,0 +1,8 @@
+//! Laws of listings, each the contract of a function that does nothing.
+
+ghost use Rattle.listing.specs.Laws.{OneListing};
+
+/// A file and options have exactly one dependence listing.
+pub fn one_listing()
+    ensures { OneListing }
+{}
