@@ -1,0 +1,43 @@
+//! The first legal one of some schedules.
+
+ghost use Rattle.std.specs.Prelude.{◌≡◌, ◌<◌, ◌-◌, ◌^◌, Some, length, slice_get, IfOk, IfSome};
+ghost use Rattle.dependence.specs.Legality.{Legal};
+ghost use Rattle.legality.specs.Choices.{choice};
+
+use crate::refusals::Refusal;
+use domain::Prediction;
+use std::alloc::{AllocError, Global};
+use std::marker::Model;
+use transform::Schedule;
+
+/// The refusals of the schedules before the first legal one, in order, and the number of that one, from 1. Where none is
+/// legal each has its refusal.
+#[derive(Debug, Drop)]
+pub struct Choice {
+    pub refusals: Vec<Refusal>,
+    pub legal: Option<u32>,
+}
+
+impl Model for Choice {
+    ghost use Rattle.legality.specs.Choices as choices;
+
+    ghost Value = { choices.Choice };
+
+    ghost view = { λ c. record { refusals = c.refusals.items; legal = c.legal } };
+}
+
+/// The first legal one of some schedules, fewer than 2^32, for chunks of at most so many turns, with the refusals of
+/// those before it. D is at most 6.
+pub fn choose<const D: usize>(
+    alloc: Global,
+    pred: &Prediction<D>,
+    schedules: &[Schedule<D>],
+    length: i64,
+) -> Result<Choice, AllocError>
+    requires few { D < 7 }
+    requires count { length schedules.now < 2 ^ 32 }
+    ensures value { IfOk result (λ choice. choice ≡ choice pred.now length schedules.now) }
+    ensures legal { IfOk result (λ chosen. IfSome chosen.legal (λ number. (s : Schedule) → slice_get schedules.now (number - 1) ≡ Some s → Legal pred.now s length)) }
+{
+    Err(AllocError)
+}
