@@ -38,13 +38,11 @@ reason_of loops (why.Large number) = reason.Large number
 abbrev pub unfit_line : {D : ℕ} → List Loop → Unfit D → ListingLine
 unfit_line loops unfit = listing.Report (said.Unfit (block_of loops unfit.block) unfit.what (reason_of loops unfit.why))
 
--- what the observations of a profile are fitted to: the first datum that has no form; or a table, with its forms, the
--- systems that may be met, and what is answered of each candidate
-pub data AreFittedLines (options : Options) (scalars : ℕ) (unit : NestUnit) (observations : List Observation) : List ListingLine → Type 0 where
-  unfit : (u : Unfit (length unit.nest.loops)) → IsUnfitAt (length unit.nest.loops) scalars unit.nest.loops observations u
-      → AreFittedLines options scalars unit observations (unfit_line unit.nest.loops u ∷ [])
-  fitted : (t : Table) → IsFitOf (length unit.nest.loops) scalars unit.nest.loops observations t
-      → AreFittedLines options scalars unit observations (table_lines scalars unit.nest.loops options.chunk unit.scripts t)
+-- what the observations of a profile of a nest of D loops are fitted to: the first datum that has no form; or a table, with
+-- its forms, the systems that may be met, and what is answered of each candidate
+pub data AreFittedLines (D : ℕ) (options : Options) (scalars : ℕ) (unit : NestUnit) (observations : List Observation) : List ListingLine → Type 0 where
+  unfit : (u : Unfit D) → IsUnfitAt D scalars unit.nest.loops observations u → AreFittedLines D options scalars unit observations (unfit_line unit.nest.loops u ∷ [])
+  fitted : (t : Table) → IsFitOf D scalars unit.nest.loops observations t → AreFittedLines D options scalars unit observations (table_lines scalars unit.nest.loops options.chunk unit.scripts t)
 
 -- the lines of a nest by its first profile: where there is none, that there is nothing to fit; else the line of the
 -- profile, and then that there is nothing to fit where it did not go through, or what its observations are fitted to
@@ -52,7 +50,7 @@ abbrev pub AreProfileLines : Options → ℕ → NestUnit → FirstProfile → L
 AreProfileLines options scalars unit Missing lines = lines ≡ listing.NothingToFit ∷ []
 AreProfileLines options scalars unit (Short turns) lines = lines ≡ profile_line turns ∷ listing.NothingToFit ∷ []
 AreProfileLines options scalars unit (Whole observations) lines =
-    (rest : List ListingLine) × AreFittedLines options scalars unit observations rest × (lines ≡ profile_line options.sample ∷ rest)
+    (rest : List ListingLine) × AreFittedLines (length unit.nest.loops) options scalars unit observations rest × (lines ≡ profile_line options.sample ∷ rest)
 
 -- the lines of a nest from a store, with so many steps left
 abbrev pub AreNestLines : Options → ℕ → NestUnit → Store → ℕ → List ListingLine → Type 0

@@ -9,11 +9,13 @@
 #![tactic(auto)]
 
 mod candidates;
-mod depth;
+mod dependences;
 mod files;
 mod fitted;
 mod forms;
 pub mod laws;
 mod nests;
+mod samples;
+mod task;
 
 pub use files::listing;

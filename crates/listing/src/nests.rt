@@ -1,28 +1,17 @@
 //! The lines of one nest.
 
-use crate::by_depth;
-use crate::fitted::list_samples;
-use nest_lang::{Budget, Nest, State};
-use nest_text::NestFile;
+ghost use Rattle.std.specs.Prelude.{◌≡◌, ◌≤◌, ◌+◌, ◌^◌, length, OnOk};
+ghost use Rattle.listing.specs.Listings.{AreFittedLines, AreNestLines, profile_line};
+ghost use Rattle.listing.specs.Parts.{Adds, IsUnitOf};
+
+use crate::task::Task;
+use nest_lang::{Budget, State};
+use profile::Samples;
 use profiling::{FirstProfile, first_profile};
-use report::{Line, ListingLine, Options};
+use report::{Line, ListingLine};
 use std::alloc::{AllocError, Global};
 
-/// A nest of a file, by its number from 0, and the options.
-#[derive(Clone, Copy)]
-pub struct Task<'a> {
-    pub file: &'a NestFile,
-    pub number: usize,
-    pub nest: &'a Nest,
-    pub options: Options,
-}
-
 impl Task<'_> {
-    /// The number of the file's scalars.
-    pub fn scalars(&self) -> u8 {
-        self.file.file().scalars.len() as u8
-    }
-
     /// Lists a nest from a state, with the steps of a budget. The state is then the one after its first profile.
     pub fn list(
         &self,
@@ -30,30 +19,52 @@ impl Task<'_> {
         lines: &mut Vec<ListingLine>,
         state: &mut State,
         steps: Budget,
-    ) -> Result<(), AllocError> {
+    ) -> Result<(), AllocError>
+        requires unit { IsUnitOf self.now.scalars self.now.unit.now }
+        requires state { length state.old.scalars ≤ 256 }
+        requires steps { steps.left + steps.used ≤ 2 ^ 32 }
+        ensures { OnOk result (Adds (AreNestLines self.now.options self.now.scalars self.now.unit.now state.old steps.left) lines.old.items lines.new.items) }
+    {
         let turns = self.options.sample;
-        match first_profile(alloc, self.nest, state, steps, turns as u64)? {
+        match first_profile(alloc, &self.unit.nest, state, steps, turns.unsigned_abs())? {
             FirstProfile::Missing => lines.push(ListingLine::NothingToFit)?,
-            FirstProfile::Short(turns) => {
-                lines.push(profile_line(turns))?;
+            FirstProfile::Short(done) => {
+                lines.push(profile_line(done))?;
                 lines.push(ListingLine::NothingToFit)?;
             }
             FirstProfile::Whole(samples) => {
                 lines.push(profile_line(turns))?;
-                let Some(listed) = by_depth!(
-                    self.nest.depth(),
-                    list_samples(alloc, lines, self, &samples)
-                ) else {
-                    unreachable!()
-                };
-                listed?;
+                self.list_whole(alloc, lines, &samples)?;
             }
         }
         Ok(())
     }
+
+    /// Lists what the samples of a nest of one to six loops fit to.
+    fn list_whole(
+        &self,
+        alloc: Global,
+        lines: &mut Vec<ListingLine>,
+        samples: &Samples,
+    ) -> Result<(), AllocError>
+        requires { IsUnitOf self.now.scalars self.now.unit.now }
+        ensures { OnOk result (Adds (AreFittedLines (length self.now.unit.now.nest.loops) self.now.options self.now.scalars self.now.unit.now samples.now) lines.old.items lines.new.items) }
+    {
+        match self.unit.nest.depth() {
+            1 => self.list_samples::<1>(alloc, lines, samples),
+            2 => self.list_samples::<2>(alloc, lines, samples),
+            3 => self.list_samples::<3>(alloc, lines, samples),
+            4 => self.list_samples::<4>(alloc, lines, samples),
+            5 => self.list_samples::<5>(alloc, lines, samples),
+            6 => self.list_samples::<6>(alloc, lines, samples),
+            _ => unreachable!(),
+        }
+    }
 }
 
 /// The line of a first profile.
-fn profile_line(turns: i64) -> ListingLine {
+fn profile_line(turns: i64) -> ListingLine
+    ensures { result ≡ profile_line turns }
+{
     ListingLine::Report(Line::Profile { first: 0, turns })
 }

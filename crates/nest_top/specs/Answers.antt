@@ -83,7 +83,7 @@ Answered SinkFault = ⊥
 Answered NoMemory = ⊥
 Answered status = Unit {0}
 
--- how the run of an invocation on a file finishes: in mode `plain` the plain run; the modes `check` and `deps` are done
+-- how the run of an invocation on a file finishes: in mode `plain` the plain run; in the modes `check` and `deps` it is done
 abbrev pub finish_of : Mode → Options → File → Finish
 finish_of Plain options file = (run_of_file file options.steps).ending
 finish_of Check options file = traces.Done

@@ -1,6 +1,6 @@
 //! Mode `deps`: the dependence listing of a file.
 
-ghost use Rattle.std.specs.Prelude.{◌≡◌, ◌≤◌, ◌^◌, ◌≤ℤ◌, pos, IfOk};
+ghost use Rattle.std.specs.Prelude.{◌≡◌, ◌≤◌, ◌^◌, IfOk};
 ghost use Rattle.nest_top.specs.Answers as answers;
 ghost use Rattle.nest_top.specs.Answers.{IsListingOf};
 
@@ -14,11 +14,7 @@ use std::alloc::{AllocError, Global};
 
 /// The dependence listing of a file with these options.
 pub(crate) fn deps(alloc: Global, file: &NestFile, options: &Options) -> Result<Answer, AllocError>
-    requires steps { options.now.steps ≤ 2 ^ 32 }
-    requires sample_from { pos 2 ≤ℤ options.now.sample }
-    requires sample_to { options.now.sample ≤ℤ pos 64 }
-    requires chunk_from { pos 1 ≤ℤ options.now.chunk }
-    requires chunk_to { options.now.chunk ≤ℤ pos 1024 }
+    requires { options.now.steps ≤ 2 ^ 32 }
     ensures { IfOk result (λ answer. IsListingOf options.now file.now answer.bytes.items × (answer.status ≡ Status.Ended)) }
 {
     let lines = listing(alloc, file, journey_options(options))?;

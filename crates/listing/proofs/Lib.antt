@@ -1,0 +1,8 @@
+pub mod Growing
+pub mod FormLaws
+pub mod PresentLaws
+pub mod CandidateLaws
+pub mod NestLaws
+pub mod FileLaws
+pub mod StandingLaws
+pub mod OneListing
