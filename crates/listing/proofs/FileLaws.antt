@@ -8,9 +8,10 @@ use Rattle.nest_tokens.specs.declared.token.Name.{Name}
 use Rattle.nest_grammar.specs.declared.version.Version.{Version}
 use Rattle.nest_grammar.specs.declared.file.File.{File}
 use Rattle.nest_grammar.specs.declared.file.NestUnit.{NestUnit}
+use Rattle.nest_grammar.specs.Scripts.{Script}
 use Rattle.nest_grammar.specs.Sights.{Sight}
 use Rattle.nest_grammar.specs.Names.{Names}
-use Rattle.nest_grammar.specs.Grammar.{Script, IsCandidates, IsUnit, IsUnits, Reads}
+use Rattle.nest_grammar.specs.Grammar.{IsCandidates, IsUnit, IsUnits, Reads}
 use Rattle.nest_grammar.specs.Grammar as grammar
 use Rattle.grammar_laws.specs.Rules.{KeepsRules}
 use Rattle.grammar_laws.proofs.Contents.{reading-reads}

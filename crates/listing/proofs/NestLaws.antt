@@ -53,8 +53,8 @@ module _ (options : Options) (version : Version) (scalars : ℕ) (unit : NestUni
   abbrev Follow : List NestUnit → List ListingLine → Type 0
   Follow later rest = AreNestsLines options version scalars later (suc number) (run_of_nest unit s left).store (run_of_nest unit s left).left rest
 
-  abbrev None : List ListingLine → Type 0
-  None rest = rest ≡ []
+  abbrev Nothing : List ListingLine → Type 0
+  Nothing rest = rest ≡ []
 
   -- lines behind those of the nest
   behind : (rest new : List ListingLine) → new ≡ two ++ rest → new ≡ old ++ (heading version number ++ (own.0 ++ rest))
@@ -68,7 +68,7 @@ module _ (options : Options) (version : Version) (scalars : ℕ) (unit : NestUni
   pub last-added : Adds (AreNestsLines options version scalars (unit ∷ []) number s left) old two
   last-added = (
     heading version number ++ (own.0 ++ []),
-    (own.0, [], own.1, both-end (run_of_nest unit s left).ending (Follow [] []) (None []) refl refl, refl),
+    (own.0, [], own.1, both-end (run_of_nest unit s left).ending (Follow [] []) (Nothing []) refl refl, refl),
     behind [] two (sym (append-nil two)),
   )
 
@@ -77,7 +77,7 @@ module _ (options : Options) (version : Version) (scalars : ℕ) (unit : NestUni
     pub stopped-added : (e ≡ ending.Ended → ⊥) → Adds (AreNestsLines options version scalars (unit ∷ later) number s left) old two
     stopped-added out = (
       heading version number ++ (own.0 ++ []),
-      (own.0, [], own.1, stopped-ends (run_of_nest unit s left).ending (Follow later []) (None []) (λ done. out (only-ended e (ran.ending ∙ done))) refl, refl),
+      (own.0, [], own.1, stopped-ends (run_of_nest unit s left).ending (Follow later []) (Nothing []) (λ done. out (only-ended e (ran.ending ∙ done))) refl, refl),
       behind [] two (sym (append-nil two)),
     )
 
@@ -89,7 +89,7 @@ module _ (options : Options) (version : Version) (scalars : ℕ) (unit : NestUni
         own.0,
         rest.0,
         own.1,
-        done-follows (run_of_nest unit s left).ending (Follow later rest.0) (None rest.0) (sym ran.ending ∙ ap finish_of_ending ended) moved,
+        done-follows (run_of_nest unit s left).ending (Follow later rest.0) (Nothing rest.0) (sym ran.ending ∙ ap finish_of_ending ended) moved,
         refl,
       ),
       behind rest.0 new rest.2,

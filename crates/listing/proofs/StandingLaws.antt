@@ -54,14 +54,13 @@ stand-none : (scalars : ℕ) → Stand scalars []
 stand-none scalars = λ line h. absurd h
 
 stand-one : (scalars : ℕ) (line : ListingLine) → CanBeListed scalars line → Stand scalars (line ∷ [])
-stand-one scalars line can other (inl e) = subst (CanBeListed scalars) (sym e) can
-stand-one scalars line can other (inr h) = absurd h
+stand-one scalars line can = λ other h. ⊎_elim (λ e. subst (CanBeListed scalars) (sym e) can) (λ k. absurd k) h
 
 stand-both : (scalars : ℕ) (xs ys : List ListingLine) → Stand scalars xs → Stand scalars ys → Stand scalars (xs ++ ys)
-stand-both scalars xs ys a b line h = ⊎_elim (λ k. a line k) (λ k. b line k) (has_cases xs ys line h)
+stand-both scalars xs ys a b = λ line h. ⊎_elim (λ k. a line k) (λ k. b line k) (has_cases xs ys line h)
 
 stand-flat : {X : Type 0} (scalars : ℕ) (f : X → List ListingLine) (xs : List X) → ((x : X) → Has xs x → Stand scalars (f x)) → Stand scalars (flat_map f xs)
-stand-flat scalars f xs each line h = let k = flat_map_has f xs line h in each k.0 k.1 line k.2
+stand-flat scalars f xs each = λ line h. let k = flat_map_has f xs line h in each k.0 k.1 line k.2
 
 -- ---- data
 
@@ -109,7 +108,7 @@ stand-forms scalars loops t =
     (λ what h. stand-form scalars (block_of loops rank) what (tube_in t (block_at t rank) what) (named-data scalars loops (block_of loops rank) what h)))
 
 stand-dependences : (scalars : ℕ) (loops : List Loop) (t : Table) (L : ℤ) → Stand scalars (map (depends_line loops) (dependences t L))
-stand-dependences scalars loops t L line h =
+stand-dependences scalars loops t L = λ line h.
     let m = map_has (depends_line loops) (dependences t L) line h in
     subst (CanBeListed scalars) (sym m.2) (dependence-listed t L m.0 m.1).refuses
 
