@@ -1,2 +1,4 @@
+pub mod ChoiceLaws
 pub mod FirstLaws
+pub mod MetLaws
 pub mod RefusalLaws

@@ -1,9 +1,10 @@
 //! The first legal one of some schedules.
 
-ghost use Rattle.std.specs.Prelude.{◌≡◌, ◌<◌, ◌-◌, ◌^◌, Some, length, slice_get, IfOk, IfSome};
+ghost use Rattle.std.specs.Prelude.{◌≡◌, ◌<◌, ◌-◌, ◌^◌, length, slice_get, IfOk, IfSome};
 ghost use Rattle.dependence.specs.Legality.{Legal};
 ghost use Rattle.legality.specs.Choices.{choice};
 
+use crate::judging::refused;
 use crate::refusals::Refusal;
 use domain::Prediction;
 use std::alloc::{AllocError, Global};
@@ -32,12 +33,27 @@ pub fn choose<const D: usize>(
     alloc: Global,
     pred: &Prediction<D>,
     schedules: &[Schedule<D>],
-    length: i64,
+    turns: i64,
 ) -> Result<Choice, AllocError>
     requires few { D < 7 }
     requires count { length schedules.now < 2 ^ 32 }
-    ensures value { IfOk result (λ choice. choice ≡ choice pred.now length schedules.now) }
-    ensures legal { IfOk result (λ chosen. IfSome chosen.legal (λ number. (s : Schedule) → slice_get schedules.now (number - 1) ≡ Some s → Legal pred.now s length)) }
+    ensures value { IfOk result (λ chosen. chosen ≡ choice pred.now turns schedules.now) }
+    ensures legal { IfOk result (λ chosen. IfSome chosen.legal (λ number. IfSome (slice_get schedules.now (number - 1)) (λ s. Legal pred.now s turns))) }
 {
-    Err(AllocError)
+    let mut refusals = Vec::new(alloc);
+    for (place, schedule) in schedules.iter().enumerate() {
+        match refused(alloc, pred, schedule, turns)? {
+            Some(refusal) => refusals.push(refusal)?,
+            None => {
+                return Ok(Choice {
+                    refusals,
+                    legal: Some(place as u32 + 1),
+                });
+            }
+        }
+    }
+    Ok(Choice {
+        refusals,
+        legal: None,
+    })
 }

@@ -37,7 +37,7 @@ pub fn judge<const D: usize>(
 }
 
 /// The first refusal of a schedule; None where it is legal.
-fn refused<const D: usize>(
+pub(crate) fn refused<const D: usize>(
     alloc: Global,
     pred: &Prediction<D>,
     schedule: &Schedule<D>,
