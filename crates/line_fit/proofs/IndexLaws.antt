@@ -1,7 +1,7 @@
 -- An index of samples grows with one more sample.
-use Rattle.std.proofs.Common.{◌≡◌, refl, sym, ap, subst, ◌∙◌, ℕ, ◌+◌, ◌<◌, ℤ, List, [], ◌∷◌, Option, Some, None, Bool, true, false, cond, MatchOption, get_or, length, ◌⊎◌, inl, inr, Bor, Ordering, Less, Equal, Greater, int_cmp, arith}
+use Rattle.std.proofs.Common.{◌≡◌, refl, sym, ap, subst, ◌∙◌, ℕ, ◌+◌, ◌<◌, ℤ, List, Option, Some, None, Bool, true, false, cond, MatchOption, get_or, length, ◌⊎◌, inl, inr, Bor, Ordering, Less, Equal, Greater, int_cmp, arith}
 use Rattle.std.specs.Option.{option_copied, is_some}
-use Rattle.std.specs.Ordering.{is_eq, ordering_then}
+use Rattle.std.specs.Ordering.{is_eq}
 use Rattle.std.specs.Cmp.Lexicographic.{slice_cmp}
 use Rattle.std.specs.BTreeMap.{BTreeMap, get, is_at}
 use Rattle.std.proofs.lemmas.Cmp.{int_cmp_total, lists_total, tied_itself}

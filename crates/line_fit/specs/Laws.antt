@@ -1,5 +1,5 @@
 -- Laws of fits, each for all samples.
-use Rattle.std.specs.Prelude.{◌≡◌, ◌<◌, ℕ, ℤ, pos, ◌+ℤ◌, ◌≤ℤ◌, List, length}
+use Rattle.std.specs.Prelude.{◌≡◌, ◌<◌, ◌⊎◌, ℕ, ℤ, pos, ◌+ℤ◌, ◌≤ℤ◌, List, length}
 use Rattle.affine.specs.Forms.{Affine, value_at}
 use Rattle.line_fit.specs.Samples.{Sample, sample_at, one_less, IsCoefficient}
 use Rattle.line_fit.specs.Lines.{Tube, Miss, Meets, IsLine, IsFit, IsLarge, IsTooWide}
@@ -40,3 +40,15 @@ LineIsOnlyAffine = (n widest : ℕ) (samples : List Sample) (tube : Tube) → 0 
 abbrev pub FitOrUnfit : Type 0
 FitOrUnfit = (n widest : ℕ) (samples : List Sample) (tube : Tube) → 0 < length samples → IsFit n widest samples tube
     → ((number : ℤ) → IsLarge n samples number → ⊥) × ((miss : Miss) → IsTooWide n widest samples miss → ⊥)
+
+-- samples have a fit, or a number of the line that is too large, or a tube that is too wide
+abbrev pub FitOrReason : Type 0
+FitOrReason = (n widest : ℕ) (samples : List Sample) → 0 < length samples
+    → ((tube : Tube) × IsFit n widest samples tube) ⊎ (((number : ℤ) × IsLarge n samples number) ⊎ ((miss : Miss) × IsTooWide n widest samples miss))
+
+-- and they have at most one of these: one number that is too large, not both, and one sample that the line misses first
+abbrev pub ReasonIsOne : Type 0
+ReasonIsOne = (n widest : ℕ) (samples : List Sample)
+    → ((a b : ℤ) → IsLarge n samples a → IsLarge n samples b → a ≡ b)
+    × ((number : ℤ) (miss : Miss) → IsLarge n samples number → IsTooWide n widest samples miss → ⊥)
+    × ((a b : Miss) → IsTooWide n widest samples a → IsTooWide n widest samples b → a ≡ b)

@@ -1,6 +1,6 @@
 //! Laws: functions that do nothing, each with a law of the definitions as its contract.
 
-ghost use Rattle.line_fit.specs.Laws.{CoefficientIsOne, LineIsOne, FitIsOne, SamplesLieInTube, LineIsOnlyAffine, FitOrUnfit};
+ghost use Rattle.line_fit.specs.Laws.{CoefficientIsOne, LineIsOne, FitIsOne, SamplesLieInTube, LineIsOnlyAffine, FitOrUnfit, FitOrReason, ReasonIsOne};
 ghost use Rattle.line_fit.specs.Examples.{FitExamples};
 
 /// A counter has one coefficient.
@@ -32,6 +32,16 @@ pub fn line_is_only_affine()
 /// Where there is a fit no number of the line is too large, and the tube is not too wide.
 pub fn fit_or_unfit()
     ensures { FitOrUnfit }
+{}
+
+/// Samples have a fit, or a number of the line that is too large, or a tube that is too wide.
+pub fn fit_or_reason()
+    ensures { FitOrReason }
+{}
+
+/// Samples have at most one reason why they have no fit.
+pub fn reason_is_one()
+    ensures { ReasonIsOne }
 {}
 
 /// Fits that are worked by hand.

@@ -25,7 +25,7 @@ use Rattle.profile.specs.Fits.{HasFit, HasFitAt, IsFitOf, IsUnfitBy}
 use Rattle.profile.specs.Laws.{FitOrUnfit, HasForm, SamplesLieInTubes, FormIsOnlyAffine}
 
 -- samples with a fit are fit
-not-both : (D rank most : ℕ) (samples : List Sample) (fit : Option Tube) (reason : UnfitWhy D) → HasFit D most samples fit → IsUnfitBy D rank most samples reason → ⊥
+pub not-both : (D rank most : ℕ) (samples : List Sample) (fit : Option Tube) (reason : UnfitWhy D) → HasFit D most samples fit → IsUnfitBy D rank most samples reason → ⊥
 not-both D rank most samples None (why.Large number) none h = let size : length samples ≡ 0 = ap (λ (xs : List Sample). length xs) none in let some = h.0 in omega arith
 not-both D rank most samples None (why.Line at line seen) none h = let size : length samples ≡ 0 = ap (λ (xs : List Sample). length xs) none in let some = h.0 in omega arith
 not-both D rank most samples (Some tube) (why.Large number) fit h = (fit-or-unfit D most samples tube fit.0 fit.1).0 number h.1

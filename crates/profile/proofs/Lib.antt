@@ -5,6 +5,7 @@ pub mod FitParts
 pub mod GatherLaws
 pub mod LogLaws
 pub mod OneFitLaws
-pub mod ReachLaws
+pub mod OneUnfitLaws
 pub mod SamplerLaws
+pub mod SomeFitLaws
 pub mod WholeLaws

@@ -1,11 +1,11 @@
 -- A nest has one fit.
 use Rattle.std.proofs.Common.{◌≡◌, refl, sym, ap, subst, ◌∙◌, ℕ, zero, suc, ◌+◌, ◌<◌, ◌≤◌, Bool, false, ℤ, pos, List, [], ◌∷◌, ◌++◌, length, map, get_or, slice_get, Option, Some, None, arith}
 use Rattle.std.specs.Prelude.{option_and_then, option_map}
-use Rattle.std.specs.List.{All, Contains, range_with_len}
+use Rattle.std.specs.List.{Contains, range_with_len}
 use Rattle.std.proofs.lemmas.List.{length-map}
 use Rattle.std.proofs.lemmas.List.Elements.{All-contains, Contains-append_left, Contains-append_right, Contains-get_or}
 use Rattle.std.proofs.lemmas.List.FromFn.{get_or-map-range_with_len, length-map-range_with_len}
-use Rattle.std.proofs.lemmas.Option.{get_or_from_slice_get, slice_get-get_or, slice_get_within}
+use Rattle.std.proofs.lemmas.Option.{slice_get-get_or}
 use Rattle.affine.specs.Forms.{Affine}
 use Rattle.nest_lang.specs.declared.tree.Access.{Access as NestAccess}
 use Rattle.nest_lang.specs.declared.tree.BlockRef.{BlockRef}
@@ -15,7 +15,7 @@ use Rattle.nest_lang.specs.declared.tree.Loop.{Loop}
 use Rattle.nest_lang.specs.declared.tree.Part.{Part}
 use Rattle.nest_lang.specs.declared.tree.Part.TheVariants.{Head}
 use Rattle.nest_lang.specs.Accesses.{accesses_of}
-use Rattle.nest_lang.specs.Blocks.{block_ref, loop_at, present_blocks}
+use Rattle.nest_lang.specs.Blocks.{block_ref, present_blocks}
 use Rattle.nest_lang.specs.BlockLaws.{IsPresentHead}
 use Rattle.nest_lang.specs.Traces.{Observation}
 use Rattle.nest_lang.proofs.Ranks.{ranks-are_numbers, present_blocks-have_ranks}
@@ -25,7 +25,7 @@ use Rattle.line_fit.proofs.LineLaws.{fit-one}
 use Rattle.domain.specs.declared.prediction.What.{What}
 use Rattle.domain.specs.declared.prediction.What.TheVariants.{Scalar, Address, Lower, Trip}
 use Rattle.domain.specs.declared.table.LoopKind.{LoopKind}
-use Rattle.domain.specs.Tables.{Table, Block, Access, Level, access_at, block_at, head_level, head_level_by, level_at, loop_of, no_block, no_level}
+use Rattle.domain.specs.Tables.{Table, Block, Access, Level, block_at, head_level, head_level_by, level_at, loop_of, no_block, no_level}
 use Rattle.domain.specs.Shapes.{IsBlockOf, is_store, kind_of}
 use Rattle.profile.specs.Data.{bounds_of, data_of, samples_at, tube_about, tube_in, tube_of_access, widest}
 use Rattle.profile.specs.Fits.{HasFit, HasFitAt, HasNarrowTube, IsFitOf}

@@ -8,7 +8,6 @@ use Rattle.std.proofs.lemmas.List.{get_or_append_left}
 use Rattle.std.proofs.lemmas.List.Elements.{All-append, All-cons, All-from_get_or, All-map, All-nil}
 use Rattle.std.proofs.lemmas.List.FromFn.{get_or-range_with_len, length-range_with_len}
 use Rattle.std.proofs.lemmas.Option.{get_or_from_slice_get, slice_get_within, slice_get-get_or}
-use Rattle.affine.specs.Forms.{Affine}
 use Rattle.nest_lang.specs.declared.tree.BlockRef.{BlockRef}
 use Rattle.nest_lang.specs.declared.tree.Loop.{Loop}
 use Rattle.nest_lang.specs.declared.tree.Part.{Part}
@@ -25,12 +24,11 @@ use Rattle.domain.specs.Tables.{Table, Block, Access, Level, Reaches, access_at,
 use Rattle.domain.specs.Shapes.{kind_of}
 use Rattle.profile.specs.declared.unfit.FitEnd.{FitEnd}
 use Rattle.profile.specs.declared.unfit.FitEnd.TheVariants as end
-use Rattle.profile.specs.Data.{bounds_of, data_of, samples_at, tube_about, tube_in, tube_of_access}
-use Rattle.profile.specs.Fits.{AreWithinReach, HasFitAt, HasNarrowTube, IsFitEnd, IsFitOf, IsUnfitIn, IsWithinReach}
-use Rattle.profile.specs.Parts.{AreBlockFits, AreBoundFits, AreLevels, IsBlockFit, IsEndIn, LoopBounds, level_with, no_bounds, own_bounds}
+use Rattle.profile.specs.Data.{bounds_of, data_of, tube_about, tube_in, tube_of_access}
+use Rattle.profile.specs.Fits.{HasFitAt, HasNarrowTube, IsFitEnd, IsFitOf, IsUnfitIn}
+use Rattle.profile.specs.Parts.{AreBlockFits, AreLevels, IsBlockFit, IsEndIn, LoopBounds, StayWithinReach, level_with, no_bounds, own_bounds}
 use Rattle.profile.proofs.EndLaws.{slice_get-either, slice_get-left, slice_get-right}
 use Rattle.profile.proofs.FitParts.{accesses-count, bounds-cases, bounds-two, data-fit}
-use Rattle.profile.proofs.ReachLaws.{reach}
 
 less-cases : (k n : ℕ) → k < n + 1 → (k < n) ⊎ (k ≡ n)
 less-cases k n h = grind arith
@@ -85,11 +83,10 @@ module _ (D scalars : ℕ) (loops : List Loop) (observations : List Observation)
 -- one more loop
 module _ (loops : List Loop) where
   pub more-level : (bounds : List LoopBounds) (n : ℕ) (levels grown : List Level) (l : Loop) (x : Level) → AreLevels loops bounds n levels → slice_get loops n ≡ Some l
-      → x ≡ level_with (kind_of l.head) (own_bounds loops bounds (n + 1)) → stride_size x.kind ≤ 2 ^ 63 → grown ≡ levels ++ x ∷ [] → AreLevels loops bounds (n + 1) grown
-  more-level bounds n levels grown l x so_far at made stride is = record {
+      → x ≡ level_with (kind_of l.head) (own_bounds loops bounds (n + 1)) → grown ≡ levels ++ x ∷ [] → AreLevels loops bounds (n + 1) grown
+  more-level bounds n levels grown l x so_far at made is = record {
     count = ap (λ (xs : List Level). length xs) is ∙ length-append levels (x ∷ []) ∙ ap (λ (m : ℕ). m + 1) so_far.count;
     each = λ k m h e. subst (λ (xs : List Level). slice_get xs k ≡ Some (level_with (kind_of m.head) (own_bounds loops bounds (k + 1)))) (sym is) (whole k m e (less-cases k n h));
-    strides = λ k y e. small k y (slice_get-either levels (x ∷ []) k y (subst (λ (xs : List Level). slice_get xs k ≡ Some y) is e));
   }
     where
       whole : (k : ℕ) (m : Loop) → slice_get loops k ≡ Some m → (k < n) ⊎ (k ≡ n) → slice_get (levels ++ x ∷ []) k ≡ Some (level_with (kind_of m.head) (own_bounds loops bounds (k + 1)))
@@ -102,10 +99,19 @@ module _ (loops : List Loop) where
           subst (λ (j : ℕ). slice_get (levels ++ x ∷ []) j ≡ Some (level_with (kind_of m.head) (own_bounds loops bounds (k + 1)))) place
           (slice_get-right levels (x ∷ []) 0 (level_with (kind_of m.head) (own_bounds loops bounds (k + 1))) (ap (λ (z : Level). Some z) value))
 
-      small : (k : ℕ) (y : Level) → (slice_get levels k ≡ Some y) ⊎ ((j : ℕ) × (k ≡ length levels + j) × (slice_get (x ∷ []) j ≡ Some y)) → stride_size y.kind ≤ 2 ^ 63
-      small k y (inl e) = so_far.strides k y e
-      small k y (inr (zero, s, e)) = let same : x ≡ y = cc in subst (λ (z : Level). stride_size z.kind ≤ 2 ^ 63) same stride
-      small k y (inr (suc j, s, e)) = absurd (cc)
+pub more-reach : (levels grown : List Level) (x : Level) → StayWithinReach levels → stride_size x.kind ≤ 2 ^ 63 → Reaches (stride_size x.kind) x.trip → grown ≡ levels ++ x ∷ [] → StayWithinReach grown
+more-reach levels grown x so_far stride reaches is = record {
+  strides = of_each (λ z. stride_size z.kind ≤ 2 ^ 63) so_far.strides stride;
+  reach = of_each (λ z. Reaches (stride_size z.kind) z.trip) so_far.reach reaches;
+}
+  where
+    either : (P : Level → Type 0) → ((k : ℕ) (y : Level) → slice_get levels k ≡ Some y → P y) → P x → (k : ℕ) (y : Level) → (slice_get levels k ≡ Some y) ⊎ ((j : ℕ) × (k ≡ length levels + j) × (slice_get (x ∷ []) j ≡ Some y)) → P y
+    either P before here k y (inl e) = before k y e
+    either P before here k y (inr (zero, s, e)) = let same : x ≡ y = cc in subst P same here
+    either P before here k y (inr (suc j, s, e)) = absurd (cc)
+
+    of_each : (P : Level → Type 0) → ((k : ℕ) (y : Level) → slice_get levels k ≡ Some y → P y) → P x → (k : ℕ) (y : Level) → slice_get grown k ≡ Some y → P y
+    of_each P before here k y e = either P before here k y (slice_get-either levels (x ∷ []) k y (subst (λ (xs : List Level). slice_get xs k ≡ Some y) is e))
 
 -- ---- the whole
 kind-with : (kind : LoopKind) (own : Option LoopBounds) → (level_with kind own).kind ≡ kind
@@ -252,42 +258,16 @@ module _ (D scalars : ℕ) (loops : List Loop) (observations : List Observation)
     unseen = narrow;
   }
 
-  pub strides-fit : (k : ℕ) → stride_size (level_at t k).kind ≤ 2 ^ 63
-  strides-fit k = at (nat_lt k (length levels)) refl
-    where
-      at : (z : Bool) → nat_lt k (length levels) ≡ z → stride_size (get_or levels k no_level).kind ≤ 2 ^ 63
-      at true q = are.strides k (get_or levels k no_level) (slice_get-get_or levels k no_level (let h = q in grind (arith, nat_tests)))
-      at false q = subst (λ (x : Level). stride_size x.kind ≤ 2 ^ 63) (sym (beyond levels k no_level (let h = q in grind (arith, nat_tests)))) (omega arith)
+-- what holds of each loop of a table, and of one that isn't there
+at-each : (P : Level → Type 0) (levels : List Level) → P no_level → ((k : ℕ) (x : Level) → slice_get levels k ≡ Some x → P x) → (k : ℕ) → P (get_or levels k no_level)
+at-each P levels none each k = at (nat_lt k (length levels)) refl
+  where
+    at : (z : Bool) → nat_lt k (length levels) ≡ z → P (get_or levels k no_level)
+    at true q = each k (get_or levels k no_level) (slice_get-get_or levels k no_level (let h = q in grind (arith, nat_tests)))
+    at false q = subst P (sym (beyond levels k no_level (let h = q in grind (arith, nat_tests)))) none
 
-  -- ---- the trips stay within reach
-  module _ (few : D ≤ 6) (within : AreWithinReach D loops observations) where
-    trip-reaches : (stride : ℕ) (block : BlockRef) (trip : Option Affine) → HasFitAt D observations block Trip (tube_about trip (pos 0) (pos 0)) → All (λ s. IsWithinReach stride s) (samples_at D observations block Trip) → Reaches stride trip
-    trip-reaches stride block None h all = tt
-    trip-reaches stride block (Some form) h all = reach stride D (samples_at D observations block Trip) form few h.0 h.1.line all
+pub strides-fit : (levels : List Level) → StayWithinReach levels → (k : ℕ) → stride_size (get_or levels k no_level).kind ≤ 2 ^ 63
+strides-fit levels within = at-each (λ x. stride_size x.kind ≤ 2 ^ 63) levels (omega arith) within.strides
 
-    bounded : (k : ℕ) (l : Loop) → slice_get loops k ≡ Some l → (o : Option ℕ) → rank_of loops (block_ref Head (suc k)) ≡ o → Reaches (stride_size (kind_of l.head)) (level_with (kind_of l.head) (own_bounds loops bounds (suc k))).trip
-    bounded k l e None q = subst (λ (b : Option LoopBounds). Reaches (stride_size (kind_of l.head)) (level_with (kind_of l.head) b).trip) (sym (ap (option_and_then (λ (r : ℕ). slice_get bounds r)) q)) tt
-    bounded k l e (Some rank) q =
-        let at = (ranks-are_numbers loops (block_ref Head (suc k)) rank).0 q in
-        let f = fits.each rank (block_ref Head (suc k)) (slice_get_within (present_blocks loops) rank (block_ref Head (suc k)) at) at in
-        subst (λ (b : Option LoopBounds). Reaches (stride_size (kind_of l.head)) (level_with (kind_of l.head) b).trip) (sym (own-is (suc k) rank at)) (by (bounds-cases D observations (block_ref Head (suc k)) Head (suc k)) f.bounds_fit)
-      where
-        by : ((Head ≡ Head) × (2 ≤ suc k)) ⊎ (bounds_of Head (suc k) ≡ []) → AreBoundFits D observations (block_ref Head (suc k)) (get_or bounds rank no_bounds) → Reaches (stride_size (kind_of l.head)) (get_or bounds rank no_bounds).trip
-        by (inl h) f = trip-reaches (stride_size (kind_of l.head)) (block_ref Head (suc k)) (get_or bounds rank no_bounds).trip (f.inner h.0 h.1).1 (within (suc k) l e)
-        by (inr none) f = subst (λ (x : Option Affine). Reaches (stride_size (kind_of l.head)) x) (sym (f.other none).1) tt
-
-    pub reaches-fit : (k : ℕ) → Reaches (stride_size (level_at t k).kind) (level_at t k).trip
-    reaches-fit k = at (nat_lt k (length levels)) refl
-      where
-        at : (z : Bool) → nat_lt k (length levels) ≡ z → Reaches (stride_size (get_or levels k no_level).kind) (get_or levels k no_level).trip
-        at false q = subst (λ (x : Level). Reaches (stride_size x.kind) x.trip) (sym (beyond levels k no_level (let h = q in grind (arith, nat_tests)))) tt
-        at true q = inside (slice_get loops k) refl
-          where
-            inside : (o : Option Loop) → slice_get loops k ≡ o → Reaches (stride_size (get_or levels k no_level).kind) (get_or levels k no_level).trip
-            inside None none = absurd (past k loops none (let c = are.count in let h = q in grind (arith, nat_tests)))
-            inside (Some l) e =
-                let one : k + 1 ≡ suc k = omega arith in
-                let level = get_or_from_slice_get levels k _ no_level (level-is k l e) ∙ ap (λ (j : ℕ). level_with (kind_of l.head) (own_bounds loops bounds j)) one in
-                subst (λ (x : Level). Reaches (stride_size x.kind) x.trip) (sym level)
-                (subst (λ (kind : LoopKind). Reaches (stride_size kind) (level_with (kind_of l.head) (own_bounds loops bounds (suc k))).trip) (sym (kind-with (kind_of l.head) (own_bounds loops bounds (suc k))))
-                (bounded k l e (rank_of loops (block_ref Head (suc k))) refl))
+pub reaches-fit : (levels : List Level) → StayWithinReach levels → (k : ℕ) → Reaches (stride_size (get_or levels k no_level).kind) (get_or levels k no_level).trip
+reaches-fit levels within = at-each (λ x. Reaches (stride_size x.kind) x.trip) levels tt within.reach

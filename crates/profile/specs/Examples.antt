@@ -1,14 +1,11 @@
 -- A small nest, for tests of its fit.
-use Rattle.std.specs.Prelude.{◌≡◌, pos, List, [], ◌∷◌}
-use Rattle.std.specs.List.{All}
+use Rattle.std.specs.Prelude.{pos, List, [], ◌∷◌}
 use Rattle.nest_lang.specs.declared.tree.Expr.TheVariants.{Number, Var}
 use Rattle.nest_lang.specs.declared.tree.Head.TheVariants.{For}
 use Rattle.nest_lang.specs.declared.tree.Loop.{Loop}
-use Rattle.nest_lang.specs.declared.tree.Part.TheVariants.{Pre}
 use Rattle.nest_lang.specs.declared.tree.Place.TheVariants.{Counter}
 use Rattle.nest_lang.specs.declared.tree.Stmt.{Stmt}
 use Rattle.nest_lang.specs.declared.tree.Stmt.TheVariants.{Store}
-use Rattle.nest_lang.specs.Traces.{Observation}
 
 -- [i] = 5
 abbrev pub store_five : List Stmt
@@ -17,7 +14,3 @@ store_five = Store 1 (Var (Counter 0)) (Number (pos 5)) ∷ []
 -- for i = 0 below 8 { [i] = 5 }
 abbrev pub filling : List Loop
 filling = record { head = For (Number (pos 0)) (Number (pos 8)) (pos 1); pre = store_five; post = [] } ∷ []
-
--- each observation is of a block before an inner loop
-abbrev pub AreOfPre : List Observation → Type 0
-AreOfPre observations = All (λ (o : Observation). o.at.block.part ≡ Pre) observations

@@ -1,18 +1,15 @@
 -- Fits: the table of a nest in which each datum has the fit of its samples, and the first datum that has none.
-use Rattle.std.specs.Prelude.{◌≡◌, ◌<◌, ◌≤◌, ◌*◌, ◌^◌, ℕ, pos, unsigned_abs, List, [], length, slice_get, Option, Some, None, ⊤}
+use Rattle.std.specs.Prelude.{◌≡◌, ◌<◌, ℕ, pos, List, [], length, slice_get, Option, Some, None, ⊤}
 use Rattle.std.specs.List.{All}
-use Rattle.affine.specs.Forms.{AllWithinSize}
 use Rattle.nest_lang.specs.declared.tree.BlockRef.{BlockRef}
 use Rattle.nest_lang.specs.declared.tree.Loop.{Loop}
-use Rattle.nest_lang.specs.declared.tree.Part.TheVariants.{Head}
-use Rattle.nest_lang.specs.Blocks.{block_ref, loop_at, present_blocks}
+use Rattle.nest_lang.specs.Blocks.{present_blocks}
 use Rattle.nest_lang.specs.Traces.{Observation}
 use Rattle.line_fit.specs.Samples.{Sample}
 use Rattle.line_fit.specs.Lines.{Tube, IsFit, IsLarge, IsTooWide}
 use Rattle.domain.specs.declared.prediction.What.{What}
-use Rattle.domain.specs.declared.prediction.What.TheVariants.{Trip}
-use Rattle.domain.specs.Tables.{Table, Access, access_at, block_at, level_at, stride_size}
-use Rattle.domain.specs.Shapes.{IsTableOf, kind_of}
+use Rattle.domain.specs.Tables.{Table, Access, access_at, block_at, level_at}
+use Rattle.domain.specs.Shapes.{IsTableOf}
 use Rattle.profile.specs.declared.unfit.Unfit.{Unfit}
 use Rattle.profile.specs.declared.unfit.UnfitWhy.{UnfitWhy}
 use Rattle.profile.specs.declared.unfit.UnfitWhy.TheVariants as why
@@ -69,15 +66,3 @@ pub record IsUnfitAt (D scalars : ℕ) (loops : List Loop) (observations : List 
 abbrev pub IsFitEnd : (D : ℕ) → ℕ → List Loop → List Observation → FitEnd D → Type 0
 IsFitEnd D scalars loops observations (end.Unfit unfit) = IsUnfitAt D scalars loops observations unfit
 IsFitEnd D scalars loops observations end.NoMemory = ⊤
-
--- a trip that was seen of a loop of that stride stays within reach: its counters are at most 2^33 in size, and the stride
--- times the trip at most 2^65
-pub record IsWithinReach (stride : ℕ) (sample : Sample) : Type 0 where
-  pub counters : AllWithinSize (2 ^ 33) sample.at
-  pub trip : stride * unsigned_abs sample.value ≤ 2 ^ 65
-
--- so does each trip that was seen, as in every run: there the bounds of a `for` are i64s, and a counter is below the number
--- of the steps
-abbrev pub AreWithinReach : ℕ → List Loop → List Observation → Type 0
-AreWithinReach D loops observations =
-    (level : ℕ) (l : Loop) → loop_at loops level ≡ Some l → All (λ sample. IsWithinReach (stride_size (kind_of l.head)) sample) (samples_at D observations (block_ref Head level) Trip)

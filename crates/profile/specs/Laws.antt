@@ -1,5 +1,5 @@
 -- Laws of the fit of a nest, each for all observations.
-use Rattle.std.specs.Prelude.{◌≡◌, ◌<◌, ℕ, pos, ◌+ℤ◌, ◌≤ℤ◌, List, length, slice_get, Some}
+use Rattle.std.specs.Prelude.{◌≡◌, ◌<◌, ◌⊎◌, ℕ, pos, ◌+ℤ◌, ◌≤ℤ◌, List, length, slice_get, Some}
 use Rattle.std.specs.List.{Contains}
 use Rattle.affine.specs.Forms.{Affine, value_at}
 use Rattle.nest_lang.specs.declared.tree.BlockRef.{BlockRef}
@@ -46,3 +46,11 @@ FormIsOnlyAffine =
 -- observations have at most one fit
 abbrev pub OneFit : Type 0
 OneFit = (D scalars : ℕ) (loops : List Loop) (observations : List Observation) (t u : Table) → IsFitOf D scalars loops observations t → IsFitOf D scalars loops observations u → t ≡ u
+
+-- observations have a fit, or a first datum that has none: of every nest, whatever was seen of it
+abbrev pub FitOrFirstUnfit : Type 0
+FitOrFirstUnfit = (D scalars : ℕ) (loops : List Loop) (observations : List Observation) → ((t : Table) × IsFitOf D scalars loops observations t) ⊎ ((unfit : Unfit D) × IsUnfitAt D scalars loops observations unfit)
+
+-- observations have at most one first datum that has no fit
+abbrev pub OneFirstUnfit : Type 0
+OneFirstUnfit = (D scalars : ℕ) (loops : List Loop) (observations : List Observation) (u v : Unfit D) → IsUnfitAt D scalars loops observations u → IsUnfitAt D scalars loops observations v → u ≡ v

@@ -12,7 +12,7 @@ use Rattle.line_fit.specs.Lines.{Tube}
 use Rattle.domain.specs.declared.prediction.What.{What}
 use Rattle.domain.specs.declared.prediction.What.TheVariants.{Scalar, Address, Lower, Trip}
 use Rattle.domain.specs.declared.table.LoopKind.{LoopKind}
-use Rattle.domain.specs.Tables.{Block, Access, Level, no_block, stride_size, IsTube}
+use Rattle.domain.specs.Tables.{Block, Access, Level, no_block, Reaches, stride_size, IsTube}
 use Rattle.domain.specs.Shapes.{is_store, kind_of}
 use Rattle.profile.specs.declared.unfit.FitEnd.{FitEnd}
 use Rattle.profile.specs.declared.unfit.FitEnd.TheVariants as end
@@ -78,4 +78,8 @@ level_with kind (Some b) = record { kind = kind; lower = b.lower; trip = b.trip 
 pub record AreLevels (loops : List Loop) (bounds : List LoopBounds) (n : ℕ) (levels : List Level) : Type 0 where
   pub count : length levels ≡ n
   pub each : (k : ℕ) (l : Loop) → k < n → slice_get loops k ≡ Some l → slice_get levels k ≡ Some (level_with (kind_of l.head) (own_bounds loops bounds (k + 1)))
+
+-- loops that a prediction may have: their strides are i64s, and the values of their names stay far below 2^127
+pub record StayWithinReach (levels : List Level) : Type 0 where
   pub strides : (k : ℕ) (x : Level) → slice_get levels k ≡ Some x → stride_size x.kind ≤ 2 ^ 63
+  pub reach : (k : ℕ) (x : Level) → slice_get levels k ≡ Some x → Reaches (stride_size x.kind) x.trip

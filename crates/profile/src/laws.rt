@@ -1,6 +1,6 @@
 //! Laws: functions that do nothing, each with a law of the definitions as its contract.
 
-ghost use Rattle.profile.specs.Laws.{FitOrUnfit, FormIsOnlyAffine, OneFit, SamplesLieInTubes};
+ghost use Rattle.profile.specs.Laws.{FitOrFirstUnfit, FitOrUnfit, FormIsOnlyAffine, OneFirstUnfit, OneFit, SamplesLieInTubes};
 ghost use Rattle.profile.specs.Sampled.{SamplerKeepsAll};
 
 /// A sampler that was shown a list of things, one after another, keeps the observations among them, in order, or was
@@ -12,6 +12,16 @@ pub fn sampler_keeps_all()
 /// Observations don't have both a fit and a first datum that has none.
 pub fn fit_or_unfit()
     ensures { FitOrUnfit }
+{}
+
+/// Observations have a fit, or a first datum that has none.
+pub fn fit_or_first_unfit()
+    ensures { FitOrFirstUnfit }
+{}
+
+/// Observations have at most one first datum that has no fit.
+pub fn one_first_unfit()
+    ensures { OneFirstUnfit }
 {}
 
 /// Observations have at most one fit.

@@ -13,6 +13,7 @@ mod gather;
 pub mod laws;
 mod log;
 mod nest_fit;
+mod reach;
 mod sampler;
 mod site;
 mod unfit;

@@ -6,10 +6,11 @@ ghost use Rattle.nest_lang.specs.Blocks.{present_blocks};
 ghost use Rattle.nest_lang.specs.Rules.{NestKeeps};
 ghost use Rattle.domain.specs.Tables.{stride_size};
 ghost use Rattle.domain.specs.Shapes.{kind_of};
-ghost use Rattle.profile.specs.Fits.{AreWithinReach, IsFitEnd, IsFitOf};
-ghost use Rattle.profile.specs.Parts.{AreBlockFits, AreLevels, level_with, own_bounds};
+ghost use Rattle.profile.specs.Fits.{IsFitEnd, IsFitOf};
+ghost use Rattle.profile.specs.Parts.{AreBlockFits, AreLevels, StayWithinReach, level_with, own_bounds};
 
 use crate::bounds::Bounds;
+use crate::reach::is_within_reach;
 use crate::sampler::Samples;
 use crate::site::{BlockFit, Site};
 use crate::unfit::FitEnd;
@@ -38,7 +39,6 @@ pub fn fit<const D: usize>(
     requires depth { length nest.now.loops ≡ D }
     requires scalars { scalars ≤ 16 }
     requires keeps { NestKeeps scalars nest.now.loops }
-    requires reach { AreWithinReach D nest.now.loops samples.now }
     ensures { MatchResult result (λ pred. IsFitOf D scalars nest.now.loops samples.now pred) (λ end. IsFitEnd D scalars nest.now.loops samples.now end) }
 {
     let Blocks { blocks, bounds } = fit_blocks(alloc, nest, scalars, samples)?;
@@ -72,19 +72,26 @@ fn fit_blocks<const D: usize>(
     Ok(Blocks { blocks, bounds })
 }
 
-/// The loops, each with the bounds that its head has.
+/// The loops, each with the bounds that its head has. It is refused also where the values of a loop's name reach further
+/// than in any run.
 fn fit_levels<const D: usize>(
     alloc: Global,
     nest: &Nest,
     bounds: &[Bounds<D>],
 ) -> Result<Vec<LoopForms<D>>, AllocError>
-    requires { length nest.now.loops ≤ 6 }
-    ensures { IfOk result (λ levels. AreLevels nest.now.loops bounds.now (length nest.now.loops) levels.items) }
+    requires few { D < 7 }
+    requires shallow { length nest.now.loops ≤ 6 }
+    ensures levels { IfOk result (λ levels. AreLevels nest.now.loops bounds.now (length nest.now.loops) levels.items) }
+    ensures reach { IfOk result (λ levels. StayWithinReach levels.items) }
 {
     let mut levels = Vec::new(alloc);
     for (around, at) in nest.loops.as_slice().iter().enumerate() {
         let own = own_bounds(nest, around as u8 + 1, bounds);
-        levels.push(fit_level(&at.head, own))?;
+        let level = fit_level(&at.head, own);
+        if !is_within_reach(&level) {
+            return Err(AllocError);
+        }
+        levels.push(level)?;
     }
     Ok(levels)
 }

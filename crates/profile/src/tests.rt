@@ -1,7 +1,7 @@
 //! Profiles that are worked by hand: what is shown, and the forms that it has.
 
 ghost use Rattle.std.specs.Prelude.{◌≡◌, IfOk};
-ghost use Rattle.profile.specs.Examples.{AreOfPre, filling};
+ghost use Rattle.profile.specs.Examples.{filling};
 
 use crate::log::Item;
 use crate::{FitEnd, Sampler, Samples, Unfit, UnfitWhy, fit};
@@ -178,9 +178,7 @@ fn filling(alloc: Global) -> Result<Nest, AllocError>
 }
 
 /// What was shown of the block of one loop in its turns from 0 on: these values of a datum.
-fn shown(alloc: Global, what: Seen, values: &[i128]) -> Result<Samples, AllocError>
-    ensures { IfOk result (λ samples. AreOfPre samples) }
-{
+fn shown(alloc: Global, what: Seen, values: &[i128]) -> Result<Samples, AllocError> {
     let mut sampler = Sampler::new(alloc);
     for (turn, value) in values.iter().enumerate() {
         sampler.see(PRE1, &[turn as i64], what, *value);
@@ -189,9 +187,7 @@ fn shown(alloc: Global, what: Seen, values: &[i128]) -> Result<Samples, AllocErr
 }
 
 /// The fit of that nest, with one scalar.
-fn fitted(alloc: Global, samples: &Samples) -> Result<Prediction<1>, FitEnd<1>>
-    requires { AreOfPre samples.now }
-{
+fn fitted(alloc: Global, samples: &Samples) -> Result<Prediction<1>, FitEnd<1>> {
     let nest = filling(alloc)?;
     fit(alloc, &nest, 1, samples)
 }

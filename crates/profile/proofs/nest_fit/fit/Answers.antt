@@ -1,4 +1,4 @@
-use Rattle.std.proofs.Common.{sym, subst, ℕ, length, List, rules, arith}
+use Rattle.std.proofs.Common.{sym, subst, ℕ, length, List, rules}
 use Rattle.domain.specs.Tables.{Table, IsTable}
 use Rattle.domain.proofs.ShapeLaws.{table_of_nest}
 use Rattle.profile.specs.Fits.{IsFitOf}
@@ -15,10 +15,10 @@ new-requires g c =
     let bounds : List LoopBounds = c.in_ok-blocks.field-0.bounds.items in
     let levels = c.in_ok-levels.levels.items in
     let fits = c.in_ok-blocks.ensures in
-    let are : AreLevels loops bounds (length loops) levels = subst (λ (bs : List LoopBounds). AreLevels loops bs (length loops) levels) c.as_slice.ensures.value c.in_ok-levels.ensures in
+    let are : AreLevels loops bounds (length loops) levels = subst (λ (bs : List LoopBounds). AreLevels loops bs (length loops) levels) c.as_slice.ensures.value c.in_ok-levels.ensures.levels in
     let t : Table = record { levels = levels; blocks = blocks } in
     let is = made g.row.D c.args.scalars loops o blocks bounds levels fits are in
-    let table = table_of_nest c.args.scalars loops t c.requires.scalars c.requires.keeps is.shape (strides-fit g.row.D c.args.scalars loops o blocks bounds levels fits are) (reaches-fit g.row.D c.args.scalars loops o blocks bounds levels fits are (omega arith) c.requires.reach) in
+    let table = table_of_nest c.args.scalars loops t c.requires.scalars c.requires.keeps is.shape (strides-fit levels c.in_ok-levels.ensures.reach) (reaches-fit levels c.in_ok-levels.ensures.reach) in
     (search rules, (search rules, (search rules, subst (λ (n : ℕ). IsTable n t) c.requires.depth table)))
 
 pub returns : goal.returns
@@ -28,5 +28,5 @@ returns g c =
     let blocks = c.in_ok-blocks.field-0.blocks.items in
     let bounds : List LoopBounds = c.in_ok-blocks.field-0.bounds.items in
     let levels = c.in_ok-levels.levels.items in
-    let are : AreLevels loops bounds (length loops) levels = subst (λ (bs : List LoopBounds). AreLevels loops bs (length loops) levels) c.as_slice.ensures.value c.in_ok-levels.ensures in
+    let are : AreLevels loops bounds (length loops) levels = subst (λ (bs : List LoopBounds). AreLevels loops bs (length loops) levels) c.as_slice.ensures.value c.in_ok-levels.ensures.levels in
     subst (λ (t : Table). IsFitOf g.row.D c.args.scalars loops o t) (sym c.new.ensures) (made g.row.D c.args.scalars loops o blocks bounds levels c.in_ok-blocks.ensures are)
