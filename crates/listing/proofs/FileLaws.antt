@@ -1,10 +1,11 @@
 -- What holds of the nests of a file that some text reads as.
-use Rattle.std.proofs.Common.{◌≡◌, ℕ, ◌+◌, ◌<◌, ◌≤◌, List, [], ◌∷◌, ◌++◌, length, length-append, subst, arith}
+use Rattle.std.proofs.Common.{◌≡◌, ℕ, ◌<◌, ◌≤◌, List, [], ◌∷◌, length, length-append, subst, true, nat_le, arith}
 use Rattle.std.specs.List.{All}
-use Rattle.std.proofs.lemmas.List.Elements.{All-cons, All-head, All-nil, All-push, All-tail}
+use Rattle.std.proofs.lemmas.List.Elements.{All-head, All-nil, All-push, All-tail}
 use Rattle.plain_lemmas.proofs.MembershipLaws.{All_from, All_has}
-use Rattle.nest_lang.specs.Rules.{NestKeeps}
-use Rattle.nest_tokens.specs.declared.token.Name.{Name}
+use Rattle.std.proofs.lemmas.Bool.{and_parts}
+use Rattle.nest_lang.specs.declared.tree.Loop.{Loop}
+use Rattle.nest_lang.specs.Rules.{NestKeeps, loop_keeps, loops_keep}
 use Rattle.nest_grammar.specs.declared.version.Version.{Version}
 use Rattle.nest_grammar.specs.declared.file.File.{File}
 use Rattle.nest_grammar.specs.declared.file.NestUnit.{NestUnit}
@@ -13,7 +14,6 @@ use Rattle.nest_grammar.specs.Sights.{Sight}
 use Rattle.nest_grammar.specs.Names.{Names}
 use Rattle.nest_grammar.specs.Grammar.{IsCandidates, IsUnit, IsUnits, Reads}
 use Rattle.nest_grammar.specs.Grammar as grammar
-use Rattle.grammar_laws.specs.Rules.{KeepsRules}
 use Rattle.grammar_laws.proofs.Contents.{reading-reads}
 use Rattle.grammar_laws.proofs.Rules.{reading-keeps}
 use Rattle.nest_text.specs.Files.{IsOfText}
@@ -29,7 +29,7 @@ candidates-few (grammar.more {scripts} {cs} i h l j) = let e = length-append scr
 unit-few : {v : Version} {names : Names} {s t : Sight} {u : NestUnit} → IsUnit v names s u t → HasFew u
 unit-few (grammar.unit i j) = candidates-few j
 
-units-few : {v : Version} {names : Names} {s t : Sight} {us : List NestUnit} → IsUnits names v s us t → All HasFew us
+units-few : {names : Names} {v : Version} {s t : Sight} {us : List NestUnit} → IsUnits names v s us t → All HasFew us
 units-few (grammar.one {n = n} i) = All-push HasFew [] n (All-nil HasFew) (unit-few i)
 units-few (grammar.more {ns} {n} i l j) = All-push HasFew ns n (units-few i) (unit-few j)
 
@@ -56,6 +56,12 @@ units-of_text file of =
             candidates = All_has HasFew file.units u few h;
           });
     }
+
+-- the loops of a nest that keeps the rules are one to six
+pub loops_keep-count : (loops : List Loop) → loops_keep loops ≡ true → (0 < length loops) × (length loops < 7)
+unfolding loops_keep
+loops_keep-count [] h = absurd (cc)
+loops_keep-count (l ∷ ls) h = let few : nat_le (length ls) 5 ≡ true = (and_parts (nat_le (length ls) 5) (loop_keeps l ls) h).0 in (omega arith, grind (arith, few))
 
 -- the first of some nests, and those behind it
 pub first-unit : (scalars : ℕ) (units later : List NestUnit) (unit : NestUnit) → units ≡ unit ∷ later → All (IsUnitOf scalars) units → IsUnitOf scalars unit

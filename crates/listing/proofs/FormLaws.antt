@@ -1,5 +1,5 @@
 -- The forms of a block, with the tubes about them.
-use Rattle.std.proofs.Common.{◌≡◌, refl, sym, ap, subst, ◌∙◌, ℕ, ◌≤◌, ◌<◌, pos, ℤ, Bool, true, false, nat_le, ◌+◌, List, [], ◌∷◌, ◌++◌, length, get_or, Option, Some, None, arith}
+use Rattle.std.proofs.Common.{◌≡◌, refl, sym, ap, subst, ◌∙◌, ℕ, ◌≤◌, ◌<◌, pos, ℤ, Bool, true, false, nat_le, ◌+◌, List, [], ◌∷◌, ◌++◌, get_or, Option, Some, None, arith}
 use Rattle.std.specs.Prelude.{if◌then◌else◌}
 use Rattle.std.specs.List.{flat_map, range_with_len}
 use Rattle.std.proofs.lemmas.Bool.Decides.{nat_tests}
@@ -15,7 +15,6 @@ use Rattle.domain.specs.declared.prediction.What.TheVariants.{Scalar, Address, L
 use Rattle.domain.specs.Tables.{Table, Access, access_at, block_at, line_of, tube_by}
 use Rattle.domain.specs.Expected.{form_of, tube_of}
 use Rattle.profile.specs.Data.{bounds_of, data_of, tube_about, tube_in, tube_of_access}
-use Rattle.dependence.proofs.RangeLaws.{any_default}
 use Rattle.report.specs.declared.line.ListingLine.{ListingLine}
 use Rattle.report.specs.Places.{block_of}
 use Rattle.listing.specs.Lists.{block_forms, forms_of}
@@ -98,9 +97,9 @@ bounds-block Post level h = refl
 bounds-block Head level h = absurd (h refl)
 
 -- the block of a rank
-pub block-here : (loops : List Loop) (items : List BlockRef) (rank : ℕ) (block : BlockRef) → items ≡ present_blocks loops → rank < length items → block ≡ get_or items rank block → block ≡ block_of loops rank
+pub block-at : (loops : List Loop) (items : List BlockRef) (rank : ℕ) → items ≡ present_blocks loops → get_or items rank (block_ref Head 0) ≡ block_of loops rank
 unfolding block_of
-block-here loops items rank block is l e = e ∙ any_default items rank block (block_ref Head 0) l ∙ ap (λ (xs : List BlockRef). get_or xs rank (block_ref Head 0)) is
+block-at loops items rank is = ap (λ (xs : List BlockRef). get_or xs rank (block_ref Head 0)) is
 
 -- one more block
 pub more-forms : (scalars : ℕ) (loops : List Loop) (t : Table) (rank : ℕ) (block : BlockRef) (old before after : List ListingLine) → block ≡ block_of loops rank → before ≡ old ++ flat_map (block_forms scalars loops t) (range_with_len 0 rank)

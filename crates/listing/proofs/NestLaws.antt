@@ -1,10 +1,9 @@
 -- Lines of a nest, and of several.
-use Rattle.std.proofs.Common.{◌≡◌, refl, sym, ap, ap₂, subst, ◌∙◌, ℕ, zero, suc, ◌+◌, ◌<◌, ℤ, List, [], ◌∷◌, ◌++◌, length, append_assoc, append-nil, arith}
-use Rattle.nest_lang.specs.declared.tree.Loop.{Loop}
+use Rattle.std.proofs.Common.{◌≡◌, refl, sym, ap, subst, ◌∙◌, ℕ, suc, List, [], ◌∷◌, ◌++◌, length, append_assoc, append-nil, arith}
 use Rattle.nest_lang.specs.declared.budget.Ending.{Ending}
 use Rattle.nest_lang.specs.declared.budget.Ending.TheVariants as ending
 use Rattle.nest_lang.specs.Stores.{Store}
-use Rattle.nest_lang.specs.Runs.{finish_of_ending, nest_trace}
+use Rattle.nest_lang.specs.Runs.{finish_of_ending}
 use Rattle.nest_lang.specs.Traces.{Trace, Finish, Done, Halted, Limited, Cut, cut, cut_of}
 use Rattle.nest_grammar.specs.declared.file.NestUnit.{NestUnit}
 use Rattle.nest_grammar.specs.declared.version.Version.{Version}
@@ -64,26 +63,36 @@ module _ (options : Options) (version : Version) (scalars : ℕ) (unit : NestUni
       ∙ append_assoc (old ++ heading version number) own.0 rest
       ∙ append_assoc old (heading version number) (own.0 ++ rest)
 
-  -- the last nest
-  pub last-added : Adds (AreNestsLines options version scalars (unit ∷ []) number s left) old two
-  last-added = (
+  abbrev pub Listed : List NestUnit → List ListingLine → Type 0
+  Listed units new = Adds (AreNestsLines options version scalars units number s left) old new
+
+  alone : Listed (unit ∷ []) two
+  alone = (
     heading version number ++ (own.0 ++ []),
     (own.0, [], own.1, both-end (run_of_nest unit s left).ending (Follow [] []) (Nothing []) refl refl, refl),
     behind [] two (sym (append-nil two)),
   )
 
-  module _ (later : List NestUnit) (u : Store) (left' : ℕ) (e : Ending) (ran : RunIs u left' (finish_of_ending e) (run_of_nest unit s left)) where
+  none-later : (xs : List NestUnit) → length xs ≡ 0 → unit ∷ xs ≡ unit ∷ []
+  none-later [] e = refl
+  none-later (x ∷ xs) e = absurd (omega (arith, e))
+
+  -- the last nest
+  pub last-added : (units later : List NestUnit) → units ≡ unit ∷ later → length later ≡ 0 → Listed units two
+  last-added units later split none = subst (λ (us : List NestUnit). Listed us two) (sym (split ∙ none-later later none)) alone
+
+  module _ (units later : List NestUnit) (split : units ≡ unit ∷ later) (u : Store) (left' : ℕ) (e : Ending) (ran : RunIs u left' (finish_of_ending e) (run_of_nest unit s left)) where
     -- a nest whose run isn't done
-    pub stopped-added : (e ≡ ending.Ended → ⊥) → Adds (AreNestsLines options version scalars (unit ∷ later) number s left) old two
-    stopped-added out = (
+    stopped : (e ≡ ending.Ended → ⊥) → Listed (unit ∷ later) two
+    stopped out = (
       heading version number ++ (own.0 ++ []),
       (own.0, [], own.1, stopped-ends (run_of_nest unit s left).ending (Follow later []) (Nothing []) (λ done. out (only-ended e (ran.ending ∙ done))) refl, refl),
       behind [] two (sym (append-nil two)),
     )
 
     -- a nest whose run is done, and those behind it
-    pub next-added : (next : ℕ) (new : List ListingLine) → e ≡ ending.Ended → next ≡ suc number → Adds (AreNestsLines options version scalars later next u left') two new → Adds (AreNestsLines options version scalars (unit ∷ later) number s left) old new
-    next-added next new ended is rest = (
+    followed : (next : ℕ) (new : List ListingLine) → e ≡ ending.Ended → next ≡ suc number → Adds (AreNestsLines options version scalars later next u left') two new → Listed (unit ∷ later) new
+    followed next new ended is rest = (
       heading version number ++ (own.0 ++ rest.0),
       (
         own.0,
@@ -100,3 +109,9 @@ module _ (options : Options) (version : Version) (scalars : ℕ) (unit : NestUni
             subst (λ (n : ℕ). AreNestsLines options version scalars later n (run_of_nest unit s left).store (run_of_nest unit s left).left rest.0) is
             (subst (λ (n : ℕ). AreNestsLines options version scalars later next (run_of_nest unit s left).store n rest.0) ran.left
             (subst (λ (x : Store). AreNestsLines options version scalars later next x left' rest.0) ran.store rest.1))
+
+    pub stopped-added : (e ≡ ending.Ended → ⊥) → Listed units two
+    stopped-added out = subst (λ (us : List NestUnit). Listed us two) (sym split) (stopped out)
+
+    pub next-added : (next : ℕ) (new : List ListingLine) → e ≡ ending.Ended → next ≡ suc number → Adds (AreNestsLines options version scalars later next u left') two new → Listed units new
+    next-added next new ended is rest = subst (λ (us : List NestUnit). Listed us new) (sym split) (followed next new ended is rest)

@@ -1,16 +1,13 @@
 -- There is exactly one listing.
-use Rattle.std.proofs.Common.{◌≡◌, refl, sym, ap, ap₂, subst, ◌∙◌, ℕ, suc, ◌+◌, ℤ, inl, inr, List, [], ◌∷◌, ◌++◌, length}
+use Rattle.std.proofs.Common.{◌≡◌, refl, sym, ap, ap₂, subst, ◌∙◌, ℕ, suc, inl, inr, List, [], ◌∷◌, ◌++◌, length}
 use Rattle.std.specs.Prelude.{unsigned_abs}
 use Rattle.std.specs.List.{All}
 use Rattle.std.proofs.lemmas.List.Elements.{All-head, All-tail}
-use Rattle.nest_lang.specs.declared.tree.Loop.{Loop}
 use Rattle.nest_lang.specs.Stores.{Store}
 use Rattle.nest_lang.specs.Traces.{Finish, Done, Halted, Limited, Observation}
-use Rattle.nest_grammar.specs.declared.file.File.{File}
 use Rattle.nest_grammar.specs.declared.file.NestUnit.{NestUnit}
 use Rattle.nest_grammar.specs.declared.version.Version.{Version}
 use Rattle.nest_grammar.specs.Files.{first_store}
-use Rattle.domain.specs.Tables.{Table}
 use Rattle.profile.specs.declared.unfit.Unfit.{Unfit}
 use Rattle.profile.proofs.FitLaws.{fit_or_unfit}
 use Rattle.profile.proofs.OneFitLaws.{one-fit}
@@ -18,14 +15,13 @@ use Rattle.profile.proofs.OneUnfitLaws.{one-first_unfit}
 use Rattle.profile.proofs.SomeFitLaws.{fit-or_first_unfit}
 use Rattle.profiling.specs.declared.run.FirstProfile.{FirstProfile}
 use Rattle.profiling.specs.declared.run.FirstProfile.TheVariants.{Missing, Short, Whole}
-use Rattle.profiling.specs.FirstProfiles.{IsFirstProfile}
 use Rattle.profiling.proofs.OneProfile.{one_profile}
 use Rattle.report.specs.declared.journey.Options.{Options}
 use Rattle.report.specs.declared.line.ListingLine.{ListingLine}
 use Rattle.report.specs.declared.line.ListingLine.TheVariants as listing
 use Rattle.listing.specs.Laws.{OneListing}
 use Rattle.listing.specs.Lists.{table_lines}
-use Rattle.listing.specs.Listings.{AreFittedLines, AreNestLines, AreNestsLines, AreProfileLines, IsListing, heading, profile_line, run_of_nest, unfit_line, where_done}
+use Rattle.listing.specs.Listings.{AreFittedLines, AreNestLines, AreNestsLines, AreProfileLines, heading, profile_line, run_of_nest, unfit_line, where_done}
 use Rattle.listing.specs.Listings.AreFittedLines.{unfit, fitted}
 use Rattle.listing.specs.Parts.{IsUnitOf}
 use Rattle.listing.proofs.FileLaws.{units-of_text}

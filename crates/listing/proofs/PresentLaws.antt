@@ -1,8 +1,8 @@
 -- What is listed of systems and of refused candidates names accesses of present blocks, and a verdict that isn't Empty.
-use Rattle.std.proofs.Common.{◌≡◌, refl, sym, ap, subst, ◌∙◌, ℕ, ◌<◌, ℤ, Bool, true, false, nat_le, Option, Some, None, option_map, inl, inr, List, [], ◌∷◌, map, filter, length}
+use Rattle.std.proofs.Common.{◌≡◌, refl, sym, ap, subst, ◌∙◌, ℕ, ◌<◌, ℤ, Bool, true, false, nat_le, Option, Some, None, option_map, inl, inr, List, [], ◌∷◌, map, length, get_or}
 use Rattle.std.specs.Prelude.{if◌then◌else◌, not, ◌≢◌}
-use Rattle.std.specs.List.{Contains, find, flat_map}
-use Rattle.plain_lemmas.proofs.MembershipLaws.{Has, contains_from_has, filter_has, flat_map_has, map_has}
+use Rattle.std.specs.List.{Contains, find}
+use Rattle.plain_lemmas.proofs.MembershipLaws.{Has, contains_from_has, filter_has, flat_map_has, has_get_or, map_has}
 use Rattle.fourier_motzkin.specs.declared.verdicts.Ruling.{Ruling}
 use Rattle.fourier_motzkin.specs.declared.verdicts.Ruling.TheVariants.{Empty, Maybe, Wide}
 use Rattle.nest_lang.specs.declared.tree.AccessRef.{AccessRef}
@@ -14,13 +14,13 @@ use Rattle.dependence.proofs.PairLaws.{first-block, second-block}
 use Rattle.legality.specs.declared.listing.Dependence.{Dependence}
 use Rattle.legality.specs.declared.refusals.Refusal.{Refusal}
 use Rattle.legality.specs.declared.refusals.Judged.TheVariants as answer
-use Rattle.legality.specs.Dependences.{depends, dependences, met}
-use Rattle.legality.specs.Judgements.{judged, judged_by, refused, refuses, told}
+use Rattle.legality.specs.Dependences.{depends, dependences}
+use Rattle.legality.specs.Judgements.{judged, judged_by, refuses, told}
 
 -- two accesses of blocks of a table, and a verdict that isn't Empty
-pub record AreListed (t : Table) (first second : AccessRef) (verdict : Ruling) : Type 0 where
-  pub first : first.block < length t.blocks
-  pub second : second.block < length t.blocks
+pub record AreListed (t : Table) (a b : AccessRef) (verdict : Ruling) : Type 0 where
+  pub first : a.block < length t.blocks
+  pub second : b.block < length t.blocks
   pub refuses : verdict ≢ Empty
 
 not-empty : (r : Ruling) → not (is_empty r) ≡ true → r ≢ Empty
@@ -39,14 +39,22 @@ dependence-listed t L d h =
       refuses = not-empty d.verdict f.1;
     }
 
+-- the default of a place past the last
+abbrev pub no_dependence : Dependence
+no_dependence = record { first = record { block = 0; access = 0 }; second = record { block = 0; access = 0 }; case = 0; verdict = Empty }
+
+pub dependence-at : (t : Table) (L : ℤ) (items : List Dependence) (k : ℕ) → items ≡ dependences t L → k < length items → AreListed t (get_or items k no_dependence).first (get_or items k no_dependence).second (get_or items k no_dependence).verdict
+dependence-at t L items k is l =
+    dependence-listed t L (get_or items k no_dependence) (subst (λ (xs : List Dependence). Has xs (get_or items k no_dependence)) is (has_get_or items k no_dependence l))
+
 -- the first element that passes
+find-by : {X : Type 0} (p : X → Bool) (y : X) (ys : List X) (x : X) (w : Bool) → p y ≡ w → (find p ys ≡ Some x → Has ys x × (p x ≡ true)) → (if w then Some y else find p ys) ≡ Some x → Has (y ∷ ys) x × (p x ≡ true)
+find-by p y ys x true w more e = let same : y ≡ x = cc in (inl (sym same), ap p (sym same) ∙ w)
+find-by p y ys x false w more e = let rest = more e in (inr rest.0, rest.1)
+
 find_has : {X : Type 0} (p : X → Bool) (xs : List X) (x : X) → find p xs ≡ Some x → Has xs x × (p x ≡ true)
 find_has p [] x e = absurd (cc)
-find_has {X} p (y ∷ ys) x e = by (p y) refl e
-  where
-    by : (w : Bool) → p y ≡ w → (if w then Some y else find p ys) ≡ Some x → Has (y ∷ ys) x × (p x ≡ true)
-    by true w e = let same : y ≡ x = cc in (inl (sym same), ap p (sym same) ∙ w)
-    by false w e = let rest = find_has p ys x e in (inr rest.0, rest.1)
+find_has p (y ∷ ys) x e = find-by p y ys x (p y) refl (find_has p ys x) e
 
 trial-of : (t : Table) (s : Schedule) (L : ℤ) (v : Trial) → Has (trials t s L) v → IsSystemOf t v.system
 unfolding trials

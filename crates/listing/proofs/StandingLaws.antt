@@ -1,10 +1,9 @@
 -- The lines of a listing can be written: the scalars that they name are the file's, and no verdict is Empty.
-use Rattle.std.proofs.Common.{◌≡◌, refl, sym, ap, subst, ◌∙◌, ℕ, suc, zero, ◌+◌, ◌<◌, ◌≤◌, ℤ, pos, Bool, true, false, nat_le, Option, Some, None, inl, inr, ⊎_elim, List, [], ◌∷◌, ◌++◌, map, length, slice_get, arith}
-use Rattle.std.specs.Prelude.{IfSome, ◌≢◌, if◌then◌else◌, slice_index_or}
+use Rattle.std.proofs.Common.{◌≡◌, refl, sym, subst, ℕ, suc, zero, ◌+◌, ◌<◌, ℤ, Bool, true, false, nat_le, Option, Some, None, inl, inr, ⊎_elim, List, [], ◌∷◌, ◌++◌, map, length, slice_get, arith}
+use Rattle.std.specs.Prelude.{IfSome, if◌then◌else◌, slice_index_or}
 use Rattle.std.proofs.lemmas.Option.{get_or_from_slice_get, slice_get_within}
-use Rattle.std.specs.List.{All, Contains, flat_map, range_with_len}
+use Rattle.std.specs.List.{All, flat_map, range_with_len}
 use Rattle.plain_lemmas.proofs.MembershipLaws.{Has, All_from, flat_map_has, has_at, has_cases, map_has}
-use Rattle.fourier_motzkin.specs.declared.verdicts.Ruling.TheVariants.{Empty}
 use Rattle.nest_lang.specs.declared.command.Command.{Command}
 use Rattle.nest_lang.specs.declared.tree.BlockRef.{BlockRef}
 use Rattle.nest_lang.specs.declared.tree.Loop.{Loop}
@@ -25,7 +24,6 @@ use Rattle.domain.specs.declared.prediction.What.TheVariants.{Scalar, Address, L
 use Rattle.domain.specs.Tables.{Table, block_at}
 use Rattle.transform.specs.Schedules.{Schedule}
 use Rattle.transform.specs.Scripts.{schedule_of}
-use Rattle.legality.specs.declared.listing.Dependence.{Dependence}
 use Rattle.legality.specs.declared.refusals.Judged.{Judged}
 use Rattle.legality.specs.declared.refusals.Judged.TheVariants.{Legal, Refused}
 use Rattle.legality.specs.Dependences.{dependences}
@@ -39,10 +37,10 @@ use Rattle.report.specs.declared.journey.Options.{Options}
 use Rattle.report.specs.declared.line.Line.TheVariants as said
 use Rattle.report.specs.declared.line.ListingLine.{ListingLine}
 use Rattle.report.specs.declared.line.ListingLine.TheVariants as listing
-use Rattle.report.specs.Lines.{CanBeListed, CanStand, scalar_of_what}
+use Rattle.report.specs.Lines.{CanBeListed, scalar_of_what}
 use Rattle.report.specs.Places.{block_of}
 use Rattle.listing.specs.Lists.{block_forms, candidates, depends_line, form_if_any, form_line, forms, judged_if_any, judged_line, judgement_at, judgements, judgements_of, table_lines}
-use Rattle.listing.specs.Listings.{AreFittedLines, AreNestLines, AreNestsLines, AreProfileLines, IsListing, heading, profile_line, run_of_nest, unfit_line, where_done}
+use Rattle.listing.specs.Listings.{AreFittedLines, AreNestsLines, AreProfileLines, IsListing, heading, profile_line, run_of_nest, unfit_line, where_done}
 use Rattle.listing.specs.Listings.AreFittedLines.{unfit, fitted}
 use Rattle.listing.proofs.PresentLaws.{dependence-listed, refusal-listed}
 

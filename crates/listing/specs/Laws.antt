@@ -1,5 +1,5 @@
 -- What holds of listings.
-use Rattle.std.specs.Prelude.{◌≡◌, ℤ, pos, ◌≤ℤ◌, List}
+use Rattle.std.specs.Prelude.{◌≡◌, List}
 use Rattle.nest_grammar.specs.declared.file.File.{File}
 use Rattle.nest_text.specs.Files.{IsOfText}
 use Rattle.report.specs.declared.journey.Options.{Options}

@@ -39,7 +39,14 @@ pub fn listing(
         scalars: file.scalars.len() as u8,
         options,
     };
-    setting.list(alloc, &mut lines, file.units.as_slice(), 1, &mut state, steps)?;
+    setting.list(
+        alloc,
+        &mut lines,
+        file.units.as_slice(),
+        1,
+        &mut state,
+        steps,
+    )?;
     Ok(lines)
 }
 
