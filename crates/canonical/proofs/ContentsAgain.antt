@@ -1,5 +1,5 @@
 -- What was read of a file is read again from its canonical pieces.
-use Rattle.std.proofs.Common.{◌≡◌, ℕ, suc, ◌+◌, ◌<◌, ◌≤◌, ℤ, pos, List, [], ◌∷◌, ◌++◌, length, refl, sym, ◌∙◌, ap, arith, Some, true, false, cond, subst, append_assoc, append-nil}
+use Rattle.std.proofs.Common.{◌≡◌, ℕ, suc, ◌+◌, ◌<◌, ◌≤◌, ℤ, List, [], ◌∷◌, ◌++◌, length, refl, sym, ◌∙◌, ap, arith, Some, true, false, cond, subst, append_assoc, append-nil}
 use Rattle.std.specs.Prelude.{slice_get}
 use Rattle.std.specs.List.{flat_map}
 use Rattle.std.specs.Str.{bytes_eq}
@@ -213,7 +213,7 @@ reads-again text _ (file {version} {scalars} {words} {items} {units} {s} {t} {u}
     let x = scalars-again scs y.0 q2.0 w1 in
     let sz : x.0.size ≡ size = x.2 ∙ y.2 in
     let z1 : (first x.0.size x.0.left).token ≡ token.Plain mark.Memory = rw (x.3, sz) q2.2.0 in
-    let z2 : (first x.0.size (rest x.0.left)).token ≡ token.Number (pos words) = rw (x.3, sz) q2.2.1.0 in
+    let z2 : (first x.0.size (rest x.0.left)).token ≡ token.Number words = rw (x.3, sz) q2.2.1.0 in
     let lft : rest (rest x.0.left) ≡ q1.0 = ap (λ (k : List Spot). rest (rest k)) x.3 ∙ sym q2.2.1.1 in
     let w2 : Walks (flat_map item_line items) x.0.size (rest (rest x.0.left)) q.0 = rw (lft, sz) q1.2 in
     let g = items-again words its (skip (skip x.0)) q.0 w2 in

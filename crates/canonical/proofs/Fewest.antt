@@ -1,5 +1,5 @@
 -- No text that reads as a file has fewer tokens than the words of its canonical pieces.
-use Rattle.std.proofs.Common.{◌≡◌, ◌≢◌, ℕ, suc, ◌+◌, ◌≤◌, ℤ, List, [], ◌∷◌, ◌++◌, length, refl, sym, ◌∙◌, ap, arith, Option, Some, None, true, false, subst}
+use Rattle.std.proofs.Common.{◌≡◌, ◌≢◌, ℕ, suc, ◌+◌, ◌≤◌, pos, List, [], ◌∷◌, ◌++◌, length, refl, sym, ◌∙◌, ap, arith, Option, Some, None, true, false, subst}
 use Rattle.nest_lang.specs.declared.tree.Op.{Op}
 use Rattle.nest_lang.specs.declared.tree.Expr.{Expr}
 use Rattle.nest_lang.specs.declared.tree.Expr.TheVariants.{Number, Var, Load, Neg, Two}
@@ -51,7 +51,7 @@ pub used-name : (s : Sight) {n : _} → stands s ≡ token.Name n → length s.l
 unfolding here
 used-name s {n} h = used s.size s.left (token.Name n) h (λ e. absurd (cc))
 
-pub used-number : (s : Sight) (n : ℤ) → stands s ≡ token.Number n → length s.left ≡ suc (length (rest s.left))
+pub used-number : (s : Sight) (n : ℕ) → stands s ≡ token.Number n → length s.left ≡ suc (length (rest s.left))
 unfolding here
 used-number s n h = used s.size s.left (token.Number n) h (λ e. absurd (cc))
 
@@ -112,7 +112,7 @@ used-operator s o operator h k = used s.size s.left (stands s) refl (not-end (st
 
 fewest : (l : Labels) (names : Names) {p : Precedence} {d : ℕ} {s : Sight} {e : Expr} {t : Sight} → Is names p d s e t → cost l (group_of p) e + length t.left ≤ length s.left
 unfolding skip fits product_of addition_of comparison_of
-fewest l names (number {d} {n} {s} h r) = let c = cost-of l Unary (Number n) (record { group = Unary; pieces = Word (token.Number n) ∷ [] }) (printed-number l n) refl in let u = used-number s n h in omega (arith, c, u)
+fewest l names (number {d} {n} {s} h r) = let c = cost-of l Unary (Number (pos n)) _ (printed-number l n) refl in let u = used-number s n h in omega (arith, c, u)
 fewest l names (variable {d} {n} {p} {s} h f r) = let c = cost-of l Unary (Var p) _ (printed-var l p) refl in let u = used-name s h in omega (arith, c, u)
 fewest l names (minus {d} {e} {s} {t} h r i) = let c = cost-of l Unary (Neg e) _ (printed-neg l e) refl in let u = used-mark s mark.Minus h in let y = fewest l names i in omega (arith, c, u, y)
 fewest l names (parens {d} {e} {s} {t} h r i k o) = let u = used-mark s mark.Open h in let v = used-mark t mark.Close k in let y = fewest l names i in let c = cost-most l Unary e in let b = bare-least l Whole e in omega (arith, u, v, y, c, b)

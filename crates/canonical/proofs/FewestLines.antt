@@ -147,8 +147,8 @@ count-minus (suc n) = omega arith
 
 fewest-signed : (s : Sight) (v : ℤ) (t : Sight) → IsSigned s v t → count (signed v) + length t.left ≤ length s.left
 unfolding skip signed
-fewest-signed _ _ _ (unsigned {n} {s} h) = let x = used-number s (pos n) h in omega (arith, x)
-fewest-signed _ _ _ (negative {n} {s} h k) = let x = used-mark s mark.Minus h in let y = used-number (skip s) (pos n) k in let c = count-minus n in omega (arith, x, y, c)
+fewest-signed _ _ _ (unsigned {n} {s} h) = let x = used-number s n h in omega (arith, x)
+fewest-signed _ _ _ (negative {n} {s} h k) = let x = used-mark s mark.Minus h in let y = used-number (skip s) n k in let c = count-minus n in omega (arith, x, y, c)
 
 count-step : (k : ℤ) → count (step_of k) ≤ 1 + count (signed k)
 unfolding step_of
@@ -221,8 +221,8 @@ count-rows ns n = ap count (flat_map-last operand ns n) ∙ count-append (flat_m
 
 fewest-rows : (depth : ℕ) {s : Sight} {ns : List ℕ} {t : Sight} → IsRows depth s ns t → count (flat_map operand ns) + length t.left ≤ length s.left
 unfolding skip
-fewest-rows depth (row_one {n} {s} h r) = let x = used-number s (pos n) h in omega (arith, x)
-fewest-rows depth (row_more {n} {ns} {s} {t} i len h r) = let c = count-rows ns n in let x = fewest-rows depth i in let y = used-number t (pos n) h in omega (arith, c, x, y)
+fewest-rows depth (row_one {n} {s} h r) = let x = used-number s n h in omega (arith, x)
+fewest-rows depth (row_more {n} {ns} {s} {t} i len h r) = let c = count-rows ns n in let x = fewest-rows depth i in let y = used-number t n h in omega (arith, c, x, y)
 
 no-word : (x : Token) (w : CommandWord) → command_word x ≡ Some w → x ≢ token.End
 unfolding command_word
@@ -237,12 +237,12 @@ left-of s t q = ap (λ (v : Sight). length v.left) q
 
 fewest-command : (depth : ℕ) (cs : Script) {s : Sight} {c : Command} {t : Sight} → IsCommand depth cs s c t → count (command_of c) + length t.left ≤ length s.left
 unfolding skip command_of signed
-fewest-command depth cs (seq {n} {s} k may h r) = let x = used-word s _ k in let y = used-number (skip s) (pos n) h in omega (arith, x, y)
-fewest-command depth cs (swap {a} {b} {s} {t} k ha ra q hb rb ne) = let x = used-word s _ k in let y = used-number (skip s) (pos a) ha in let w = left-of (skip (skip s)) t q in let z = used-number t (pos b) hb in omega (arith, x, y, w, z)
+fewest-command depth cs (seq {n} {s} k may h r) = let x = used-word s _ k in let y = used-number (skip s) n h in omega (arith, x, y)
+fewest-command depth cs (swap {a} {b} {s} {t} k ha ra q hb rb ne) = let x = used-word s _ k in let y = used-number (skip s) a ha in let w = left-of (skip (skip s)) t q in let z = used-number t b hb in omega (arith, x, y, w, z)
 fewest-command depth cs (skew {a} {b} {m} {s} {t} {u} k may ha ra q hb rb ne i r) =
-    let x = used-word s _ k in let y = used-number (skip s) (pos a) ha in let w = left-of (skip (skip s)) t q in let z = used-number t (pos b) hb in let v = fewest-signed (skip t) m u i in
+    let x = used-word s _ k in let y = used-number (skip s) a ha in let w = left-of (skip (skip s)) t q in let z = used-number t b hb in let v = fewest-signed (skip t) m u i in
     omega (arith, x, y, w, z, v)
-fewest-command depth cs (tile {a} {n} {s} {t} k ha ra q hb r) = let x = used-word s _ k in let y = used-number (skip s) (pos a) ha in let w = left-of (skip (skip s)) t q in let z = used-number t (pos n) hb in omega (arith, x, y, w, z)
+fewest-command depth cs (tile {a} {n} {s} {t} k ha ra q hb r) = let x = used-word s _ k in let y = used-number (skip s) a ha in let w = left-of (skip (skip s)) t q in let z = used-number t n hb in omega (arith, x, y, w, z)
 fewest-command depth cs (par {ns} {s} {t} k i) = let x = used-word s _ k in let y = fewest-rows depth i in omega (arith, x, y)
 fewest-command depth cs (wave {ns} {s} {t} k i) = let x = used-word s _ k in let y = fewest-rows depth i in omega (arith, x, y)
 
@@ -312,11 +312,11 @@ count-ramp fst count_ stride begin growth =
 fewest-item : (words : ℕ) {s : Sight} {i : Item} {t : Sight} → IsItem words s i t → count (item_line i) + length t.left ≤ length s.left
 unfolding skip
 fewest-item words (data_ {first = fst} {vs} {s} {t} {u} h k q c i) =
-    let e = count-data fst vs in let x = used-mark s mark.Data h in let y = used-number (skip s) (pos fst) k in let w = left-of (skip (skip s)) t q in let z = used-mark t mark.Colon c in let v = fewest-values words fst i in
+    let e = count-data fst vs in let x = used-mark s mark.Data h in let y = used-number (skip s) fst k in let w = left-of (skip (skip s)) t q in let z = used-mark t mark.Colon c in let v = fewest-values words fst i in
     omega (arith, e, x, y, w, z, v)
 fewest-item words (ramp {first = fst} {count = many} {stride} {start = begin} {growth} {s} {t} {u} {v} {w = x} h k q kc q2 ks nz i j r) =
-    let e = count-ramp fst many stride begin growth in let a = used-mark s mark.Ramp h in let b = used-number (skip s) (pos fst) k in let c = left-of (skip (skip s)) t q in
-    let d = used-number t (pos many) kc in let f = left-of (skip t) u q2 in let g = used-number u (pos stride) ks in
+    let e = count-ramp fst many stride begin growth in let a = used-mark s mark.Ramp h in let b = used-number (skip s) fst k in let c = left-of (skip (skip s)) t q in
+    let d = used-number t many kc in let f = left-of (skip t) u q2 in let g = used-number u stride ks in
     let m = fewest-signed (skip u) begin v i in let n = fewest-signed v growth x j in
     omega (arith, e, a, b, c, d, f, g, m, n)
 
@@ -343,8 +343,8 @@ fewest-units cs (units_more {ns} {n} {s} {t} {u} i len j) =
 
 fewest-version : {s : Sight} {v : Version} {t : Sight} → IsVersion s v t → count (version_line v) + length t.left ≤ length s.left
 unfolding skip version_line
-fewest-version (version_one {s} h k) = let x = used-mark s mark.Nest h in let y = used-number (skip s) (pos 1) k in let e = count-line 0 (plain mark.Nest ∷ operand 1) in omega (arith, x, y, e)
-fewest-version (version_two {s} h k) = let x = used-mark s mark.Nest h in let y = used-number (skip s) (pos 2) k in let e = count-line 0 (plain mark.Nest ∷ operand 2) in omega (arith, x, y, e)
+fewest-version (version_one {s} h k) = let x = used-mark s mark.Nest h in let y = used-number (skip s) 1 k in let e = count-line 0 (plain mark.Nest ∷ operand 1) in omega (arith, x, y, e)
+fewest-version (version_two {s} h k) = let x = used-mark s mark.Nest h in let y = used-number (skip s) 2 k in let e = count-line 0 (plain mark.Nest ∷ operand 2) in omega (arith, x, y, e)
 
 count-memory : (words : ℕ) → count (memory_line words) ≡ 2
 unfolding memory_line
@@ -360,6 +360,6 @@ fewest-words text _ (file {version} {scalars} {words} {items} {units} {s} {t} {u
     let d = flat_map item_line items in
     let x = flat_map (unit_lines scalars) units in
     let p = count-append (((a ++ b) ++ c) ++ d) x in let q = count-append ((a ++ b) ++ c) d in let r = count-append (a ++ b) c in let m = count-append a b in
-    let n = count-memory words in let g = fewest-version vers in let h = fewest-scalars scs in let i = used-mark t mark.Memory mem in let j = used-number (skip t) (pos words) wd in
+    let n = count-memory words in let g = fewest-version vers in let h = fewest-scalars scs in let i = used-mark t mark.Memory mem in let j = used-number (skip t) words wd in
     let k = fewest-items words its in let o = fewest-units scalars us in
     omega (arith, p, q, r, m, n, g, h, i, j, k, o)

@@ -29,7 +29,7 @@ use Rattle.nest_grammar.specs.Scripts.{Script}
 use Rattle.canonical.specs.declared.group.Group.{Group}
 use Rattle.canonical.specs.declared.group.Group.TheVariants.{Unary, Whole}
 use Rattle.canonical.specs.Groups.{fits, left_of, right_of, mark_of}
-use Rattle.canonical.specs.Pieces.{Piece, Word, Space, Indent, Newline, plain, name, signed, spaced, line, text_of}
+use Rattle.canonical.specs.Pieces.{Piece, Space, Indent, Newline, plain, name, number, signed, spaced, line, text_of}
 use Rattle.canonical.specs.Labels.{Labels, label, in_head, in_pre, in_post}
 use Rattle.canonical.specs.Expressions.{Printed, as_group, level, printed, expression_of}
 use Rattle.canonical.specs.Statements.{let_line, set_line, store_line, if_line, else_line, close_line, Lines, each, else_branch, statement_level, statement_of, statement_lines}
@@ -110,11 +110,11 @@ named n = record { lays = λ s a rest k. by s a rest k }
     by Worded a rest k = absurd a
     by Signed a rest k = (refl, k Worded tt)
 
-numbered : (z : ℤ) → Runs Open (Word (token.Number z) ∷ []) Any
+numbered : (n : ℕ) → Runs Open (number n ∷ []) Any
 unfolding is_sign with_equals
-numbered z = record { lays = λ s a rest k. by s a rest k }
+numbered n = record { lays = λ s a rest k. by s a rest k }
   where
-    by : (s : State) → Open s → (rest : List Piece) → ((t : State) → Any t → Laid t rest) → Laid s (Word (token.Number z) ∷ rest)
+    by : (s : State) → Open s → (rest : List Piece) → ((t : State) → Any t → Laid t rest) → Laid s (number n ∷ rest)
     by Free a rest k = (tt, k Worded tt)
     by Worded a rest k = absurd a
     by Signed a rest k = (refl, k Worded tt)
@@ -176,6 +176,11 @@ semicolon : Runs Any (plain mark.Semicolon ∷ []) Any
 unfolding is_sign with_equals
 semicolon = ended (signs mark.Semicolon refl refl)
 
+valued : (z : ℤ) → Runs Open (signed z) Any
+unfolding signed
+valued (pos n) = numbered n
+valued (negsuc n) = opened (minus_sign cons numbered (suc n))
+
 -- Expressions
 
 grouped : (wanted : Group) (x : Printed) → Runs Open x.pieces Any → Runs Open (as_group wanted x) Any
@@ -192,7 +197,7 @@ Laid_parts (Expr-F.Two o x y) = Runs Open x.pieces Any × Runs Open y.pieces Any
 
 leveled : (l : Labels) (z : Expr-F Printed) → Laid_parts z → Runs Open (level l z).pieces Any
 unfolding Laid_parts
-leveled l (Expr-F.Number n) h = numbered n
+leveled l (Expr-F.Number n) h = valued n
 leveled l (Expr-F.Var p) h = named (label l p)
 leveled l (Expr-F.Load k x) h = opened (open_bracket cons (grouped Whole x h then close_bracket))
 leveled l (Expr-F.Neg x) h = opened (minus_sign cons grouped Unary x h)
@@ -297,11 +302,6 @@ stated_all l (st ∷ sts) depth = stated l st depth then stated_all l sts depth
 
 -- Loops
 
-valued : (z : ℤ) → Runs Open (signed z) Any
-unfolding signed
-valued (pos n) = numbered (pos n)
-valued (negsuc n) = opened (minus_sign cons numbered (pos (suc n)))
-
 stepped : (k : ℤ) → Runs Any (step_of k) Any
 unfolding step_of
 stepped k = elim (same k (pos 1)) as (λ b. Runs Any (cond b [] (spaced mark.Step ++ signed k)) Any) [ true ↦ nil | false ↦ apart mark.Step then clear (valued k) ]
@@ -327,7 +327,7 @@ looped l level (x ∷ xs) = (((opening l level x.head then stated_all (in_pre l 
 -- Scripts
 
 operated : (n : ℕ) → Runs Any (operand n) Any
-operated n = space cons clear (numbered (pos n))
+operated n = space cons clear (numbered n)
 
 operated_signed : (z : ℤ) → Runs Any (signed_operand z) Any
 operated_signed z = space cons clear (valued z)

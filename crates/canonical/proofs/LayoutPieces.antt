@@ -1,5 +1,5 @@
 -- Pieces that are laid out so that no token is lengthened by what stands behind it are read as their words.
-use Rattle.std.proofs.Common.{◌≡◌, ℕ, zero, suc, ◌*◌, List, [], ◌∷◌, ◌++◌, length, map, drop, replicate, refl, sym, ◌∙◌, ap, arith, Some, None, Bool, true, false, pos}
+use Rattle.std.proofs.Common.{◌≡◌, ℕ, zero, suc, ◌*◌, List, [], ◌∷◌, ◌++◌, length, map, drop, replicate, refl, sym, ◌∙◌, ap, arith, Some, None, Bool, true, false}
 use Rattle.nest_tokens.specs.declared.token.Mark.{Mark}
 use Rattle.nest_tokens.specs.declared.token.Mark.TheVariants as mark
 use Rattle.nest_tokens.specs.declared.token.Token.{Token}
@@ -175,7 +175,7 @@ unfolding token_text
 token-stops (token.Name n) bs w h =
     let e : name_text n ≡ w.0 = ap name_text w.1 ∙ name_text-name_of w.0 w.4 in
     rw e (begins-stops is_letter is_equals letter-no-equals w.0 bs w.3)
-token-stops (token.Number z) bs w h = rw (w.1) (begins-stops is_digit is_equals digit-no-equals _ bs (number-begins w.0 w.2))
+token-stops (token.Number n) bs w h = begins-stops is_digit is_equals digit-no-equals _ bs (number-begins n w)
 token-stops (token.Plain m) bs w h = mark-stops m bs h
 token-stops (token.Bad b) bs w h = absurd w
 token-stops token.End bs w h = absurd w
@@ -244,9 +244,9 @@ token-read (token.Name n) ps size w h a =
     let e : name_text n ≡ w.0 = ap name_text w.1 ∙ name_text-name_of w.0 w.4 in
     let k : Stops is_name_byte (text_of ps) = worded-stops ps h in
     rw (e, w.1) (token-from (token.Name (name_of w.0)) w.0 (text_of ps) size is_letter letter-solid w.3 (lexed-name w.0 (text_of ps) w.2 w.3 w.4 w.5 k))
-token-read (token.Number z) ps size w h a =
+token-read (token.Number n) ps size w h a =
     let k : Stops is_name_byte (text_of ps) = worded-stops ps h in
-    rw (w.1) (token-from (token.Number (pos w.0)) _ (text_of ps) size is_digit digit-solid (number-begins w.0 w.2) (lexed-number w.0 (text_of ps) w.2 k))
+    token-from (token.Number n) _ (text_of ps) size is_digit digit-solid (number-begins n w) (lexed-number n (text_of ps) w k)
 token-read (token.Plain m) ps size w h a = elim (is_sign (token.Plain m)) as (λ b. is_sign (token.Plain m) ≡ b → Laid (behind b) ps → shown (tokens_from size (spelling m ++ text_of ps)) ≡ token.Plain m ∷ shown (tokens_from size (text_of ps))) [
   | true ↦ λ e k. (let q : is_word m ≡ false = sign-word m e in token-from (token.Plain m) (spelling m) (text_of ps) size begins_token begun (sign-begun m q) (lexed-sign m (text_of ps) q (signed-stops ps k a)))
   | false ↦ λ e k. (let q : is_word m ≡ true = word-sign m e in token-from (token.Plain m) (spelling m) (text_of ps) size is_letter letter-solid (word-begins m q) (lexed-word m (text_of ps) q (worded-stops ps k)))

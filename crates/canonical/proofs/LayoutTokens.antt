@@ -1,14 +1,13 @@
 -- Lexing a token from its spelling, where what stands behind it can't be a part of it.
-use Rattle.std.proofs.Common.{◌≡◌, ℕ, ◌+◌, ◌-◌, ◌*◌, ◌%◌, ◌^◌, ◌<◌, ◌≤◌, List, [], ◌∷◌, ◌++◌, length, drop, refl, ◌∙◌, ap, arith, None, Bool, true, false, nat_lt, nat_le, pos}
+use Rattle.std.proofs.Common.{◌≡◌, ℕ, ◌+◌, ◌-◌, ◌*◌, ◌%◌, ◌^◌, ◌<◌, ◌≤◌, List, [], ◌∷◌, ◌++◌, length, refl, ◌∙◌, ap, arith, None, Bool, true, false, nat_lt, nat_le}
 use Rattle.std.specs.Prelude.{◌||◌}
-use Rattle.std.specs.List.{prefix_len}
-use Rattle.std.specs.Fmt.{signed_decimal, decimal as decimal_text}
+use Rattle.std.specs.Fmt.{decimal as decimal_text}
 use Rattle.std.proofs.lemmas.Fmt.{decimal_by_steps}
 use Rattle.std.proofs.lemmas.Bool.{lt-ltb, le-leb}
 use Rattle.nest_tokens.specs.declared.token.Token.{Token}
 use Rattle.nest_tokens.specs.declared.token.Token.TheVariants as token
 use Rattle.nest_tokens.specs.Tokens.{keyword_of}
-use Rattle.nest_tokens.specs.Lexing.{is_letter, is_digit, is_name_byte, decimal_from, decimal, numbered, name_of, named, spelled_by, lexed}
+use Rattle.nest_tokens.specs.Lexing.{is_letter, is_digit, is_name_byte, decimal_from, decimal, numbered, name_of, named, lexed}
 use Rattle.nest_tokens.specs.Division.{Begins, Stops, AllPass}
 use Rattle.nest_tokens.proofs.Spelled.{lexed-run, lexed-digits}
 
@@ -59,14 +58,14 @@ no-name-no-digit (b ∷ bs) h = no-digit b h
     no-digit : (b : ℕ) → is_name_byte b ≡ false → is_digit b ≡ false
     no-digit b h = elim (is_digit b) as (λ t. (is_letter b || t) ≡ false → t ≡ false) [ true ↦ λ k. elim (is_letter b) as (λ u. (u || true) ≡ false → true ≡ false) [ true ↦ λ j. j | false ↦ λ j. j ] k | false ↦ λ k. refl ] h
 
-numbered-is : (n : ℕ) → n < 2 ^ 63 → (ds : List ℕ) → decimal_from 0 ds ≡ n → numbered ds ≡ token.Number (pos n)
+numbered-is : (n : ℕ) → n < 2 ^ 63 → (ds : List ℕ) → decimal_from 0 ds ≡ n → numbered ds ≡ token.Number n
 unfolding numbered decimal
 numbered-is n h ds e = let t : nat_lt n (2 ^ 63) ≡ true = lt-ltb n (2 ^ 63) h in rw (e, t) refl
 
-pub lexed-number : (n : ℕ) (bs : List ℕ) → n < 2 ^ 63 → Stops is_name_byte bs → lexed (signed_decimal (pos n) ++ bs) ≡ record { token = token.Number (pos n); len = length (signed_decimal (pos n)) }
+pub lexed-number : (n : ℕ) (bs : List ℕ) → n < 2 ^ 63 → Stops is_name_byte bs → lexed (decimal_text n ++ bs) ≡ record { token = token.Number n; len = length (decimal_text n) }
 lexed-number n bs h k =
     let d : Digits n (decimal_text n) = digits n (omega arith) in
     lexed-digits (decimal_text n) bs d.0 d.1 (no-name-no-digit bs k) ∙ ap (λ (t : Token). record { token = t; len = length (decimal_text n) }) (numbered-is n h (decimal_text n) d.2)
 
-pub number-begins : (n : ℕ) → n < 2 ^ 63 → Begins is_digit (signed_decimal (pos n))
+pub number-begins : (n : ℕ) → n < 2 ^ 63 → Begins is_digit (decimal_text n)
 number-begins n h = (digits n (omega arith)).0

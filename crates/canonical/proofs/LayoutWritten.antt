@@ -1,5 +1,5 @@
 -- Each token of a text is written as a token is, or is refused wherever it stands.
-use Rattle.std.proofs.Common.{◌≡◌, ℕ, ◌^◌, ◌≤◌, List, [], ◌∷◌, length, refl, arith, Option, Some, None, true, false, cond, nat_lt, pos}
+use Rattle.std.proofs.Common.{◌≡◌, ℕ, ◌^◌, ◌≤◌, List, [], ◌∷◌, length, refl, arith, Option, Some, None, true, false, cond, nat_lt}
 use Rattle.std.proofs.lemmas.Bool.{ltb-true}
 use Rattle.nest_tokens.specs.declared.token.Mark.{Mark}
 use Rattle.nest_tokens.specs.declared.token.Token.{Token}
@@ -16,7 +16,7 @@ use Rattle.canonical.specs.Layout.{IsWritten}
 abbrev pub Writable : Token → Type 0
 Writable (token.Bad b) = Unit {0}
 Writable (token.Name n) = IsWritten (token.Name n)
-Writable (token.Number z) = IsWritten (token.Number z)
+Writable (token.Number n) = IsWritten (token.Number n)
 Writable (token.Plain m) = Unit {0}
 Writable token.End = ⊥
 
@@ -40,8 +40,8 @@ named-writable s b a = elim (nat_lt 32 (length s)) as (λ t. nat_lt 32 (length s
 
 numbered-writable : (s : List ℕ) → Writable (numbered s)
 unfolding numbered
-numbered-writable s = elim (nat_lt (decimal s) (2 ^ 63)) as (λ t. nat_lt (decimal s) (2 ^ 63) ≡ t → Writable (cond t (token.Number (pos (decimal s))) (token.Bad bad.Number))) [
-  | true ↦ λ e. (decimal s, refl, ltb-true (decimal s) (2 ^ 63) e)
+numbered-writable s = elim (nat_lt (decimal s) (2 ^ 63)) as (λ t. nat_lt (decimal s) (2 ^ 63) ≡ t → Writable (cond t (token.Number (decimal s)) (token.Bad bad.Number))) [
+  | true ↦ λ e. ltb-true (decimal s) (2 ^ 63) e
   | false ↦ λ e. tt
 ] refl
 
@@ -62,6 +62,6 @@ tokens-writable text = divided-writable (tokens-divide text)
 pub writable-written : (t : Token) → Writable t → ((b : _) → t ≡ token.Bad b → ⊥) → IsWritten t
 writable-written (token.Bad b) w h = absurd (h b refl)
 writable-written (token.Name n) w h = w
-writable-written (token.Number z) w h = w
+writable-written (token.Number n) w h = w
 writable-written (token.Plain m) w h = tt
 writable-written token.End w h = absurd w

@@ -1,25 +1,28 @@
 -- Printed expressions, one equation for each of them.
-use Rattle.std.proofs.Common.{◌≡◌, ℕ, ℤ, List, [], ◌∷◌, ◌++◌, Bool, true, false, refl, ap, ◌∙◌, rules, append_assoc, append-nil}
+use Rattle.std.proofs.Common.{◌≡◌, ℕ, ℤ, pos, List, [], ◌∷◌, ◌++◌, true, false, refl, ap, ◌∙◌, rules, append_assoc, append-nil}
 use Rattle.std.specs.Fmt.{signed_decimal}
 use Rattle.nest_lang.specs.declared.tree.Expr.{Expr, the_lemmas}
 use Rattle.nest_lang.specs.declared.tree.Expr.TheVariants.{Number, Var, Load, Neg, Two}
 use Rattle.nest_lang.specs.declared.tree.Place.{Place}
 use Rattle.nest_lang.specs.declared.tree.Op.{Op}
 use Rattle.nest_tokens.specs.declared.token.Mark.TheVariants as mark
-use Rattle.nest_tokens.specs.declared.token.Token.TheVariants as token
 use Rattle.nest_tokens.specs.Tokens.{spelling}
 use Rattle.canonical.specs.declared.group.Group.{Group}
 use Rattle.canonical.specs.declared.group.Group.TheVariants.{Unary, Whole}
 use Rattle.canonical.specs.Groups.{fits, left_of, right_of, mark_of}
 use Rattle.nest_tokens.specs.Spellings.{name_text}
-use Rattle.canonical.specs.Pieces.{Word, text_of, plain, name, spaced}
+use Rattle.canonical.specs.Pieces.{text_of, plain, name, number, signed, spaced}
 use Rattle.canonical.specs.Labels.{Labels, label}
 use Rattle.canonical.specs.Expressions.{Printed, as_group, both, printed}
-use Rattle.canonical.proofs.Texts.{text-plain, text-append, text-closed, text-nil, text-name, text-integer}
+use Rattle.canonical.proofs.Texts.{text-plain, text-append, text-closed, text-nil, text-name, text-signed}
 
-pub printed-number : (l : Labels) (n : ℤ) → printed l (Number n) ≡ record { group = Unary; pieces = Word (token.Number n) ∷ [] }
+pub printed-signed : (l : Labels) (n : ℤ) → printed l (Number n) ≡ record { group = Unary; pieces = signed n }
 unfolding printed
-printed-number l n = search (rules, the_lemmas)
+printed-signed l n = search (rules, the_lemmas)
+
+pub printed-number : (l : Labels) (n : ℕ) → printed l (Number (pos n)) ≡ record { group = Unary; pieces = number n ∷ [] }
+unfolding signed
+printed-number l n = printed-signed l (pos n)
 
 pub printed-var : (l : Labels) (p : Place) → printed l (Var p) ≡ record { group = Unary; pieces = name (label l p) ∷ [] }
 unfolding printed
@@ -47,7 +50,7 @@ as-held wanted x h = rw h
 
 -- the texts of expressions without parentheses round them
 pub bare-number : (l : Labels) (n : ℤ) → text_of (printed l (Number n)).pieces ≡ signed_decimal n
-bare-number l n = rw (printed-number, text-integer, text-nil) (append-nil (signed_decimal n))
+bare-number l n = ap (λ (x : Printed). text_of x.pieces) (printed-signed l n) ∙ text-signed n
 
 pub bare-var : (l : Labels) (p : Place) → text_of (printed l (Var p)).pieces ≡ name_text (label l p)
 bare-var l p = rw (printed-var, text-name, text-nil) (append-nil (name_text (label l p)))
@@ -65,7 +68,7 @@ bare-two l o a b = ap (λ (x : Printed). text_of x.pieces) (printed-two l o a b)
 pub held-text : (wanted : Group) (x : Printed) → fits x.group wanted ≡ false → text_of (as_group wanted x) ≡ spelling mark.Open ++ (text_of x.pieces ++ spelling mark.Close)
 held-text wanted x h = ap text_of (as-held wanted x h) ∙ text-plain mark.Open _ ∙ ap (λ (t : List ℕ). spelling mark.Open ++ t) (text-closed x.pieces mark.Close)
 
-pub ruleset groups = (printed-number, printed-var, printed-load, printed-neg, printed-two)
+pub ruleset groups = (printed-signed, printed-var, printed-load, printed-neg, printed-two)
 
 pub ruleset printings = (bare-number, bare-var, bare-load, bare-neg, bare-two, append_assoc)
 

@@ -1,5 +1,5 @@
 -- The words of canonical pieces are written as tokens are: expressions and statements.
-use Rattle.std.proofs.Common.{◌≡◌, ℕ, ◌+◌, ℤ, List, [], ◌∷◌, ◌++◌, length, sym, true, false, cond, subst}
+use Rattle.std.proofs.Common.{◌≡◌, ℕ, ◌+◌, List, [], ◌∷◌, ◌++◌, length, sym, true, false, cond, subst}
 use Rattle.nest_lang.specs.declared.tree.Op.{Op}
 use Rattle.nest_lang.specs.declared.tree.Place.TheVariants as place
 use Rattle.nest_lang.specs.declared.tree.Expr.{Expr}
@@ -116,8 +116,8 @@ stands-writable s t h e real = elim s.left as (λ l. AllWritable l → (first s.
 pub name-written : (s : Sight) (n : Name) → Good s → stands s ≡ token.Name n → IsWritten (token.Name n)
 name-written s n h e = stands-writable s (token.Name n) h e (λ k. cc)
 
-pub number-written : (s : Sight) (z : ℤ) → Good s → stands s ≡ token.Number z → IsWritten (token.Number z)
-number-written s z h e = stands-writable s (token.Number z) h e (λ k. cc)
+pub number-written : (s : Sight) (n : ℕ) → Good s → stands s ≡ token.Number n → IsWritten (token.Number n)
+number-written s n h e = stands-writable s (token.Number n) h e (λ k. cc)
 
 -- Expressions
 

@@ -56,10 +56,10 @@ each_proper f (x ∷ xs) h = h.0 then each_proper f xs h.1
 -- Numbers
 
 abbrev Fits : ℕ → Type 0
-Fits n = IsWritten (token.Number (pos n))
+Fits n = IsWritten (token.Number n)
 
 numbered : (n : ℕ) → Fits n → Proper (number n ∷ [])
-numbered n h = worded (token.Number (pos n)) h
+numbered n h = worded (token.Number n) h
 
 operand_proper : (n : ℕ) → Fits n → Proper (operand n)
 operand_proper n h = space cons numbered n h
@@ -71,13 +71,13 @@ signed_by (suc n) h = marked mark.Minus cons numbered (suc n) h
 
 signed-proper : {s : Sight} {v : ℤ} {t : Sight} → IsSigned s v t → Good s → Proper (signed v) × Good t
 unfolding signed
-signed-proper (unsigned {n} {s} h) g = (numbered n (number-written s (pos n) g h), good-skip s g)
-signed-proper (negative {n} {s} h k) g = (signed_by n (number-written (skip s) (pos n) (good-skip s g) k), good-skip (skip s) (good-skip s g))
+signed-proper (unsigned {n} {s} h) g = (numbered n (number-written s n g h), good-skip s g)
+signed-proper (negative {n} {s} h k) g = (signed_by n (number-written (skip s) n (good-skip s g) k), good-skip (skip s) (good-skip s g))
 
 -- Loops
 
 small : (n : ℕ) → n < 3 → Fits n
-small n h = (n, refl, omega arith)
+small n h = omega arith
 
 stride-proper : {s : Sight} {k : ℤ} {t : Sight} → IsStride s k t → Good s → Proper (step_of k) × Good t
 unfolding step_of signed
@@ -138,25 +138,25 @@ verb : (w : CommandWord) → Proper (command_name w ∷ [])
 verb w = worded (token.Name (name_of (word_spelling w))) (verb-written w)
 
 rows-proper : {depth : ℕ} {s : Sight} {ns : List ℕ} {t : Sight} → IsRows depth s ns t → Good s → AllByRecursion (λ n. Proper (operand n)) ns × Good t
-rows-proper (row_one {n} {s} h r) g = ((operand_proper n (number-written s (pos n) g h), tt), good-skip s g)
-rows-proper (row_more {n} {ns} {s} {t} i len h r) g = let x = rows-proper i g in (all-snoc (λ n. Proper (operand n)) ns n x.0 (operand_proper n (number-written t (pos n) x.1 h)), good-skip t x.1)
+rows-proper (row_one {n} {s} h r) g = ((operand_proper n (number-written s n g h), tt), good-skip s g)
+rows-proper (row_more {n} {ns} {s} {t} i len h r) g = let x = rows-proper i g in (all-snoc (λ n. Proper (operand n)) ns n x.0 (operand_proper n (number-written t n x.1 h)), good-skip t x.1)
 
 command-proper : {depth : ℕ} {cs : Script} {s : Sight} {c : Command} {t : Sight} → IsCommand depth cs s c t → Good s → Proper (command_of c) × Good t
 unfolding command_of signed
-command-proper (seq {n} {s} a b h k) g = let g1 = good-skip s g in (verb word.Seq cons operand_proper n (number-written (skip s) (pos n) g1 h), good-skip (skip s) g1)
+command-proper (seq {n} {s} a b h k) g = let g1 = good-skip s g in (verb word.Seq cons operand_proper n (number-written (skip s) n g1 h), good-skip (skip s) g1)
 command-proper (swap {a} {b} {s} {t} k ha ra q hb rb ne) g =
     let g1 = good-skip s g in
     let gt : Good t = subst Good (sym q) (good-skip (skip s) g1) in
-    (verb word.Swap cons (operand_proper a (number-written (skip s) (pos a) g1 ha) then operand_proper b (number-written t (pos b) gt hb)), good-skip t gt)
+    (verb word.Swap cons (operand_proper a (number-written (skip s) a g1 ha) then operand_proper b (number-written t b gt hb)), good-skip t gt)
 command-proper (skew {a} {b} {m} {s} {t} {u} k may ha ra q hb rb ne i r) g =
     let g1 = good-skip s g in
     let gt : Good t = subst Good (sym q) (good-skip (skip s) g1) in
     let x = signed-proper i (good-skip t gt) in
-    (verb word.Skew cons ((operand_proper a (number-written (skip s) (pos a) g1 ha) then operand_proper b (number-written t (pos b) gt hb)) then (space cons x.0)), x.1)
+    (verb word.Skew cons ((operand_proper a (number-written (skip s) a g1 ha) then operand_proper b (number-written t b gt hb)) then (space cons x.0)), x.1)
 command-proper (tile {a} {n} {s} {t} k ha ra q hn rn) g =
     let g1 = good-skip s g in
     let gt : Good t = subst Good (sym q) (good-skip (skip s) g1) in
-    (verb word.Tile cons (operand_proper a (number-written (skip s) (pos a) g1 ha) then operand_proper n (number-written t (pos n) gt hn)), good-skip t gt)
+    (verb word.Tile cons (operand_proper a (number-written (skip s) a g1 ha) then operand_proper n (number-written t n gt hn)), good-skip t gt)
 command-proper (par {ns} {s} {t} k i) g = let x = rows-proper i (good-skip s g) in (verb word.Par cons each_proper operand ns x.0, x.1)
 command-proper (wave {ns} {s} {t} k i) g = let x = rows-proper i (good-skip s g) in (verb word.Wave cons each_proper operand ns x.0, x.1)
 
@@ -227,14 +227,14 @@ item-proper (data_ {first} {vs} {s} {t} {u} a h q c i) g =
     let g1 = good-skip s g in
     let gt : Good t = subst Good (sym q) (good-skip (skip s) g1) in
     let x = values-proper i (good-skip t gt) in
-    (lined 0 _ (marked mark.Data cons (operand_proper first (number-written (skip s) (pos first) g1 h) then (marked mark.Colon cons written_values vs x.0))), x.1)
+    (lined 0 _ (marked mark.Data cons (operand_proper first (number-written (skip s) first g1 h) then (marked mark.Colon cons written_values vs x.0))), x.1)
 item-proper (ramp {first} {count} {stride} {start} {growth} {s} {t} {u} {v} {w} a h q h2 q2 h3 ne i j r) g =
     let g1 = good-skip s g in
     let gt : Good t = subst Good (sym q) (good-skip (skip s) g1) in
     let gu : Good u = subst Good (sym q2) (good-skip t gt) in
     let x = signed-proper i (good-skip u gu) in
     let y = signed-proper j x.1 in
-    (lined 0 _ (marked mark.Ramp cons ((((operand_proper first (number-written (skip s) (pos first) g1 h) then operand_proper count (number-written t (pos count) gt h2)) then operand_proper stride (number-written u (pos stride) gu h3)) then (space cons x.0)) then (space cons y.0))), y.1)
+    (lined 0 _ (marked mark.Ramp cons ((((operand_proper first (number-written (skip s) first g1 h) then operand_proper count (number-written t count gt h2)) then operand_proper stride (number-written u stride gu h3)) then (space cons x.0)) then (space cons y.0))), y.1)
 
 items-proper : {words : ℕ} {s : Sight} {is : List Item} {t : Sight} → IsItems words s is t → Good s → AllByRecursion (λ i. Proper (item_line i)) is × Good t
 items-proper items_none g = (tt, g)
@@ -261,7 +261,7 @@ file-proper text _ (file {version} {scalars} {words} {items} {units} {s} {t} {u}
     let g1 = good-skip t x.1 in
     let y = items-proper its (good-skip (skip t) g1) in
     let z = units-proper scalars us y.1 in
-    (((version_proper version then each_proper scalar_line scalars x.0) then memory_proper words (number-written (skip t) (pos words) g1 wd)) then each_proper item_line items y.0) then each_proper (unit_lines scalars) units z.0
+    (((version_proper version then each_proper scalar_line scalars x.0) then memory_proper words (number-written (skip t) words g1 wd)) then each_proper item_line items y.0) then each_proper (unit_lines scalars) units z.0
 
 -- The words of the canonical pieces of a file that was read are written as tokens are.
 pub reads-written : (text : List ℕ) (f : File) → Reads text f → AllWritten (pieces f)

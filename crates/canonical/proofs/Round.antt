@@ -1,5 +1,5 @@
 -- What was read of an expression is read again from its canonical pieces.
-use Rattle.std.proofs.Common.{◌≡◌, ℕ, suc, ◌+◌, ◌<◌, ◌≤◌, List, [], ◌∷◌, ◌++◌, refl, sym, ◌∙◌, ap, arith, Option, Some, true, false, subst}
+use Rattle.std.proofs.Common.{◌≡◌, ℕ, pos, suc, ◌+◌, ◌<◌, ◌≤◌, List, [], ◌∷◌, ◌++◌, refl, sym, ◌∙◌, ap, arith, Option, Some, true, false, subst}
 use Rattle.nest_lang.specs.declared.tree.Place.{Place}
 use Rattle.nest_lang.specs.declared.tree.Op.{Op}
 use Rattle.nest_lang.specs.declared.tree.Op.TheVariants as op
@@ -19,7 +19,7 @@ use Rattle.nest_grammar.specs.Grammar.{Precedence, Unary as AsUnary, Term as AsT
 use Rattle.canonical.specs.declared.group.Group.{Group}
 use Rattle.canonical.specs.declared.group.Group.TheVariants.{Unary, Term, Sum, Whole}
 use Rattle.canonical.specs.Groups.{fits, made_by, left_of, right_of, mark_of}
-use Rattle.canonical.specs.Pieces.{Piece, Word, plain, name, spaced}
+use Rattle.canonical.specs.Pieces.{Piece, plain, name, number as number_piece, spaced}
 use Rattle.canonical.specs.Labels.{Labels, label}
 use Rattle.canonical.specs.Expressions.{Printed, as_group, both, printed, expression_of}
 use Rattle.canonical.proofs.Printing.{printed-number, printed-var, printed-load, printed-neg, printed-two, as-fit, as-held}
@@ -245,7 +245,7 @@ load-again l names d e s t room r o x s2 m c k w =
 
 pub again : (l : Labels) (names : Names) → Agrees names l → {p : Precedence} {d : ℕ} {s : Sight} {e : Expr} {t : Sight} → Is names p d s e t → Again l names (group_of p) e (counts s) (counts t) s.spent t.spent d
 unfolding skip here fits
-again l names agree (number {d} {n} {s} h r) = again-of l names Unary (Number n) (counts s) (counts (spend s)) s.spent (s.spent + 1) d (record { group = Unary; pieces = Word (token.Number n) ∷ [] }) (printed-number l n) refl (λ s2 m c k w. (spend s2, number w.0 (omega arith), refl, sym w.1, c, omega arith))
+again l names agree (number {d} {n} {s} h r) = again-of l names Unary (Number (pos n)) (counts s) (counts (spend s)) s.spent (s.spent + 1) d (record { group = Unary; pieces = number_piece n ∷ [] }) (printed-number l n) refl (λ s2 m c k w. (spend s2, number w.0 (omega arith), refl, sym w.1, c, omega arith))
 again l names agree (variable {d} {n} {p} {s} h f r) = again-of l names Unary (Var p) (counts s) (counts (spend s)) s.spent (s.spent + 1) d (record { group = Unary; pieces = name (label l p) ∷ [] }) (printed-var l p) refl (λ s2 m c k w.
     (spend s2, variable (w.0 ∙ ap token.Name (agree n p f)) f (omega arith), refl, sym w.1, c, omega arith))
 again l names agree (minus {d} {e} {s} {t} h r i) = again-of l names Unary (Neg e) (counts s) (counts t) s.spent t.spent (suc d) (record { group = Unary; pieces = plain mark.Minus ∷ as_group Unary (printed l e) }) (printed-neg l e) refl (λ s2 m c k w.

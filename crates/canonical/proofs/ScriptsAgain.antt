@@ -1,5 +1,5 @@
 -- What was read of candidates is read again from their canonical lines.
-use Rattle.std.proofs.Common.{◌≡◌, ℕ, ◌<◌, pos, List, [], ◌∷◌, ◌++◌, length, refl, sym, ◌∙◌, ap, arith, Some, subst, append_assoc, append-nil}
+use Rattle.std.proofs.Common.{◌≡◌, ℕ, ◌<◌, List, [], ◌∷◌, ◌++◌, length, refl, sym, ◌∙◌, ap, arith, Some, subst, append_assoc, append-nil}
 use Rattle.std.specs.List.{flat_map}
 use Rattle.nest_lang.specs.declared.command.Command.{Command}
 use Rattle.nest_tokens.specs.declared.token.Mark.TheVariants as mark
@@ -36,7 +36,7 @@ rows-again depth (row_one {n} {s} h r) s2 m w = (skip s2, row_one w.0 r, refl, s
 rows-again depth (row_more {n} {ns} {s} {t} i len h r) s2 m w =
     let q = walks-append (flat_map operand ns) (operand n) s2.size s2.left m (subst (λ (ps : List Piece). Walks ps s2.size s2.left m) (flat_map-last operand ns n) w) in
     let y = rows-again depth i s2 q.0 q.1 in
-    let z : (first y.0.size y.0.left).token ≡ token.Number (pos n) = rw (y.3, y.2) q.2.0 in
+    let z : (first y.0.size y.0.left).token ≡ token.Number n = rw (y.3, y.2) q.2.0 in
     (skip y.0, row_more y.1 len z r, y.2, ap rest y.3 ∙ sym q.2.1, y.4)
 
 rows-kept : (depth : ℕ) {s : Sight} {ns : List ℕ} {t : Sight} → IsRows depth s ns t → counts t ≡ counts s

@@ -1,5 +1,5 @@
 -- How the text of pieces is made up.
-use Rattle.std.proofs.Common.{◌≡◌, ℕ, ◌*◌, ℤ, pos, negsuc, List, [], ◌∷◌, ◌++◌, refl, sym, ap, ◌∙◌, zero, suc, ◌+◌, ◌<◌, length, take, get_or, arith, append_assoc, append-nil, rules, replicate}
+use Rattle.std.proofs.Common.{◌≡◌, ℕ, ◌*◌, ℤ, pos, negsuc, List, [], ◌∷◌, ◌++◌, refl, sym, ap, ◌∙◌, zero, suc, ◌+◌, ◌<◌, length, take, get_or, arith, append_assoc, append-nil, replicate}
 use Rattle.std.specs.List.{flat_map}
 use Rattle.std.specs.Fmt.{decimal, signed_decimal}
 use Rattle.std.proofs.lemmas.Grind.{flat_map-append}
@@ -23,13 +23,9 @@ pub text-name : (n : Name) (ps : List Piece) → text_of (Word (token.Name n) �
 unfolding text_of piece_text token_text
 text-name n ps = refl
 
-pub text-number : (n : ℕ) (ps : List Piece) → text_of (Word (token.Number (pos n)) ∷ ps) ≡ decimal n ++ text_of ps
+pub text-number : (n : ℕ) (ps : List Piece) → text_of (Word (token.Number n) ∷ ps) ≡ decimal n ++ text_of ps
 unfolding text_of piece_text token_text
 text-number n ps = refl
-
-pub text-integer : (n : ℤ) (ps : List Piece) → text_of (Word (token.Number n) ∷ ps) ≡ signed_decimal n ++ text_of ps
-unfolding text_of piece_text token_text
-text-integer n ps = refl
 
 pub text-space : (ps : List Piece) → text_of (Space ∷ ps) ≡ 32 ∷ text_of ps
 unfolding text_of piece_text
@@ -77,6 +73,6 @@ text-more f xs i x old page new h item so next =
 pub text-at : {X : Type 0} (f : X → List Piece) (xs : List X) (i : ℕ) (d : X) (old page new : List ℕ) → i < length xs → page ≡ old ++ text_of (flat_map f (take i xs)) → new ≡ page ++ text_of (f (get_or xs i d)) → new ≡ old ++ text_of (flat_map f (take (i + 1) xs))
 text-at f xs i d old page new h so next = text-more f xs i (get_or xs i d) old page new h (get_or-default xs i d (get_or xs i d) h) so next
 
-pub ruleset texts = (text-nil, text-plain, text-name, text-number, text-integer, text-space, text-newline, text-indent, text-append, text-signed, text-line, append-nil, append_assoc)
+pub ruleset texts = (text-nil, text-plain, text-name, text-number, text-space, text-newline, text-indent, text-append, text-signed, text-line, append-nil, append_assoc)
 
 pub ruleset lists = (text-nil, append-nil)

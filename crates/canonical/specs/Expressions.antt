@@ -5,11 +5,10 @@ use Rattle.nest_lang.specs.declared.tree.Expr.{Expr}
 use Rattle.nest_lang.specs.declared.tree.Expr.TheFolds.{fold-Expr}
 use Rattle.nest_lang.specs.declared.tree.Expr.TheOpen.{Expr-F}
 use Rattle.nest_tokens.specs.declared.token.Mark.TheVariants as mark
-use Rattle.nest_tokens.specs.declared.token.Token.TheVariants as token
 use Rattle.canonical.specs.declared.group.Group.{Group}
 use Rattle.canonical.specs.declared.group.Group.TheVariants.{Unary, Whole}
 use Rattle.canonical.specs.Groups.{fits, made_by, left_of, right_of, mark_of}
-use Rattle.canonical.specs.Pieces.{Piece, Word, plain, name, spaced}
+use Rattle.canonical.specs.Pieces.{Piece, plain, name, signed, spaced}
 use Rattle.canonical.specs.Labels.{Labels, label}
 
 -- which group an expression is, and its pieces
@@ -27,7 +26,7 @@ both o x y = record { group = made_by o; pieces = as_group (left_of o) x ++ spac
 
 -- one level of an expression, from its parts
 abbrev pub level : Labels → Expr-F Printed → Printed
-level l (Expr-F.Number n) = record { group = Unary; pieces = Word (token.Number n) ∷ [] }
+level l (Expr-F.Number n) = record { group = Unary; pieces = signed n }
 level l (Expr-F.Var place) = record { group = Unary; pieces = name (label l place) ∷ [] }
 level l (Expr-F.Load access x) = record { group = Unary; pieces = plain mark.OpenBracket ∷ as_group Whole x ++ plain mark.CloseBracket ∷ [] }
 level l (Expr-F.Neg x) = record { group = Unary; pieces = plain mark.Minus ∷ as_group Unary x }

@@ -1,5 +1,5 @@
 -- Layout: the words of pieces, and when these are what the bytes of the pieces are read as.
-use Rattle.std.specs.Prelude.{◌≡◌, ℕ, ◌^◌, ◌<◌, ◌≤◌, pos, List, [], ◌∷◌, length, None}
+use Rattle.std.specs.Prelude.{◌≡◌, ℕ, ◌^◌, ◌<◌, ◌≤◌, List, [], ◌∷◌, length, None}
 use Rattle.nest_tokens.specs.declared.token.Token.{Token}
 use Rattle.nest_tokens.specs.declared.token.Token.TheVariants as token
 use Rattle.nest_tokens.specs.Tokens.{keyword_of}
@@ -19,7 +19,7 @@ words (Newline ∷ ps) = words ps
 -- 2^63 - 1.
 abbrev pub IsWritten : Token → Type 0
 IsWritten (token.Name n) = (s : List ℕ) × (n ≡ name_of s) × (length s ≤ 32) × Begins is_letter s × AllPass is_name_byte s × (keyword_of s ≡ None)
-IsWritten (token.Number z) = (n : ℕ) × (z ≡ pos n) × (n < 2 ^ 63)
+IsWritten (token.Number n) = n < 2 ^ 63
 IsWritten (token.Plain m) = Unit {0}
 IsWritten (token.Bad b) = ⊥
 IsWritten token.End = ⊥

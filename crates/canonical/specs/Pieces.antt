@@ -1,7 +1,7 @@
 -- Pieces: what a canonical text is made of.
 use Rattle.std.specs.Prelude.{ℕ, suc, ◌*◌, ℤ, pos, negsuc, List, [], ◌∷◌, ◌++◌, replicate}
 use Rattle.std.specs.List.{flat_map}
-use Rattle.std.specs.Fmt.{signed_decimal}
+use Rattle.std.specs.Fmt.{decimal}
 use Rattle.nest_tokens.specs.declared.token.Name.{Name}
 use Rattle.nest_tokens.specs.declared.token.Mark.{Mark}
 use Rattle.nest_tokens.specs.declared.token.Mark.TheVariants as mark
@@ -20,7 +20,7 @@ pub data Piece : Type 0 where
 -- how a token is written; none is written that is not one
 unfoldable pub token_text : Token → List ℕ
 token_text (token.Name n) = name_text n
-token_text (token.Number n) = signed_decimal n
+token_text (token.Number n) = decimal n
 token_text (token.Plain m) = spelling m
 token_text (token.Bad b) = []
 token_text token.End = []
@@ -43,7 +43,7 @@ abbrev pub name : Name → Piece
 name n = Word (token.Name n)
 
 abbrev pub number : ℕ → Piece
-number n = Word (token.Number (pos n))
+number n = Word (token.Number n)
 
 -- [ "-" ] number
 unfoldable pub signed : ℤ → List Piece

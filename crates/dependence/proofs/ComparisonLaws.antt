@@ -1,5 +1,5 @@
 -- A conflicting pair meets the rows of a system.
-use Rattle.std.proofs.Common.{◌≡◌, refl, sym, ap, ◌∙◌, subst, ℕ, ◌<◌, ◌≤◌, ◌+◌, ◌-◌, inl, inr, ℤ, pos, negsuc, ◌+ℤ◌, ◌≤ℤ◌, ◌<ℤ◌, Bool, true, false, ◌&&◌, nat_lt, nat_eq, Option, Some, None, List, [], ◌∷◌, ltb-true, ltb-false, eqb-true, arith}
+use Rattle.std.proofs.Common.{◌≡◌, refl, sym, ap, ◌∙◌, subst, ℕ, ◌<◌, ◌≤◌, ◌+◌, ◌-◌, inl, inr, ℤ, pos, negsuc, ◌+ℤ◌, ◌≤ℤ◌, ◌<ℤ◌, Bool, true, false, ◌&&◌, nat_lt, nat_eq, Option, Some, None, List, [], ◌∷◌, length, ltb-true, ltb-false, eqb-true, arith}
 use Rattle.std.specs.Prelude.{if◌then◌else◌}
 use Rattle.std.specs.List.{AllByRecursion}
 use Rattle.std.proofs.lemmas.Int.{ints}
@@ -8,7 +8,7 @@ use Rattle.std.proofs.lemmas.Bool.{and_parts}
 use Rattle.nest_lang.specs.declared.tree.Part.{Part}
 use Rattle.nest_lang.specs.declared.tree.Part.TheVariants.{Head, Pre, Post}
 use Rattle.domain.specs.declared.chunk.Chunk.{Chunk}
-use Rattle.domain.specs.Tables.{Table, Block, Access, depth, zero_form, form_or_zero, trip_form, trip, repeats, counters, counters_by, turning, turning_by, is_post, IsTable}
+use Rattle.domain.specs.Tables.{Table, Block, Access, block_at, depth, zero_form, form_or_zero, trip_form, trip, repeats, counters, counters_by, turning, turning_by, is_post, IsTable}
 use Rattle.domain.specs.Instances.{Instance, block_of, counter, InTurn, Tested, Predicted, place}
 use Rattle.domain.proofs.WithinLaws.{turns-trip}
 use Rattle.dependence.specs.Systems.{shifted, counter_form, place_form, greatest, first_counter, inner_counter, inner_counters, meeting, equal_place, equal_places, rising_place}
@@ -37,12 +37,15 @@ post_turns Head w level h = cc
 post_turns Pre w level h = cc
 post_turns Post w level h = refl
 
-pub counts_of : (D : ℕ) (t : Table) (chunk : Chunk) (x : Instance) → IsTable D t → Predicted t chunk x → Counts (counters t (block_of t x)) (turning (block_of t x)) (depth t)
-counts_of D t chunk x is p =
-    let b = block_of t x in
-    let c = counts b.part (repeats t (b.level - 1)) b.level (counted D t is x.block p.is.block) in
-    let l = level-inside D t is x.block p.is.block in
+pub counts_at : (D : ℕ) (t : Table) (rank : ℕ) → IsTable D t → rank < length t.blocks → Counts (counters t (block_at t rank)) (turning (block_at t rank)) (depth t)
+counts_at D t rank is h =
+    let b = block_at t rank in
+    let c = counts b.part (repeats t (b.level - 1)) b.level (counted D t is rank h) in
+    let l = level-inside D t is rank h in
     record { most = c.most; least = c.least; some = c.some; inside = omega (arith, c.inside, l) }
+
+pub counts_of : (D : ℕ) (t : Table) (chunk : Chunk) (x : Instance) → IsTable D t → Predicted t chunk x → Counts (counters t (block_of t x)) (turning (block_of t x)) (depth t)
+counts_of D t chunk x is p = counts_at D t x.block is p.is.block
 
 -- ---- the padded point by its forms
 

@@ -14,3 +14,5 @@ pub mod BuiltRowLaws
 pub mod FormLaws
 pub mod PairLaws
 pub mod AddedLaws
+pub mod NestLaws
+pub mod UnseenLaws

@@ -1,5 +1,5 @@
 -- Systems that are listed one after another, and what they refer to.
-use Rattle.std.proofs.Common.{◌≡◌, refl, sym, ap, ap₂, ◌∙◌, subst, ℕ, zero, suc, ◌+◌, ◌<◌, ◌≤◌, ◌-◌, ⊎_elim, ℤ, pos, Bool, true, false, nat_lt, List, [], ◌∷◌, ◌++◌, map, length, append_assoc, arith}
+use Rattle.std.proofs.Common.{◌≡◌, refl, sym, ap, ap₂, ◌∙◌, subst, ℕ, zero, suc, ◌+◌, ◌<◌, ◌≤◌, ◌-◌, ⊎_elim, ℤ, pos, Bool, true, false, nat_lt, ltb-true, List, [], ◌∷◌, ◌++◌, map, length, append_assoc, arith}
 use Rattle.std.specs.Prelude.{if◌then◌else◌}
 use Rattle.std.specs.List.{All, range_with_len, flat_map}
 use Rattle.std.proofs.lemmas.List.{map-append}
@@ -16,7 +16,7 @@ use Rattle.dependence.specs.Systems.{System, IsRef, IsSystemOf, comparisons, sys
 abbrev pub ref_at : ℕ → ℕ → AccessRef
 ref_at rank number = record { block = rank; access = number }
 
-in_range : (a n k : ℕ) → Has (range_with_len a n) k → (a ≤ k) × (k < a + n)
+pub in_range : (a n k : ℕ) → Has (range_with_len a n) k → (a ≤ k) × (k < a + n)
 in_range a zero k h = absurd h
 in_range a (suc n) k h = ⊎_elim (λ e. (omega arith, omega arith)) (λ m. let (l, r) = in_range (a + 1) n k m in (omega arith, omega arith)) h
 
@@ -31,27 +31,38 @@ refs_are t r h =
 pub refs-all : (t : Table) → All (IsRef t) (refs t)
 refs-all t = All_from (IsRef t) (refs t) (refs_are t)
 
--- what a system refers to
-record Refers (t : Table) (sys : System) : Type 0 where
+-- what a system names: two accesses of the table, and one of their cases
+pub record Names (t : Table) (sys : System) : Type 0 where
   pub first : IsRef t sys.first
   pub second : IsRef t sys.second
+  pub from : 1 ≤ sys.case
+  pub to : sys.case ≤ depth t + 1
+  pub last : depth t < sys.case → sys.first.block < sys.second.block
 
-refers : (t : Table) (L : ℤ) (sys : System) → Has (systems t L) sys → Refers t sys
+pub names : (t : Table) (L : ℤ) (sys : System) → Has (systems t L) sys → Names t sys
 unfolding systems
-refers t L sys h =
+names t L sys h =
     let (a, in-a, k) = flat_map_has (λ a. flat_map (systems_of t L a) (refs t)) (refs t) sys h in
     let (b, in-b, m) = flat_map_has (systems_of t L a) (refs t) sys k in
     by a b (refs_are t a in-a) (refs_are t b in-b) (pairs (referred t a) (referred t b)) m
   where
-    by : (a b : AccessRef) → IsRef t a → IsRef t b → (w : Bool) → Has (if w then map (system t L a b) (cases t a b) else []) sys → Refers t sys
-    by a b p q true m = let (c, in-c, e) = map_has (system t L a b) (cases t a b) sys m in subst (Refers t) (sym e) (record { first = p; second = q })
+    at-case : (a b : AccessRef) → IsRef t a → IsRef t b → (c : ℕ) → (w : Bool) → nat_lt a.block b.block ≡ w → Has (range_with_len 1 (depth t + (if w then 1 else 0))) c → Names t (system t L a b c)
+    at-case a b p q c true e in-c =
+        let (from, to) = in_range 1 (depth t + 1) c in-c in
+        record { first = p; second = q; from = from; to = omega arith; last = λ l. ltb-true a.block b.block e }
+    at-case a b p q c false e in-c =
+        let (from, to) = in_range 1 (depth t + 0) c in-c in
+        record { first = p; second = q; from = from; to = omega arith; last = λ l. absurd (omega arith) }
+
+    by : (a b : AccessRef) → IsRef t a → IsRef t b → (w : Bool) → Has (if w then map (system t L a b) (cases t a b) else []) sys → Names t sys
+    by a b p q true m = let (c, in-c, e) = map_has (system t L a b) (cases t a b) sys m in subst (Names t) (sym e) (at-case a b p q c (nat_lt a.block b.block) refl in-c)
     by a b p q false m = absurd m
 
 pub first-block : (t : Table) (sys : System) → IsSystemOf t sys → sys.first.block < length t.blocks
-first-block t sys of = (refers t of.0 sys (has_from_contains (systems t of.0) sys of.1)).first.block
+first-block t sys of = (names t of.0 sys (has_from_contains (systems t of.0) sys of.1)).first.block
 
 pub second-block : (t : Table) (sys : System) → IsSystemOf t sys → sys.second.block < length t.blocks
-second-block t sys of = (refers t of.0 sys (has_from_contains (systems t of.0) sys of.1)).second.block
+second-block t sys of = (names t of.0 sys (has_from_contains (systems t of.0) sys of.1)).second.block
 
 -- each system of two accesses is one of the table
 pub systems_of-all : (t : Table) (L : ℤ) (a b : AccessRef) → IsRef t a → IsRef t b → All (IsSystemOf t) (systems_of t L a b)

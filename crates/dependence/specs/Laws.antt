@@ -1,5 +1,5 @@
 -- The laws of dependence: which systems a conflicting pair meets, and what a legal schedule keeps.
-use Rattle.std.specs.Prelude.{◌≡◌, ◌↔◌, ℕ, ℤ, pos, ◌≤ℤ◌, List, [], ◌∷◌, ◌++◌, take}
+use Rattle.std.specs.Prelude.{◌≡◌, ◌↔◌, ◌⊎◌, ◌≤◌, ◌<◌, ℕ, ℤ, pos, ◌≤ℤ◌, List, [], ◌∷◌, ◌++◌, length, take, Some, None, slice_get, Contains}
 use Rattle.std.specs.List.{All, Any}
 use Rattle.std.specs.Ordering.{int_cmp}
 use Rattle.std.specs.Cmp.Lexicographic.{slice_cmp}
@@ -7,13 +7,19 @@ use Rattle.std.specs.declared.cmp.Ordering.TheVariants.{Less}
 use Rattle.affine.specs.Rows.{Meets}
 use Rattle.orders.specs.Orders.{Has, Before, IsOrdering}
 use Rattle.domain.specs.declared.chunk.Chunk.{Chunk}
-use Rattle.domain.specs.Tables.{Table, counters, IsTable}
+use Rattle.nest_lang.specs.declared.tree.AccessRef.{AccessRef}
+use Rattle.nest_lang.specs.declared.tree.BlockRef.{BlockRef}
+use Rattle.nest_lang.specs.declared.tree.Loop.{Loop}
+use Rattle.nest_lang.specs.Accesses.{accesses_of}
+use Rattle.nest_lang.specs.Blocks.{present_blocks}
+use Rattle.domain.specs.Tables.{Table, block_at, level_at, turning, counters, IsTable}
+use Rattle.domain.specs.Shapes.{IsTableOf}
 use Rattle.domain.specs.Instances.{Instance, block_of, Predicted, Precedes, IsOriginal, padded}
 use Rattle.domain.specs.Footprints.{Conflict}
 use Rattle.domain.specs.Launches.{IsLaunched}
 use Rattle.transform.specs.Schedules.{Schedule, IsSchedule, phase, place, tile}
 use Rattle.dependence.specs.Comparisons.{Joint, point}
-use Rattle.dependence.specs.Systems.{systems}
+use Rattle.dependence.specs.Systems.{System, IsRef, systems}
 use Rattle.dependence.specs.Legality.{Legal, Unmet}
 
 -- the chunk's first turn, the counters of x, the counters of y
@@ -91,3 +97,22 @@ abbrev pub ConflictLaw : Type 0
 ConflictLaw =
     (D : ℕ) (t : Table) (L words : ℤ) (s : Schedule) (chunk : Chunk) (xs ys : List Instance) → IsTable D t → IsSchedule D s → Legal t s L
     → IsShortLaunch t L words chunk → IsOriginal t chunk xs → IsScheduled t s xs ys → KeepsConflicts t words s xs ys
+
+-- ---- what systems name
+
+-- an access of a nest, by the rank of its block, which is present, and its number there, from 1
+pub record IsAccessOf (loops : List Loop) (r : AccessRef) : Type 0 where
+  pub present : r.block < length (present_blocks loops)
+  pub from : 1 ≤ r.access
+  pub to : (block : BlockRef) → slice_get (present_blocks loops) r.block ≡ Some block → r.access ≤ length (accesses_of loops block)
+
+-- what refers to an access of the table of a nest refers to an access of the nest
+abbrev pub AccessesOfNest : Type 0
+AccessesOfNest = (scalars : ℕ) (loops : List Loop) (t : Table) (r : AccessRef) → IsTableOf scalars loops t → IsRef t r → IsAccessOf loops r
+
+-- the trip of a loop has no form where no head of it was seen, and then no block inside it was: no whole-number point
+-- meets a system of an access of such a block, whose rows ask for a counter from 0 to -1
+abbrev pub UnseenLoopUnmet : Type 0
+UnseenLoopUnmet =
+    (D : ℕ) (t : Table) (L : ℤ) (sys : System) (k : ℕ) → IsTable D t → Contains (systems t L) sys → 1 ≤ k → (level_at t k).trip ≡ None
+    → (k < turning (block_at t sys.first.block)) ⊎ (k < turning (block_at t sys.second.block)) → (point : List ℤ) → All (Meets point) sys.rows → ⊥

@@ -1,6 +1,6 @@
 //! The laws of dependence: functions that do nothing, whose contracts are the laws.
 
-ghost use Rattle.dependence.specs.Laws.{LegalIsUnmet, PairHasSystem, OrderKept, TilesApart, ConflictLaw};
+ghost use Rattle.dependence.specs.Laws.{LegalIsUnmet, PairHasSystem, OrderKept, TilesApart, ConflictLaw, AccessesOfNest, UnseenLoopUnmet};
 
 /// In a launched chunk of at most L turns each conflicting pair, in original order, meets the rows of a system for L.
 pub fn pair_has_system()
@@ -26,4 +26,14 @@ pub fn tiles_apart()
 /// different tiles of one phase never conflict.
 pub fn conflict_law()
     ensures { ConflictLaw }
+{}
+
+/// What refers to an access of the table of a nest refers to an access of a present block of the nest.
+pub fn accesses_of_nest()
+    ensures { AccessesOfNest }
+{}
+
+/// No point meets a system of a block inside a loop of which no head was seen.
+pub fn unseen_loop_unmet()
+    ensures { UnseenLoopUnmet }
 {}

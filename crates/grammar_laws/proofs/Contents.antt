@@ -1,5 +1,5 @@
 -- Contents: the readings of scalars, items, nests and files and the grammar say the same.
-use Rattle.std.proofs.Common.{◌≡◌, ℕ, ◌+◌, ◌<◌, ◌≤◌, ℤ, pos, List, [], ◌∷◌, ◌++◌, length, refl, sym, ◌∙◌, ap, subst, Some, None, Result, Ok, Err, Bool, true, false, cond, nat_le, nat_lt}
+use Rattle.std.proofs.Common.{◌≡◌, ℕ, ◌+◌, ◌<◌, ◌≤◌, ℤ, List, [], ◌∷◌, ◌++◌, length, refl, sym, ◌∙◌, ap, subst, Some, None, Result, Ok, Err, Bool, true, false, cond, nat_le, nat_lt}
 use Rattle.std.specs.Prelude.{◌==◌, not}
 use Rattle.std.proofs.lemmas.Bool.{lt-ltb, ltb-true, le-leb, leb-true, eqb-true}
 use Rattle.nest_tokens.specs.declared.token.Name.{Name}
@@ -26,7 +26,7 @@ use Rattle.nest_grammar.specs.Names.{Names, place_of, names_of}
 use Rattle.nest_grammar.specs.Loops.{loop_keyword, loops}
 use Rattle.nest_grammar.specs.Scripts.{candidate, candidates}
 use Rattle.nest_grammar.specs.Contents.{set_version, version_at, version, scalar, scalars, memory, item_keyword, value_begins, data_value, next_value, data_values, ramp_fits, item_of, item, items, unit, next_unit, other_units, units, contents, file_of, too_long, reading}
-use Rattle.nest_grammar.specs.Grammar.{SeesNumber, SeesName, IsSigned, unsigned, negative, IsLoops, IsCandidates, IsUnit, IsUnits, IsScalars, IsValues, IsItem, data_, ramp, IsItems, IsVersion, Reads}
+use Rattle.nest_grammar.specs.Grammar.{SeesNumber, SeesName, IsSigned, unsigned, negative, IsLoops, IsUnit, IsUnits, IsScalars, IsValues, IsItem, data_, ramp, IsItems, IsVersion, Reads}
 use Rattle.nest_grammar.specs.Grammar as grammar
 use Rattle.nest_grammar.proofs.Many.{many-stop}
 use Rattle.nest_grammar.proofs.Productions.{parts-item, parts-next_unit}
@@ -309,18 +309,18 @@ version-sound s x h = let f = need-then mark.Nest _ s x h in at f.0 (stands (ski
     two n h e true k r =
         let q : x ≡ (Several, of_version Several (skip (skip s))) = cc in
         let z : n ≡ 2 = eqb-true n 2 k in
-        rw q (grammar.two h (e ∙ ap (λ (m : ℕ). token.Number (pos m)) z))
+        rw q (grammar.two h (e ∙ ap (λ (m : ℕ). token.Number m) z))
     two n h e false k r = absurd (cc)
 
     one : (n : ℕ) → Sees mark.Nest s → SeesNumber n (skip s) → (b : Bool) → (n == 1) ≡ b → cond b (set_version One) (cond (n == 2) (set_version Several) (refused kind.Version)) (skip s) ≡ Ok x → IsVersion s x.0 x.1
     one n h e true k r =
         let q : x ≡ (One, of_version One (skip (skip s))) = cc in
         let z : n ≡ 1 = eqb-true n 1 k in
-        rw q (grammar.one h (e ∙ ap (λ (m : ℕ). token.Number (pos m)) z))
+        rw q (grammar.one h (e ∙ ap (λ (m : ℕ). token.Number m) z))
     one n h e false k r = two n h e (n == 2) refl r
 
     at : Sees mark.Nest s → (t : Token) → stands (skip s) ≡ t → version_at t (skip s) ≡ Ok x → IsVersion s x.0 x.1
-    at h (token.Number (pos n)) e k = one n h e (n == 1) refl k
+    at h (token.Number n) e k = one n h e (n == 1) refl k
     at h _ e k = absurd (cc)
 
 pub version-of : {s : Sight} {v : Version} {t : Sight} → IsVersion s v t → t.version ≡ v

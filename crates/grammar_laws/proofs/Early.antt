@@ -1,5 +1,5 @@
 -- Early: a fault depends on no token behind its own.
-use Rattle.std.proofs.Common.{◌≡◌, ℕ, zero, suc, ◌≤◌, List, [], ◌∷◌, ◌++◌, length, refl, sym, ◌∙◌, ap, Option, Some, None, Result, Ok, Err, true, false, cond, subst, append_assoc, append-nil, drop, nat_lt, pos}
+use Rattle.std.proofs.Common.{◌≡◌, ℕ, zero, suc, ◌≤◌, List, [], ◌∷◌, ◌++◌, length, refl, sym, ◌∙◌, ap, Option, Some, None, Result, Ok, Err, true, false, cond, subst, append_assoc, append-nil, drop, nat_lt}
 use Rattle.std.proofs.lemmas.Bool.{le-leb}
 use Rattle.std.specs.Prelude.{nat_le, ◌^◌}
 use Rattle.std.specs.List.{prefix_len}
@@ -42,7 +42,7 @@ Real t = t ≡ token.End → ⊥
 
 real-numbered : (ds : List ℕ) → Real (numbered ds)
 unfolding numbered
-real-numbered ds h = elim (nat_lt (decimal ds) (2 ^ 63)) as (λ b. cond b (token.Number (pos (decimal ds))) (token.Bad bad.Number) ≡ token.End → ⊥) [ true ↦ λ k. cc | false ↦ λ k. cc ] h
+real-numbered ds h = elim (nat_lt (decimal ds) (2 ^ 63)) as (λ b. cond b (token.Number (decimal ds)) (token.Bad bad.Number) ≡ token.End → ⊥) [ true ↦ λ k. cc | false ↦ λ k. cc ] h
 
 real-word : (o : Option Mark) (s : List ℕ) → Real (keyword_or_name o s)
 real-word (Some w) s h = cc

@@ -1,5 +1,5 @@
 -- Expressions: their readings and the grammar say the same.
-use Rattle.std.proofs.Common.{◌≡◌, ℕ, zero, suc, refl, ◌∙◌, ap, Option, Some, None, Ok}
+use Rattle.std.proofs.Common.{◌≡◌, ℕ, zero, suc, pos, refl, ◌∙◌, ap, Option, Some, None, Ok}
 use Rattle.nest_lang.specs.declared.tree.Place.{Place}
 use Rattle.nest_lang.specs.declared.tree.Op.{Op}
 use Rattle.nest_lang.specs.declared.tree.Expr.{Expr}
@@ -161,7 +161,7 @@ visible-sound names d s n x k None e h = absurd (cc)
 
 operand-sound : (names : Names) (d : ℕ) (u e : Reading Expr) → Deeper names Unary d u → Deeper names Whole d e → (s : Sight) (x : Expr × Sight) (t : Token) → stands s ≡ t → operand names u e (start_of t) s ≡ Ok x → Is names Unary d s x.0 x.1
 unfolding start_of refused skip
-operand-sound names d u e hu he s x (token.Number n) k h = let f = taken-then (λ _. gives (Number n)) s x h in done x f.1 (number k f.0)
+operand-sound names d u e hu he s x (token.Number n) k h = let f = taken-then (λ _. gives (Number (pos n))) s x h in done x f.1 (number k f.0)
 operand-sound names d u e hu he s x (token.Name n) k h = visible-sound names d s n x k (place_of names n) refl h
 operand-sound names d u e hu he s x (token.Plain mark.Minus) k h =
     let f = bind_ok (u s) (λ a. gives (Neg a)) x h in

@@ -69,12 +69,12 @@ unfolding command_word word_of_name word_spelling
 word-command =
     let t : Token = token.Name (name_of (codes "seq")) in
     let q : command_word t ≡ Some order.Seq = refl in
-    (t ∷ token.Number (pos 0) ∷ [], the (one (both (verb q) number)))
+    (t ∷ token.Number 0 ∷ [], the (one (both (verb q) number)))
 
 of-ruled : (rule : ℕ → Bool) → Of Number (ruled rule)
 of-ruled rule = of-number_where rule kind.Script (λ n. refl)
 
-number-real : (n : ℤ) → Real (token.Number n)
+number-real : (n : ℕ) → Real (token.Number n)
 number-real n k = cc
 
 at-next_row : (depth : ℕ) (u : Unit {0}) (ns : List ℕ) (s : Sight) (t : Token) → stands s ≡ t → row_begins t ≡ Some u → At Number (next_row depth ns) s
@@ -179,7 +179,7 @@ of-memory s = of-then (of-need mark.Memory s) word-number (λ _. of-number_where
 
 starts-value : (t : Token) → value_begins t ≡ true → Real t × Starts (The Signed) t × (begins_number t ≡ true)
 starts-value (token.Number n) h = (number-real n, ([], the (both (other nothing) number)), refl)
-starts-value (token.Plain mark.Minus) h = (plain-real mark.Minus, (token.Number (pos 0) ∷ [], the (both (one sign) number)), refl)
+starts-value (token.Plain mark.Minus) h = (plain-real mark.Minus, (token.Number 0 ∷ [], the (both (one sign) number)), refl)
 starts-value _ h = absurd (cc)
 
 of-data_value : (words address : ℕ) → Of (The Signed) (data_value words address)
@@ -274,17 +274,17 @@ abbrev Numbered : Form
 Numbered = (Numeral 1 · Behind One) ∣ (Numeral 2 · Behind Several)
 
 word-numbered : Word Numbered
-word-numbered = let w = word-behind One in (token.Number (pos 1) ∷ w.0, one (both numeral w.1))
+word-numbered = let w = word-behind One in (token.Number 1 ∷ w.0, one (both numeral w.1))
 
-numeral-is : (n m : ℕ) → (n == m) ≡ true → Allows (Numeral m) (token.Number (pos n) ∷ [])
-numeral-is n m h = let e : n ≡ m = eqb-true n m h in subst (λ (k : ℕ). Allows (Numeral m) (token.Number (pos k) ∷ [])) (sym e) numeral
+numeral-is : (n m : ℕ) → (n == m) ≡ true → Allows (Numeral m) (token.Number n ∷ [])
+numeral-is n m h = let e : n ≡ m = eqb-true n m h in subst (λ (k : ℕ). Allows (Numeral m) (token.Number k ∷ [])) (sym e) numeral
 
-at-versioned : (v : Version) (m : ℕ) (n : ℕ) (s : Sight) → stands s ≡ token.Number (pos n) → (n == m) ≡ true → At (Numeral m · Behind v) (set_version v >>= behind) s
+at-versioned : (v : Version) (m : ℕ) (n : ℕ) (s : Sight) → stands s ≡ token.Number n → (n == m) ≡ true → At (Numeral m · Behind v) (set_version v >>= behind) s
 unfolding skip
-at-versioned v m n s h q = at-then {r = set_version v} behind (record { is = passed-one v (Numeral m) s (of_version v (skip s)) (token.Number (pos n)) refl refl h (number-real (pos n)) (numeral-is n m q) }) (word-behind v) (λ x k. (
+at-versioned v m n s h q = at-then {r = set_version v} behind (record { is = passed-one v (Numeral m) s (of_version v (skip s)) (token.Number n) refl refl h (number-real n) (numeral-is n m q) }) (word-behind v) (λ x k. (
     let j : ◌≡◌ {A = Result (Version × Sight) TextFault} (set_version v s) (Ok x) = k in let e : x.0 ≡ v = cc in subst (λ (u : Version). At (Behind v) (behind u) x.1) (sym e) (of-behind v x.1)))
 
-at-numbered : (n : ℕ) (s : Sight) → stands s ≡ token.Number (pos n) → (b c : Bool) → (n == 1) ≡ b → (n == 2) ≡ c → At Numbered ((if b then set_version One else (if c then set_version Several else refused kind.Version)) >>= behind) s
+at-numbered : (n : ℕ) (s : Sight) → stands s ≡ token.Number n → (b c : Bool) → (n == 1) ≡ b → (n == 2) ≡ c → At Numbered ((if b then set_version One else (if c then set_version Several else refused kind.Version)) >>= behind) s
 unfolding refused
 at-numbered n s h true c p q = at-as (λ ts v. one v) (at-versioned One 1 n s h p)
 at-numbered n s h false true p q = at-as (λ ts v. other v) (at-versioned Several 2 n s h q)
@@ -292,7 +292,7 @@ at-numbered n s h false false p q = record { is = (at-judged {A = Version} {s = 
 
 at-version_at : (s : Sight) (t : Token) → stands s ≡ t → At Numbered (version_at t >>= behind) s
 unfolding refused
-at-version_at s (token.Number (pos n)) h = at-numbered n s h (n == 1) (n == 2) refl refl
+at-version_at s (token.Number n) h = at-numbered n s h (n == 1) (n == 2) refl refl
 at-version_at s _ h = record { is = (of-wrong {A = Version} word-numbered s).is }
 
 after-after : {A B C : Type 0} (r : Result (A × Sight) TextFault) (f : A → Reading B) (g : B → Reading C) → after (after r f) g ≡ after r (λ a u. after (f a u) g)

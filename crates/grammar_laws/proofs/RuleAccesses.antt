@@ -1,5 +1,5 @@
 -- Rules: the accesses of each block are numbered from 1 on in the order of evaluation, and are at most 64.
-use Rattle.std.proofs.Common.{◌≡◌, refl, ap, ◌∙◌, sym, subst, ℕ, zero, suc, ◌+◌, ◌<◌, ◌≤◌, List, [], ◌∷◌, ◌++◌, length, length-append, map, arith, Option}
+use Rattle.std.proofs.Common.{◌≡◌, refl, ap, ◌∙◌, sym, subst, ℕ, zero, suc, ◌+◌, ◌<◌, ◌≤◌, pos, List, [], ◌∷◌, ◌++◌, length, length-append, map, arith, Option}
 use Rattle.std.specs.List.{range_with_len}
 use Rattle.std.proofs.lemmas.List.{map-append}
 use Rattle.nest_lang.specs.declared.tree.Access.{Access}
@@ -83,7 +83,7 @@ counts-push v {done} {begun} {done'} {begun'} xs x is room c =
 -- expressions
 expression-counts : {names : Names} {p : Precedence} {d : ℕ} {s : Sight} {e : Expr} {t : Sight} → Is names p d s e t → Counts s.accesses s.opened t.accesses t.opened (expression_accesses e)
 unfolding skip
-expression-counts (grammar.number {d} {n} {s} h r) = counts-none s.accesses s.opened _ (expression_accesses-number n)
+expression-counts (grammar.number {d} {n} {s} h r) = counts-none s.accesses s.opened _ (expression_accesses-number (pos n))
 expression-counts (grammar.variable {d} {n} {p} {s} h f r) = counts-none s.accesses s.opened _ (expression_accesses-var p)
 expression-counts (grammar.minus {d} {e} h r i) = counts-same _ (expression_accesses e) (expression_accesses-neg e) (expression-counts i)
 expression-counts (grammar.parens h r i k o) = expression-counts i

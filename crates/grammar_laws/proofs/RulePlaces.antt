@@ -1,5 +1,5 @@
 -- Rules: the places that a block mentions are scalars of the file, names of loops around it, and locals.
-use Rattle.std.proofs.Common.{◌≡◌, sym, subst, ℕ, suc, ◌+◌, ◌≤◌, List, [], ◌∷◌, ◌++◌, length, arith, Option, Some, None, Bool, true, false}
+use Rattle.std.proofs.Common.{◌≡◌, sym, subst, ℕ, suc, ◌+◌, ◌≤◌, pos, List, [], ◌∷◌, ◌++◌, length, arith, Option, Some, None, Bool, true, false}
 use Rattle.std.specs.Prelude.{if◌then◌else◌}
 use Rattle.std.specs.List.{All}
 use Rattle.std.proofs.lemmas.List.Elements.{All-nil, All-cons, All-append}
@@ -75,7 +75,7 @@ module _ (scalars level : ℕ) where
   none xs e = all-same scalars level xs [] e (All-nil (IsWithin scalars level))
 
   expression-within : {names : Names} {p : Precedence} {d : ℕ} {s : Sight} {e : Expr} {t : Sight} → AreWithin scalars level names → Is names p d s e t → Each (expression_places e)
-  expression-within all (grammar.number {n = n} h r) = none _ (expression_places-number n)
+  expression-within all (grammar.number {n = n} h r) = none _ (expression_places-number (pos n))
   expression-within {names} all (grammar.variable {n = n} {p = p} h f r) =
       all-same scalars level _ (p ∷ []) (expression_places-var p) (All-cons (IsWithin scalars level) p [] (within-found scalars level names n p all f) (All-nil (IsWithin scalars level)))
   expression-within all (grammar.minus {e = e} h r i) = all-same scalars level _ (expression_places e) (expression_places-neg e) (expression-within all i)

@@ -1,6 +1,6 @@
 -- Sentences: how a reading at a sight stands to a form of the grammar, and how this goes on from one reading
 -- to the next.
-use Rattle.std.proofs.Common.{◌≡◌, ℕ, zero, suc, List, [], ◌∷◌, ◌++◌, length, refl, sym, ◌∙◌, ap, Option, Some, None, Result, Ok, Err, Bool, true, false, cond, subst, append_assoc, append-nil, nat_lt, ℤ, pos, if◌then◌else◌}
+use Rattle.std.proofs.Common.{◌≡◌, ℕ, zero, suc, List, [], ◌∷◌, ◌++◌, length, refl, sym, ◌∙◌, ap, Option, Some, None, Result, Ok, Err, Bool, true, false, cond, subst, append_assoc, append-nil, nat_lt, if◌then◌else◌}
 use Rattle.nest_tokens.specs.declared.token.Mark.{Mark}
 use Rattle.nest_tokens.specs.declared.token.Token.{Token}
 use Rattle.nest_tokens.specs.declared.token.Token.TheVariants as token
@@ -51,12 +51,12 @@ pub word-sign : {m : Mark} → Word (Sign m)
 word-sign {m} = (token.Plain m ∷ [], sign)
 
 pub word-number : Word Number
-word-number = (token.Number (pos 0) ∷ [], number)
+word-number = (token.Number 0 ∷ [], number)
 
 pub starts-sign : {m : Mark} → Starts (Sign m) (token.Plain m)
 starts-sign = ([], sign)
 
-pub starts-number : {n : ℤ} → Starts Number (token.Number n)
+pub starts-number : {n : ℕ} → Starts Number (token.Number n)
 starts-number = ([], number)
 
 -- Forms

@@ -1,5 +1,5 @@
 -- Spelled: the names of a text are spelled as names.
-use Rattle.std.proofs.Common.{◌≡◌, ℕ, ◌≤◌, List, [], ◌∷◌, length, refl, subst, Option, Some, None, Bool, true, false, cond, nat_lt, pos, ◌^◌}
+use Rattle.std.proofs.Common.{◌≡◌, ℕ, ◌≤◌, List, [], ◌∷◌, length, refl, subst, Option, Some, None, Bool, true, false, cond, nat_lt, ◌^◌}
 use Rattle.std.proofs.lemmas.Bool.{ltb-false}
 use Rattle.nest_tokens.specs.declared.token.Mark.{Mark}
 use Rattle.nest_tokens.specs.declared.token.Name.{Name}
@@ -39,7 +39,7 @@ proper-named s b a = long (nat_lt 32 (length s)) refl
 
 proper-numbered : (s : List ℕ) → Proper (numbered s)
 unfolding numbered
-proper-numbered s = elim (nat_lt (decimal s) (2 ^ 63)) as (λ c. Proper (cond c (token.Number (pos (decimal s))) (token.Bad bad.Number))) [ true ↦ tt | false ↦ tt ]
+proper-numbered s = elim (nat_lt (decimal s) (2 ^ 63)) as (λ c. Proper (cond c (token.Number (decimal s)) (token.Bad bad.Number))) [ true ↦ tt | false ↦ tt ]
 
 proper-spells : {s rest : List ℕ} {t : Token} → Spells s rest t → Proper t
 proper-spells (name {s} b a e) = proper-named s b a

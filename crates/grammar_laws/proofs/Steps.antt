@@ -122,7 +122,7 @@ number-then {B} rule what go s y h = by (stands s) refl h
     kept n false e r k = absurd (cc)
 
     by : (t : Token) → stands s ≡ t → after (number_at rule what t s) go ≡ Ok y → (n : ℕ) × SeesNumber n s × (rule n ≡ true) × (go n (skip s) ≡ Ok y)
-    by (token.Number (pos n)) e k = kept n (rule n) e refl k
+    by (token.Number n) e k = kept n (rule n) e refl k
     by _ e k = absurd (cc)
 
 pub fresh-then : {B : Type 0} (names : Names) (go : Name → Reading B) (s : Sight) (y : B × Sight) → after (fresh names s) go ≡ Ok y → (n : Name) × SeesName n s × (place_of names n ≡ None) × (go n (skip s) ≡ Ok y)

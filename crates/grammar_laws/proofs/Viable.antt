@@ -28,7 +28,7 @@ use Rattle.grammar_laws.proofs.Sentences.{Word, Starts, word-then, starts-then, 
 -- Words of the productions
 
 pub word-unary : Word (The Unary)
-word-unary = (token.Number (pos 0) ∷ [], the (other (one number)))
+word-unary = (token.Number 0 ∷ [], the (other (one number)))
 
 pub word-term : Word (The Term)
 word-term = let w = word-then word-unary word-many in (w.0, the w.1)
@@ -40,7 +40,7 @@ pub word-expr : Word (The AnExpr)
 word-expr = let w = word-then word-sum word-maybe in (w.0, the w.1)
 
 pub word-signed : Word (The Signed)
-word-signed = (token.Number (pos 0) ∷ [], the (both (other nothing) number))
+word-signed = (token.Number 0 ∷ [], the (both (other nothing) number))
 
 pub word-body : Word (The Body)
 word-body = let w = word-then word-sign (word-then word-many (word-then word-maybe word-sign)) in (w.0, the w.1)
@@ -53,11 +53,11 @@ word-loop = let w = word-then word-sign (word-then word-expr word-body) in (w.0,
 pub plain-real : (m : Mark) → Real (token.Plain m)
 plain-real m k = cc
 
-of-number_at : (rule : ℕ → Bool) (what : TextKind) → ((n : ℤ) → comes_at what (token.Number n) ≡ true) → (s : Sight) (t : Token) → stands s ≡ t → At Number (number_at rule what t) s
-of-number_at rule what c s (token.Number (pos n)) h = at-obeys _ (rule n) what (token.Number (pos n)) h (λ k. cc) starts-number (c (pos n)) (at-last (at-skipped (token.Number (pos n)) h (λ k. cc) number) (λ _. of-gives n))
+of-number_at : (rule : ℕ → Bool) (what : TextKind) → ((n : ℕ) → comes_at what (token.Number n) ≡ true) → (s : Sight) (t : Token) → stands s ≡ t → At Number (number_at rule what t) s
+of-number_at rule what c s (token.Number n) h = at-obeys _ (rule n) what (token.Number n) h (λ k. cc) starts-number (c n) (at-last (at-skipped (token.Number n) h (λ k. cc) number) (λ _. of-gives n))
 of-number_at rule what c s _ h = of-wrong word-number s
 
-pub of-number_where : (rule : ℕ → Bool) (what : TextKind) → ((n : ℤ) → comes_at what (token.Number n) ≡ true) → Of Number (number_where rule what)
+pub of-number_where : (rule : ℕ → Bool) (what : TextKind) → ((n : ℕ) → comes_at what (token.Number n) ≡ true) → Of Number (number_where rule what)
 unfolding number_where
 of-number_where rule what c s = by-token (number_at rule what) (of-number_at rule what c s)
 
@@ -67,7 +67,7 @@ of-minus s = by-token (λ t s. if is_mark mark.Minus t then Ok (true, skip s) el
     (λ q. at-as (λ ts v. one v) (at-last (at-skipped (token.Plain mark.Minus) (h ∙ is_mark-true mark.Minus t q) (λ k. cc) sign) (λ _. of-gives true)))
     (λ q. at-as (λ ts v. other v) (of-gives false s)))
 
-pub of-signed_where : (rule : ℤ → Bool) (what : TextKind) → ((n : ℤ) → comes_at what (token.Number n) ≡ true) → Of (The Signed) (signed_where rule what)
+pub of-signed_where : (rule : ℤ → Bool) (what : TextKind) → ((n : ℕ) → comes_at what (token.Number n) ≡ true) → Of (The Signed) (signed_where rule what)
 unfolding signed_where
 of-signed_where rule what c s = at-as (λ ts v. the v) (of-then (of-minus s) word-number (λ negative t. at-last (of-number_where (λ n. rule (with_sign negative n)) what c t) (λ n. of-gives (with_sign negative n))))
 
@@ -108,7 +108,7 @@ at-if_visible n None s h = at-refused kind.Unknown (token.Name n) h (λ k. cc) (
 
 at-operand : (names : Names) (u e : Reading Expr) → ((s : Sight) → Sees mark.Minus s → At (Sign mark.Minus · The Unary) u s) → ((m : Mark) (s : Sight) → Sees m s → At (Sign m · The AnExpr) e s) → (s : Sight) (t : Token) → stands s ≡ t → At (The Unary) (operand names u e (start_of t)) s
 unfolding start_of here
-at-operand names u e hu he s (token.Number n) h = at-as (λ ts v. the (other (one v))) (at-last (at-taken (token.Number n) h (λ k. cc) number refl) (λ _. of-gives (NumberExpr n)))
+at-operand names u e hu he s (token.Number n) h = at-as (λ ts v. the (other (one v))) (at-last (at-taken (token.Number n) h (λ k. cc) number refl) (λ _. of-gives (NumberExpr (pos n))))
 at-operand names u e hu he s (token.Name n) h = at-as (λ ts v. the (other (other (one v)))) (at-if_visible n (place_of names n) s h)
 at-operand names u e hu he s (token.Plain mark.Minus) h = at-as (λ ts v. the (one v)) (at-last (hu s h) (λ a. of-gives (Neg a)))
 at-operand names u e hu he s (token.Plain mark.Open) h = at-as (λ ts v. the (other (other (other (other (regroup ts v)))))) (of-then (he mark.Open s h) word-sign (λ a t. at-last (of-closed mark.Close t) (λ _. of-gives a)))

@@ -1,6 +1,6 @@
 -- Phrases: the productions of the grammar by themselves, as they are written, with no rule on names,
 -- numbers or how many; which lists of tokens they allow; and how the reading of a text stands to them.
-use Rattle.std.specs.Prelude.{◌≡◌, ℕ, ℤ, pos, List, [], ◌∷◌, ◌++◌, Some, Ok, Err, Bool, true, false}
+use Rattle.std.specs.Prelude.{◌≡◌, ℕ, List, [], ◌∷◌, ◌++◌, Some, Ok, Err, Bool, true, false}
 use Rattle.nest_tokens.specs.declared.token.Name.{Name as TokenName}
 use Rattle.nest_tokens.specs.declared.token.Mark.{Mark}
 use Rattle.nest_tokens.specs.declared.token.Mark.TheVariants as mark
@@ -90,8 +90,8 @@ rule Command =
 pub data Allows : Form → List Token → Type 0 where
   nothing : Allows Nothing []
   sign : {m : Mark} → Allows (Sign m) (token.Plain m ∷ [])
-  numeral : {n : ℕ} → Allows (Numeral n) (token.Number (pos n) ∷ [])
-  number : {n : ℤ} → Allows Number (token.Number n ∷ [])
+  numeral : {n : ℕ} → Allows (Numeral n) (token.Number n ∷ [])
+  number : {n : ℕ} → Allows Number (token.Number n ∷ [])
   name : {n : TokenName} → Allows Name (token.Name n ∷ [])
   verb : {w : CommandWord} {t : Token} → command_word t ≡ Some w → Allows (Verb w) (t ∷ [])
   both : {f g : Form} {xs ys : List Token} → Allows f xs → Allows g ys → Allows (f · g) (xs ++ ys)

@@ -1,4 +1,5 @@
 pub mod ChoiceLaws
 pub mod FirstLaws
 pub mod MetLaws
+pub mod NameLaws
 pub mod RefusalLaws

@@ -1,3 +1,4 @@
 pub mod Choices
 pub mod Dependences
 pub mod Judgements
+pub mod Laws

@@ -55,7 +55,7 @@ some_from : (list : List (List ℤ)) → is_some list ≡ true → (point : List
 some_from [] e = absurd (let wrong : false ≡ true = e in cc)
 some_from (x ∷ xs) e = (x, inl refl)
 
-some_to : (list : List (List ℤ)) (point : List ℤ) → Has list point → is_some list ≡ true
+pub some_to : (list : List (List ℤ)) (point : List ℤ) → Has list point → is_some list ≡ true
 some_to [] point h = absurd h
 some_to (x ∷ xs) point h = refl
 

@@ -3,6 +3,7 @@ pub mod Steps
 pub mod Moves
 pub mod Points
 pub mod Fronts
+pub mod RunLaws
 pub mod Lattices
 pub mod BlockLemmas
 pub mod MergeLemmas
@@ -10,5 +11,6 @@ pub mod CellLemmas
 pub mod StateLemmas
 pub mod ListedLemmas
 pub mod ListLemmas
+pub mod JoinLaws
 pub mod WalkLemmas
 pub mod NewLemmas

@@ -1,11 +1,14 @@
 -- Points that are listed in another order.
-use Rattle.std.proofs.Common.{◌≡◌, ◌<◌, ◌≤◌, ◌+◌, ℕ, zero, suc, ℤ, Bool, true, false, List, [], ◌∷◌, map, length, drop, get_or, refl, sym, ap, ◌∙◌, inl, inr, ⊎_elim, int_cmp, is_lt, arith}
+use Rattle.std.proofs.Common.{◌≡◌, ◌<◌, ◌≤◌, ◌+◌, ℕ, zero, suc, ℤ, Bool, true, false, List, [], ◌∷◌, map, length, drop, get_or, refl, sym, ap, subst, ◌∙◌, inl, inr, ⊎_elim, int_cmp, is_lt, arith}
 use Rattle.std.specs.Prelude.{if◌then◌else◌, Option, Some, None, IfSome, MatchOption, is_some}
 use Rattle.std.specs.List.{AllByRecursion}
 use Rattle.std.specs.Cmp.Lexicographic.{slice_cmp}
 use Rattle.std.proofs.lemmas.List.{drop_more}
 use Rattle.arrayvec.specs.ArrayVec.{ArrayVec}
-use Rattle.orders.specs.Orders.{Has}
+use Rattle.orders.specs.Orders.{Has, Ordered}
+use Rattle.orders.proofs.Lists.{ordered_weaker}
+use Rattle.std.proofs.lemmas.Cmp.{int_cmp_total, lists_total, tied_itself}
+use Rattle.level_walk.specs.Orders.{Precedes}
 use Rattle.level_walk.specs.Lattices.{in_box}
 use Rattle.level_walk.specs.Listed.{AllDiffer, is_after, least_after, left_after, lesser, put_point}
 use Rattle.level_walk.proofs.Points.{all_from, all_has}
@@ -17,7 +20,7 @@ head_listed None list = refl
 head_listed (Some point) list = refl
 
 -- the points in the box are among the points
-from_listed : (lows highs : List ℤ) (ps : List (ArrayVec ℤ)) (z : List ℤ) → Has (listed_in lows highs ps) z → Has (map (λ p. p.items) ps) z
+pub from_listed : (lows highs : List ℤ) (ps : List (ArrayVec ℤ)) (z : List ℤ) → Has (listed_in lows highs ps) z → Has (map (λ p. p.items) ps) z
 from_listed lows highs [] z h = h
 from_listed lows highs (p ∷ ps) z h = at (in_box lows highs p.items) h (λ k. from_listed lows highs ps z k)
   where
@@ -33,6 +36,13 @@ differ_in lows highs (p ∷ ps) differ = at (in_box lows highs p.items) (differ_
     at : (b : Bool) → AllDiffer (listed_in lows highs ps) → AllDiffer (if b then p.items ∷ listed_in lows highs ps else listed_in lows highs ps)
     at true more = (all_from (λ y. p.items ≡ y → ⊥) (listed_in lows highs ps) (λ z h. all_has (λ y. p.items ≡ y → ⊥) (map (λ p. p.items) ps) z differ.0 (from_listed lows highs ps z h)), more)
     at false more = more
+
+-- points in order differ
+pub never_itself : (x : List ℤ) → Precedes x x → ⊥
+never_itself x h = let t = tied_itself (lists_total int_cmp_total) x in cc
+
+pub differ_from : (list : List (List ℤ)) → Ordered Precedes list → AllDiffer list
+differ_from list o = ordered_weaker Precedes (λ x y. x ≡ y → ⊥) (λ x y h e. never_itself x (subst (λ (z : List ℤ). Precedes x z) (sym e) h)) list o
 
 -- where there is no least, nothing is left
 lesser_some : (o : Option (List ℤ)) (x : List ℤ) → (b : List ℤ) × (lesser o x ≡ Some b)
@@ -65,7 +75,7 @@ pub next_head : (last : Option (List ℤ)) (list : List (List ℤ)) (o : Option 
 next_head last list None differ is = sym (left_none last list (sym is))
 next_head last list (Some point) differ is = sym (least_is_next last list point.items differ (sym is))
 
-long_listed : (n : ℕ) (ps : List (ArrayVec ℤ)) (z : List ℤ) → AllByRecursion (λ point. length point.items ≡ n) ps → Has (map (λ p. p.items) ps) z → length z ≡ n
+pub long_listed : (n : ℕ) (ps : List (ArrayVec ℤ)) (z : List ℤ) → AllByRecursion (λ point. length point.items ≡ n) ps → Has (map (λ p. p.items) ps) z → length z ≡ n
 long_listed n [] z all h = absurd h
 long_listed n (p ∷ ps) z all (inl e) = ap length e ∙ all.0
 long_listed n (p ∷ ps) z all (inr h) = long_listed n ps z all.1 h
@@ -114,5 +124,5 @@ pub moved_head : (lows highs : List ℤ) (n : ℕ) (ps : List (ArrayVec ℤ)) (l
 moved_head lows highs n ps None found old new is some e f g = absurd (let wrong : false ≡ true = some in cc)
 moved_head lows highs n ps (Some point) found old new is some e f g =
     ap (λ (o : Option (ArrayVec ℤ)). after_head o (listed_in lows highs ps)) f
-    ∙ next_head (Some point.items) (listed_in lows highs ps) found (differ_in lows highs ps is.differ) g
+    ∙ next_head (Some point.items) (listed_in lows highs ps) found (differ_in lows highs ps (differ_from (map (λ p. p.items) ps) is.ordered)) g
     ∙ ap (λ (o : Option (ArrayVec ℤ)). drop 1 (after_head o (listed_in lows highs ps))) e

@@ -1,5 +1,5 @@
 -- The walks of several blocks side by side.
-use Rattle.std.proofs.Common.{◌≡◌, ◌<◌, ◌≤◌, ◌+◌, ℕ, zero, suc, ℤ, pos, false, List, [], ◌∷◌, ◌++◌, length, take, drop, get_or, refl, sym, ap, ap₂, ◌∙◌, subst, arith}
+use Rattle.std.proofs.Common.{◌≡◌, ◌<◌, ◌≤◌, ◌+◌, ℕ, zero, suc, ℤ, pos, false, List, [], ◌∷◌, ◌++◌, map, length, take, drop, get_or, refl, sym, ap, ap₂, ◌∙◌, subst, arith}
 use Rattle.std.specs.Prelude.{Option, None, MatchOption}
 use Rattle.std.specs.List.{AllByRecursion}
 use Rattle.std.proofs.Math.ListN.{set}
@@ -16,7 +16,7 @@ use Rattle.level_walk.specs.declared.scans.Scanning.{Scanning}
 use Rattle.level_walk.specs.declared.scans.BlockScan.{BlockScan}
 use Rattle.level_walk.specs.declared.scans.BlockScan.TheVariants.{Scanned, Listed}
 use Rattle.level_walk.specs.Listings.{listed_in}
-use Rattle.level_walk.proofs.ListLemmas.{differ_in, head_listed}
+use Rattle.level_walk.proofs.ListLemmas.{differ_from, differ_in, head_listed}
 use Rattle.level_walk.proofs.StateLemmas.{head_scanned}
 use Rattle.level_walk.proofs.ListedLemmas.{left_ordered}
 use Rattle.level_walk.specs.States.{head_of}
@@ -62,7 +62,7 @@ head_in lows highs (Listed b) s stands = head_listed (head_of s) (listed_in lows
 
 pub ordered_in : (n : ℕ) (lows highs : List ℤ) (b : BlockScan) → IsBlock n b → Ordered Precedes (points_in lows highs b)
 ordered_in n lows highs (Scanned b) is = points_ordered (space_of lows highs b) (length b.scan.levels) []
-ordered_in n lows highs (Listed b) is = left_ordered None (listed_in lows highs b.points.items) (differ_in lows highs b.points.items is.differ)
+ordered_in n lows highs (Listed b) is = left_ordered None (listed_in lows highs b.points.items) (differ_in lows highs b.points.items (differ_from (map (λ p. p.items) b.points.items) is.ordered))
 
 module _ (lows highs : List ℤ) where
   abbrev both : List BlockScan → List State → List (List (List ℤ))

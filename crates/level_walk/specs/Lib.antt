@@ -3,6 +3,7 @@ pub mod Places
 pub mod Orders
 pub mod Fronts
 pub mod Lattices
+pub mod Stretches
 pub mod Blocks
 pub mod Merges
 pub mod States

@@ -10,6 +10,7 @@ pub mod merges;
 pub mod runs;
 pub mod scans;
 pub mod states;
+pub mod stretches;
 pub mod together;
 
 pub use cursor::{Cursor, Point, Scanned};

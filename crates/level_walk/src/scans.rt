@@ -1,12 +1,17 @@
 //! How the points of a block are found.
 
-ghost use Rattle.std.specs.Prelude.{◌≡◌, ◌<◌, ◌≤◌, ℕ, length, drop};
+ghost use Rattle.std.specs.Prelude.{◌≡◌, ◌<◌, ◌≤◌, ℕ, length, drop, IfOk};
+ghost use Rattle.level_walk.specs.Stretches.{AreRunsOf};
 
+use crate::cells::cell_runs;
 use crate::cursor::Point;
 use crate::listings::{moved_listing, started_listing};
+use crate::runs::Run;
 use crate::states::{State, moved, started};
+use crate::stretches::listed_runs;
 use affine::Row;
 use fourier_motzkin::Scan;
+use std::alloc::{AllocError, Global};
 
 /// The rows of a block, and their scan.
 #[derive(Drop)]
@@ -15,7 +20,7 @@ pub struct Scanning {
     pub rows: Vec<Row>,
 }
 
-/// The points of a block in another order.
+/// The points of a block, in lexicographic order.
 #[derive(Drop)]
 pub struct Listing {
     pub points: Vec<Point>,
@@ -44,6 +49,28 @@ impl BlockScan {
             },
             BlockScan::Listed(block) => {
                 started_listing(variables, block.points.as_slice(), lows, highs)
+            },
+        }
+    }
+
+    /// The runs of the points in a cell, by their first points.
+    pub fn runs(
+        &self,
+        alloc: Global,
+        variables: usize,
+        lows: &[i64],
+        highs: &[i64],
+    ) -> Result<Vec<Run>, AllocError>
+        requires block { IsBlock variables self.now }
+        requires cell { IsBox variables lows.now highs.now }
+        ensures { IfOk result (λ runs. AreRunsOf (points_in lows.now highs.now self.now) runs.items) }
+    {
+        match self {
+            BlockScan::Scanned(block) => {
+                cell_runs(alloc, &block.scan, block.rows.as_slice(), lows, highs)
+            },
+            BlockScan::Listed(block) => {
+                listed_runs(alloc, variables, block.points.as_slice(), lows, highs)
             },
         }
     }

@@ -16,7 +16,6 @@ use Rattle.nest_grammar.specs.Statements.{opening_of, statements, block}
 use Rattle.nest_grammar.specs.Loops.{loop_keyword, body_end, loops}
 use Rattle.nest_grammar.specs.Scripts.{word_spelling, word_of_name, command_word, row_begins, rows, operands, command, script, candidates}
 use Rattle.nest_grammar.specs.Contents.{reading}
-use Rattle.nest_grammar.specs.Grammar.{IsItems, IsItem, IsSigned}
 use Rattle.nest_grammar.specs.Grammar as grammar
 use Rattle.canonical.specs.Pieces.{Piece, Space, plain, number, piece_text, token_text, text_of}
 use Rattle.canonical.specs.Layout.{words, AllWritten}
@@ -48,7 +47,7 @@ module _ (n k : ℕ) (many_words : n ≤ 16384) (small : k < 100) where
   copy-laid = (tt, (tt, (tt, (tt, (tt, (tt, (tt, (tt, (tt, (tt, (tt, (tt, (refl, (tt, (tt, (refl, (tt, (tt, (refl, (refl, (tt, (tt, (tt, tt)))))))))))))))))))))))
 
   copy-written : AllWritten copy_pieces
-  copy-written = (tt, ((1, refl, omega arith), (tt, ((2 * n, refl, omega arith), (tt, (written_i, (tt, ((0, refl, omega arith), (tt, ((n, refl, omega arith), (tt, (tt, ((n, refl, omega arith), (tt, (written_i, (tt, (tt, (tt, (written_i, (tt, (tt, ((k, refl, omega arith), (tt, tt)))))))))))))))))))))))
+  copy-written = (tt, (omega arith, (tt, (omega arith, (tt, (written_i, (tt, (omega arith, (tt, (omega arith, (tt, (tt, (omega arith, (tt, (written_i, (tt, (tt, (tt, (written_i, (tt, (tt, (omega arith, (tt, tt)))))))))))))))))))))))
 
   copy-short : length (text_of copy_pieces) ≤ most_bytes
   unfolding piece_text token_text spelling name_text

@@ -17,7 +17,6 @@ use Rattle.nest_grammar.specs.Statements.{opening_of, statements, block}
 use Rattle.nest_grammar.specs.Loops.{loop_keyword, body_end, loops}
 use Rattle.nest_grammar.specs.Scripts.{word_spelling, word_of_name, command_word, row_begins, rows as script_rows, operands, command, script, candidates}
 use Rattle.nest_grammar.specs.Contents.{reading}
-use Rattle.nest_grammar.specs.Grammar.{IsItems, IsItem, IsSigned}
 use Rattle.nest_grammar.specs.Grammar as grammar
 use Rattle.canonical.specs.Pieces.{Piece, Space, plain, number, piece_text, token_text, text_of}
 use Rattle.canonical.specs.Layout.{words, AllWritten}
@@ -26,7 +25,7 @@ use Rattle.nest_gen.proofs.Named.{named_i, named_j, named_tile, written_i, writt
 use Rattle.nest_gen.proofs.TextReads.{Parsed, sight, text-read, length-brief}
 use Rattle.nest_gen.specs.Texts.{grid_of}
 use Rattle.nest_gen.specs.Texts.{rows, upper, lower}
-use Rattle.nest_gen.proofs.TextReads.{text_of-append}
+use Rattle.canonical.proofs.Texts.{text-append}
 use Rattle.nest_gen.proofs.Items.{ramp-in, one_is_not_zero, square-small}
 
 module _ (m v : ℕ) (from : 2 ≤ m) (to : m ≤ 258) (small : v < 1000) where
@@ -87,7 +86,7 @@ module _ (m v : ℕ) (from : 2 ≤ m) (to : m ≤ 258) (small : v < 1000) where
   grid-is : grid_of m v ≡ text_of grid_pieces
   grid-is =
       ap (λ t. t ++ (upper m ++ lower m)) rows-is ∙ ap (λ t. text_of rows_pieces ++ (t ++ lower m)) upper-is ∙ ap (λ t. text_of rows_pieces ++ (text_of upper_pieces ++ t)) lower-is
-      ∙ ap (λ t. text_of rows_pieces ++ t) (sym (text_of-append upper_pieces lower_pieces)) ∙ sym (text_of-append rows_pieces (upper_pieces ++ lower_pieces))
+      ∙ ap (λ t. text_of rows_pieces ++ t) (sym (text-append upper_pieces lower_pieces)) ∙ sym (text-append rows_pieces (upper_pieces ++ lower_pieces))
 
   grid-laid : Laid Free grid_pieces
   unfolding is_sign with_equals
@@ -97,7 +96,7 @@ module _ (m v : ℕ) (from : 2 ≤ m) (to : m ≤ 258) (small : v < 1000) where
   area = square-small m to
 
   grid-written : AllWritten grid_pieces
-  grid-written = (tt, ((1, refl, omega arith), (tt, ((m * m, refl, omega (arith, area)), (tt, ((0, refl, omega arith), ((m * m, refl, omega (arith, area)), ((1, refl, omega arith), ((v, refl, omega arith), ((1, refl, omega arith), (tt, (written_i, (tt, ((1, refl, omega arith), (tt, ((m - 1, refl, omega arith), (tt, (tt, (written_j, (tt, ((1, refl, omega arith), (tt, ((m - 1, refl, omega arith), (tt, (tt, ((m, refl, omega arith), (tt, (written_i, (tt, (written_j, (tt, (tt, (tt, (tt, ((m, refl, omega arith), (tt, (written_i, (tt, (written_j, (tt, ((m, refl, omega arith), (tt, (tt, (tt, ((m, refl, omega arith), (tt, (written_i, (tt, (written_j, (tt, ((1, refl, omega arith), (tt, (tt, (tt, ((m, refl, omega arith), (tt, (written_i, (tt, (written_j, (tt, (tt, (tt, ((m, refl, omega arith), (tt, (written_i, (tt, (written_j, (tt, ((1, refl, omega arith), (tt, (tt, (tt, ((m, refl, omega arith), (tt, (written_i, (tt, (written_j, (tt, ((m, refl, omega arith), (tt, (tt, (tt, ((5, refl, omega arith), (tt, (tt, (tt, (tt, (written_tile, ((1, refl, omega arith), ((8, refl, omega arith), (tt, (written_tile, ((2, refl, omega arith), ((8, refl, omega arith), (tt, tt)))))))))))))))))))))))))))))))))))))))))))))))))))))))))))))))))))))))))))))))))))))))))))))))
+  grid-written = (tt, (omega arith, (tt, (omega (arith, area), (tt, (omega arith, (omega (arith, area), (omega arith, (omega arith, (omega arith, (tt, (written_i, (tt, (omega arith, (tt, (omega arith, (tt, (tt, (written_j, (tt, (omega arith, (tt, (omega arith, (tt, (tt, (omega arith, (tt, (written_i, (tt, (written_j, (tt, (tt, (tt, (tt, (omega arith, (tt, (written_i, (tt, (written_j, (tt, (omega arith, (tt, (tt, (tt, (omega arith, (tt, (written_i, (tt, (written_j, (tt, (omega arith, (tt, (tt, (tt, (omega arith, (tt, (written_i, (tt, (written_j, (tt, (tt, (tt, (omega arith, (tt, (written_i, (tt, (written_j, (tt, (omega arith, (tt, (tt, (tt, (omega arith, (tt, (written_i, (tt, (written_j, (tt, (omega arith, (tt, (tt, (tt, (omega arith, (tt, (tt, (tt, (tt, (written_tile, (omega arith, (omega arith, (tt, (written_tile, (omega arith, (omega arith, (tt, tt)))))))))))))))))))))))))))))))))))))))))))))))))))))))))))))))))))))))))))))))))))))))))))))))
 
   grid-short : length (text_of grid_pieces) ≤ most_bytes
   unfolding piece_text token_text spelling name_text

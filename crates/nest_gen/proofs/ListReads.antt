@@ -19,7 +19,7 @@ use Rattle.nest_grammar.specs.Statements.{opening_of, statements, block}
 use Rattle.nest_grammar.specs.Loops.{loop_keyword, body_end, loops}
 use Rattle.nest_grammar.specs.Scripts.{word_spelling, word_of_name, command_word, row_begins, rows, operands, command, script, candidates}
 use Rattle.nest_grammar.specs.Contents.{reading}
-use Rattle.nest_grammar.specs.Grammar.{IsItems, IsItem, IsSigned}
+use Rattle.nest_grammar.specs.Grammar.{IsItems}
 use Rattle.nest_grammar.specs.Grammar as grammar
 use Rattle.canonical.specs.Pieces.{Piece, Space, plain, number, piece_text, token_text, text_of}
 use Rattle.canonical.specs.Layout.{words, AllWritten}
@@ -29,7 +29,8 @@ use Rattle.nest_gen.proofs.TextReads.{Parsed, sight, text-read, length-brief}
 use Rattle.nest_gen.specs.Texts.{shortcut, list_of}
 use Rattle.nest_tokens.specs.Lexing.{name_of}
 use Rattle.nest_gen.specs.Texts.{chain}
-use Rattle.nest_gen.proofs.TextReads.{is_brief, text_of-append}
+use Rattle.canonical.proofs.Texts.{text-append}
+use Rattle.nest_gen.proofs.TextReads.{is_brief}
 use Rattle.nest_gen.proofs.Items.{ramp-in, two_is_not_zero}
 
 -- each of these numbers is below n - 1
@@ -48,7 +49,7 @@ module _ (n : ℕ) (from : 2 ≤ n) (to : n ≤ 16384) where
   shortcuts-are : (nodes : List ℕ) → flat_map (shortcut n) nodes ≡ text_of (flat_map shortcut_pieces nodes)
   unfolding text_of
   shortcuts-are [] = refl
-  shortcuts-are (j ∷ js) = ap (λ t. t ++ flat_map (shortcut n) js) (shortcut-is j) ∙ ap (λ t. text_of (shortcut_pieces j) ++ t) (shortcuts-are js) ∙ sym (text_of-append (shortcut_pieces j) (flat_map shortcut_pieces js))
+  shortcuts-are (j ∷ js) = ap (λ t. t ++ flat_map (shortcut n) js) (shortcut-is j) ∙ ap (λ t. text_of (shortcut_pieces j) ++ t) (shortcuts-are js) ∙ sym (text-append (shortcut_pieces j) (flat_map shortcut_pieces js))
 
   abbrev head_pieces : List Piece
   head_pieces = plain mark.Nest ∷ Space ∷ number 1 ∷ Space ∷ plain mark.Scalar ∷ Space ∷ named_p ∷ Space ∷ plain mark.Assign ∷ Space ∷ number 2 ∷ Space ∷ plain mark.Memory ∷ Space ∷ number (4 * n) ∷ Space ∷ plain mark.Ramp ∷ Space ∷ number 2 ∷ Space ∷ number (n - 1) ∷ Space ∷ number 2 ∷ Space ∷ number 4 ∷ Space ∷ number 2 ∷ Space ∷ []
@@ -93,8 +94,8 @@ module _ (n : ℕ) (from : 2 ≤ n) (to : n ≤ 16384) where
       ap (λ t. t ++ (flat_map (shortcut n) nodes ++ codes "while [p] { [p + 1] = [p + 1] + 1 p = [p] }")) head-is
       ∙ ap (λ t. text_of head_pieces ++ (t ++ codes "while [p] { [p + 1] = [p + 1] + 1 p = [p] }")) (shortcuts-are nodes)
       ∙ ap (λ t. text_of head_pieces ++ (text_of rest ++ t)) tail-is
-      ∙ ap (λ t. text_of head_pieces ++ t) (sym (text_of-append rest tail_pieces))
-      ∙ sym (text_of-append head_pieces (rest ++ tail_pieces))
+      ∙ ap (λ t. text_of head_pieces ++ t) (sym (text-append rest tail_pieces))
+      ∙ sym (text-append head_pieces (rest ++ tail_pieces))
 
   nodes-laid : (nodes : List ℕ) → Laid Free (flat_map shortcut_pieces nodes ++ tail_pieces)
   unfolding is_sign with_equals
@@ -106,11 +107,11 @@ module _ (n : ℕ) (from : 2 ≤ n) (to : n ≤ 16384) where
   list-laid nodes = (tt, (tt, (tt, (tt, (tt, (tt, (tt, (tt, (tt, (tt, (tt, (tt, (tt, (tt, nodes-laid nodes))))))))))))))
 
   nodes-written : (nodes : List ℕ) → Below n nodes → AllWritten (flat_map shortcut_pieces nodes ++ tail_pieces)
-  nodes-written [] below = (tt, (tt, (written_p, (tt, (tt, (tt, (written_p, (tt, ((1, refl, omega arith), (tt, (tt, (tt, (written_p, (tt, ((1, refl, omega arith), (tt, (tt, ((1, refl, omega arith), (written_p, (tt, (tt, (written_p, (tt, (tt, tt))))))))))))))))))))))))
-  nodes-written (j ∷ js) (h, below) = (tt, ((2 * j, refl, omega (arith, h)), (tt, ((2 * n + 2 + 2 * j, refl, omega (arith, h)), (tt, ((2 * n + 2 + 2 * j, refl, omega (arith, h)), (tt, ((4 + 2 * j, refl, omega (arith, h)), nodes-written js below))))))))
+  nodes-written [] below = (tt, (tt, (written_p, (tt, (tt, (tt, (written_p, (tt, (omega arith, (tt, (tt, (tt, (written_p, (tt, (omega arith, (tt, (tt, (omega arith, (written_p, (tt, (tt, (written_p, (tt, (tt, tt))))))))))))))))))))))))
+  nodes-written (j ∷ js) (h, below) = (tt, (omega (arith, h), (tt, (omega (arith, h), (tt, (omega (arith, h), (tt, (omega (arith, h), nodes-written js below))))))))
 
   list-written : (nodes : List ℕ) → Below n nodes → AllWritten (list_pieces nodes)
-  list-written nodes below = (tt, ((1, refl, omega arith), (tt, (written_p, (tt, ((2, refl, omega arith), (tt, ((4 * n, refl, omega arith), (tt, ((2, refl, omega arith), ((n - 1, refl, omega arith), ((2, refl, omega arith), ((4, refl, omega arith), ((2, refl, omega arith), nodes-written nodes below))))))))))))))
+  list-written nodes below = (tt, (omega arith, (tt, (written_p, (tt, (omega arith, (tt, (omega arith, (tt, (omega arith, (omega arith, (omega arith, (omega arith, (omega arith, nodes-written nodes below))))))))))))))
 
   nodes-brief : (nodes : List ℕ) → list_all is_brief (flat_map shortcut_pieces nodes ++ tail_pieces) ≡ true
   unfolding piece_text token_text spelling name_text

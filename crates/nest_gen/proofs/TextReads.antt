@@ -1,11 +1,10 @@
 -- A text of pieces whose tokens can be followed is read.
-use Rattle.std.proofs.Common.{◌≡◌, ◌∙◌, ap, sym, subst, refl, ℕ, zero, suc, ◌*◌, ◌≤◌, ℤ, Bool, true, false, List, [], ◌∷◌, ◌++◌, length, Result, Ok, Err, nat_le, arith}
+use Rattle.std.proofs.Common.{◌≡◌, ◌∙◌, ap, sym, subst, refl, ℕ, zero, suc, ◌*◌, ◌≤◌, Bool, true, false, List, [], ◌∷◌, length, Result, Ok, Err, nat_le, arith}
 use Rattle.std.specs.List.{list_all}
-use Rattle.std.specs.Fmt.{signed_decimal}
+use Rattle.std.specs.Fmt.{decimal}
 use Rattle.std.proofs.lemmas.Bool.{leb-true, and_parts}
 use Rattle.std.proofs.lemmas.Fmt.{length-decimal-le}
 use Rattle.std.proofs.lemmas.List.{length-append}
-use Rattle.std.proofs.lemmas.Grind.{flat_map-append}
 use Rattle.nest_tokens.specs.declared.token.Mark.TheVariants as mark
 use Rattle.nest_tokens.specs.declared.token.Token.{Token}
 use Rattle.nest_tokens.specs.declared.token.Token.TheVariants as token
@@ -22,7 +21,7 @@ use Rattle.nest_grammar.specs.Names.{names_of}
 use Rattle.nest_grammar.specs.Loops.{Loops, loops}
 use Rattle.nest_grammar.specs.Scripts.{Script, candidates}
 use Rattle.nest_grammar.specs.Contents.{reading}
-use Rattle.nest_grammar.specs.Grammar.{SeesNumber, IsVersion, IsScalars, IsItems, IsUnits, Reads}
+use Rattle.nest_grammar.specs.Grammar.{SeesNumber, IsVersion, IsScalars, IsItems}
 use Rattle.nest_grammar.specs.Grammar as grammar
 use Rattle.grammar_laws.proofs.Loops.{loops-sound}
 use Rattle.grammar_laws.proofs.Scripts.{candidates-sound}
@@ -108,21 +107,17 @@ text-read ps laid written short parsed =
     let left : tokens text ≡ placed (at_of (tokens text)) (Rattle.canonical.specs.Layout.words ps) = spots-placed (tokens text) ∙ ap (placed (at_of (tokens text))) (pieces-read Free ps (length text) laid written) in
     parsed-read text short (subst (λ (l : List Spot). Parsed (record { left = l; size = length text; version = One; spent = 0; opened = 0; accesses = 0; lets = [] })) (sym left) (parsed (at_of (tokens text)) (length text)))
 
-pub text_of-append : (xs ys : List Piece) → text_of (xs ++ ys) ≡ text_of xs ++ text_of ys
-unfolding text_of
-text_of-append xs ys = flat_map-append piece_text xs ys
-
 -- a piece of at most 20 bytes, as every number is
 abbrev pub is_brief : Piece → Bool
 is_brief (Word (token.Number n)) = true
 is_brief p = nat_le (length (piece_text p)) 20
 
-number-brief : (z : ℤ) → IsWritten (token.Number z) → length (signed_decimal z) ≤ 20
-number-brief z (n, is, below) = subst (λ (y : ℤ). length (signed_decimal y) ≤ 20) (sym is) (length-decimal-le 20 n (omega arith) (omega (arith, below)) (omega (arith, below)))
+number-brief : (n : ℕ) → IsWritten (token.Number n) → length (decimal n) ≤ 20
+number-brief n below = length-decimal-le 20 n (omega arith) (omega (arith, below)) (omega (arith, below))
 
 word-brief : (t : Token) → is_brief (Word t) ≡ true → IsWritten t → length (piece_text (Word t)) ≤ 20
 unfolding piece_text token_text
-word-brief (token.Number z) h w = number-brief z w
+word-brief (token.Number n) h w = number-brief n w
 word-brief (token.Name n) h w = leb-true _ _ h
 word-brief (token.Plain m) h w = leb-true _ _ h
 word-brief (token.Bad b) h w = leb-true _ _ h

@@ -130,7 +130,7 @@ pub local-need : (m : Mark) → Local (need m)
 local-need m = (part-need m).local
 
 part-number_at : (rule : ℕ → Bool) (what : TextKind) (t : Token) → IsPart (number_at rule what t)
-part-number_at rule what (token.Number (pos n)) = waits (local-obeys (rule n) what) (still-obeys (rule n) what) (λ _. starts part-skipped (λ _. local-gives n))
+part-number_at rule what (token.Number n) = waits (local-obeys (rule n) what) (still-obeys (rule n) what) (λ _. starts part-skipped (λ _. local-gives n))
 part-number_at rule what _ = part-wrong
 
 pub part-number_where : (rule : ℕ → Bool) (what : TextKind) → IsPart (number_where rule what)
@@ -219,7 +219,7 @@ local-if_visible (Some p) = behind part-taken.local (λ _. local-gives (Var p))
 local-if_visible None = local-refused kind.Unknown
 
 local-operand : (names : Names) (u e : Reading Expr) → Local u → Local e → (st : Start) → Local (operand names u e st)
-local-operand names u e hu he (start.Number n) = behind part-taken.local (λ _. local-gives (Number n))
+local-operand names u e hu he (start.Number n) = behind part-taken.local (λ _. local-gives (Number (pos n)))
 local-operand names u e hu he (start.Name n) = local-if_visible (place_of names n)
 local-operand names u e hu he start.Minus = behind hu (λ a. local-gives (Neg a))
 local-operand names u e hu he start.Open = behind he (λ a. behind (local-closed mark.Close) (λ _. local-gives a))
@@ -431,7 +431,7 @@ local-choice true p q hp hq = hp
 local-choice false p q hp hq = hq
 
 local-version_at : (t : Token) → Local (version_at t)
-local-version_at (token.Number (pos n)) = local-choice (n == 1) (set_version One) (if n == 2 then set_version SecondVersion else refused kind.Version) (local-set_version One) (local-choice (n == 2) (set_version SecondVersion) (refused kind.Version) (local-set_version SecondVersion) (local-refused kind.Version))
+local-version_at (token.Number n) = local-choice (n == 1) (set_version One) (if n == 2 then set_version SecondVersion else refused kind.Version) (local-set_version One) (local-choice (n == 2) (set_version SecondVersion) (refused kind.Version) (local-set_version SecondVersion) (local-refused kind.Version))
 local-version_at _ = local-wrong
 
 pub local-version : Local version

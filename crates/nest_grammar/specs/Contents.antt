@@ -1,6 +1,6 @@
 -- Contents: scalars, the memory and its items, nests and whole files, each production as a reading. The
 -- reading of a text is its file, or its first fault.
-use Rattle.std.specs.Prelude.{ℕ, zero, suc, ◌+◌, ◌*◌, ℤ, ◌+ℤ◌, ◌*ℤ◌, pos, negsuc, List, [], ◌∷◌, ◌++◌, length, Option, Some, None, Result, Ok, Err, Bool, true, false, not, ◌&&◌, ◌==◌, nat_le, nat_lt, if◌then◌else◌}
+use Rattle.std.specs.Prelude.{ℕ, zero, suc, ◌+◌, ◌*◌, ℤ, ◌+ℤ◌, ◌*ℤ◌, pos, List, [], ◌∷◌, ◌++◌, length, Option, Some, None, Result, Ok, Err, Bool, true, false, not, ◌&&◌, ◌==◌, nat_le, nat_lt, if◌then◌else◌}
 use Rattle.nest_lang.specs.Values.{is_i64}
 use Rattle.nest_tokens.specs.declared.token.Mark.TheVariants as mark
 use Rattle.nest_tokens.specs.declared.token.Token.{Token}
@@ -28,7 +28,7 @@ abbrev pub set_version : Version → Reading Version
 set_version v s = Ok (v, of_version v (skip s))
 
 abbrev pub version_at : Token → Reading Version
-version_at (token.Number (pos n)) = if n == 1 then set_version One else (if n == 2 then set_version Two else refused kind.Version)
+version_at (token.Number n) = if n == 1 then set_version One else (if n == 2 then set_version Two else refused kind.Version)
 version_at _ = wrong
 
 -- "nest" and the number of the version

@@ -1,5 +1,5 @@
 -- Expressions: each production as a reading.
-use Rattle.std.specs.Prelude.{ℕ, zero, suc, ◌+◌, Option, Some, None, Ok, if◌then◌else◌, nat_lt}
+use Rattle.std.specs.Prelude.{ℕ, zero, suc, ◌+◌, pos, Option, Some, None, Ok, if◌then◌else◌, nat_lt}
 use Rattle.nest_lang.specs.declared.tree.Place.{Place}
 use Rattle.nest_lang.specs.declared.tree.Op.{Op}
 use Rattle.nest_lang.specs.declared.tree.Op.TheVariants as op
@@ -70,7 +70,7 @@ if_visible None = refused kind.Unknown
 
 -- "-" unary | number | name | "[" expr "]" | "(" expr ")", with what stands one deeper
 abbrev pub operand : Names → Reading Expr → Reading Expr → Start → Reading Expr
-operand names unary expr (start.Number n) = taken >>= λ _. gives (Number n)
+operand names unary expr (start.Number n) = taken >>= λ _. gives (Number (pos n))
 operand names unary expr (start.Name n) = if_visible (place_of names n)
 operand names unary expr start.Minus = unary >>= λ e. gives (Neg e)
 operand names unary expr start.Open = expr >>= λ e. closed mark.Close >>= λ _. gives e

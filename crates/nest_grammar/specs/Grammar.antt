@@ -44,7 +44,7 @@ AccessRoom s = s.opened < most_accesses s.version
 
 -- a number stands here
 abbrev pub SeesNumber : ℕ → Sight → Type 0
-SeesNumber n s = stands s ≡ token.Number (pos n)
+SeesNumber n s = stands s ≡ token.Number n
 
 -- a name stands here
 abbrev pub SeesName : Name → Sight → Type 0
@@ -58,7 +58,7 @@ pub data Precedence : Type 0 where
 -- and d more brackets, parentheses and prefix signs may be open at once. A load is numbered behind the
 -- loads of its address.
 pub data Is (names : Names) : Precedence → ℕ → Sight → Expr → Sight → Type 0 where
-  number : {d : ℕ} {n : ℤ} {s : Sight} → stands s ≡ token.Number n → Room s → Is names Unary d s (Number n) (spend s)
+  number : {d n : ℕ} {s : Sight} → SeesNumber n s → Room s → Is names Unary d s (Number (pos n)) (spend s)
   variable : {d : ℕ} {n : Name} {p : Place} {s : Sight} → SeesName n s → place_of names n ≡ Some p → Room s → Is names Unary d s (Var p) (spend s)
   minus : {d : ℕ} {e : Expr} {s t : Sight} → Sees mark.Minus s → Room s → Is names Unary d (spend s) e t → Is names Unary (suc d) s (Neg e) t
   parens : {d : ℕ} {e : Expr} {s t : Sight} → Sees mark.Open s → Room s → Is names Whole d (spend s) e t → Sees mark.Close t → Room t → Is names Unary (suc d) s e (spend t)

@@ -58,7 +58,7 @@ abbrev pub fewer : ℕ → ℕ → Reading (Unit {0})
 fewer used most = obeys (nat_lt used most) kind.Many
 
 abbrev pub number_at : (ℕ → Bool) → TextKind → Token → Reading ℕ
-number_at rule what (token.Number (pos n)) = obeys (rule n) what >>= λ _. skipped >>= λ _. gives n
+number_at rule what (token.Number n) = obeys (rule n) what >>= λ _. skipped >>= λ _. gives n
 number_at rule what _ = wrong
 
 -- a number that keeps a rule

@@ -5,7 +5,7 @@ use nest_tokens::Name;
 /// How an operand begins.
 #[derive(Clone, Copy, Debug, PartialEq, Eq)]
 pub enum Start {
-    Number(i64),
+    Number(u64),
     Name(Name),
     Minus,
     Open,

@@ -1,5 +1,5 @@
 -- Steps: productions in the words of the reader.
-use Rattle.std.proofs.Common.{◌≡◌, ℕ, zero, suc, ◌+◌, ◌<◌, ◌≤◌, ℤ, pos, negsuc, List, ◌++◌, length, drop, replicate, ◌-◌, refl, sym, ◌∙◌, ap, arith, Option, Some, None, Result, Ok, Err, Bool, true, false, nat_le, not, ◌==◌, if◌then◌else◌}
+use Rattle.std.proofs.Common.{◌≡◌, ℕ, zero, suc, ◌+◌, ◌^◌, ◌<◌, ◌≤◌, ℤ, List, ◌++◌, length, drop, replicate, ◌-◌, refl, sym, ◌∙◌, ap, subst, arith, Option, Some, None, Result, Ok, Err, Bool, true, false, nat_le, not, ◌==◌, if◌then◌else◌}
 use Rattle.std.proofs.lemmas.List.{drop-replicate}
 use Rattle.nest_lang.specs.declared.tree.Place.{Place}
 use Rattle.nest_lang.specs.declared.tree.Expr.{Expr}
@@ -8,6 +8,7 @@ use Rattle.nest_tokens.specs.declared.token.Name.{Name}
 use Rattle.nest_tokens.specs.declared.token.Token.{Token}
 use Rattle.nest_tokens.specs.declared.token.Token.TheVariants as token
 use Rattle.nest_tokens.specs.declared.token.Mark.TheVariants as mark
+use Rattle.nest_tokens.specs.Lexing.{FitsI64}
 use Rattle.nest_grammar.specs.declared.fault.TextFault.{TextFault}
 use Rattle.nest_grammar.specs.declared.fault.TextKind.{TextKind}
 use Rattle.nest_grammar.specs.declared.fault.TextKind.TheVariants as kind
@@ -41,8 +42,7 @@ number_by rule what (Some n) = passed (rule n) what >>= λ _. gives n
 
 number_at-is : (rule : ℕ → Bool) (what : TextKind) (t : Token) (s : Sight) → number_at rule what t s ≡ number_by rule what (number_of t) s
 unfolding number_of obeys refused skip
-number_at-is rule what (token.Number (pos n)) s = elim (rule n) as (λ b. (obeys b what >>= λ _. skipped >>= λ _. gives n) s ≡ (passed b what >>= λ _. gives n) s) [ true ↦ refl | false ↦ refl ]
-number_at-is rule what (token.Number (negsuc n)) s = refl
+number_at-is rule what (token.Number n) s = elim (rule n) as (λ b. (obeys b what >>= λ _. skipped >>= λ _. gives n) s ≡ (passed b what >>= λ _. gives n) s) [ true ↦ refl | false ↦ refl ]
 number_at-is rule what _ s = refl
 
 pub number-is : (rule : ℕ → Bool) (what : TextKind) (s : Sight) → number_where rule what s ≡ number_by rule what (number_of (stands s)) s
@@ -186,6 +186,15 @@ unary-is names (suc d) s = operand-same names (taken >>= λ _. unary names d) (e
 
 pub ruleset units = (unary-is)
 
+-- an operand's number is one of the text
+pub start-fits : (t : Token) (n : ℕ) → start_of t ≡ start.Number n → FitsI64 t → n < 2 ^ 63
+unfolding start_of
+start-fits (token.Number m) n e h = let q : m ≡ n = cc in subst (λ (k : ℕ). k < 2 ^ 63) q h
+start-fits (token.Plain mark.Minus) n e h = absurd (cc)
+start-fits (token.Plain mark.Open) n e h = absurd (cc)
+start-fits (token.Plain mark.OpenBracket) n e h = absurd (cc)
+start-fits _ n e h = absurd (cc)
+
 -- Statements
 
 within-ok : (d : ℕ) (names : Names) (s : Sight) → choice d names s ≡ (within d >>= λ k. branches names (statements k names)) s
@@ -259,8 +268,7 @@ version_by (Some n) = if n == 1 then set_version One else (if n == 2 then set_ve
 
 version_at-is : (t : Token) (s : Sight) → version_at t s ≡ version_by (number_of t) s
 unfolding number_of version_by
-version_at-is (token.Number (pos n)) s = refl
-version_at-is (token.Number (negsuc n)) s = refl
+version_at-is (token.Number n) s = refl
 version_at-is _ s = refl
 
 said : Option Version → Reading Version

@@ -1,5 +1,5 @@
 -- Answers of the reader.
-use Rattle.std.specs.Prelude.{◌≡◌, ℕ, pos, Result, Ok, Err, Option, Some, None, Bool}
+use Rattle.std.specs.Prelude.{◌≡◌, ℕ, Result, Ok, Err, Option, Some, None, Bool}
 use Rattle.nest_tokens.specs.declared.token.Token.{Token}
 use Rattle.nest_tokens.specs.declared.token.Token.TheVariants as token
 use Rattle.nest_grammar.specs.declared.fault.TextFault.{TextFault}
@@ -27,7 +27,7 @@ passed rule what = obeys rule what >>= λ _. skipped
 
 -- the number that a token is
 unfoldable pub number_of : Token → Option ℕ
-number_of (token.Number (pos n)) = Some n
+number_of (token.Number n) = Some n
 number_of _ = None
 
 -- the number that stands here, or that none does

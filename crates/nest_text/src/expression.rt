@@ -8,7 +8,7 @@ ghost use Rattle.nest_text.specs.Answers.{Gives};
 ghost use Rattle.nest_text.specs.Parts.{load};
 
 use crate::limits::{MOST_OPEN, MOST_TOKENS, most_accesses};
-use crate::reader::Reader;
+use crate::reader::{Reader, value_of};
 use crate::refusal::ReadRefusal;
 use crate::visible::place_of;
 use nest_grammar::{Declared, Start, TextKind};
@@ -180,7 +180,7 @@ impl<'a> Reader<'a> {
         match start_of(self.token()) {
             Start::Number(number) => {
                 self.take()?;
-                Ok(Expr::Number(number))
+                Ok(Expr::Number(value_of(number)))
             }
             Start::Name(name) => self.variable(names, name),
             Start::Minus => {

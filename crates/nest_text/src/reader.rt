@@ -1,6 +1,7 @@
 //! What is still to be read of a text, and the steps that every production takes.
 
-ghost use Rattle.std.specs.Prelude.{◌≡◌, ◌<◌, ◌^◌, length, IfOk, OnOk, IfSome, Ok, true};
+ghost use Rattle.std.specs.Prelude.{◌≡◌, ◌<◌, ◌^◌, pos, length, IfOk, OnOk, IfSome, Ok, true};
+ghost use Rattle.nest_tokens.specs.Lexing.{FitsI64};
 ghost use Rattle.nest_grammar.specs.Sights.{Sight, here, stands, skip, start, in_block, of_version};
 ghost use Rattle.nest_grammar.specs.Readings.{unexpected, need, obeys, number, minus, with_sign, signed, end};
 ghost use Rattle.nest_text.specs.Answers.{Gives, passed, number_of, NumberHere};
@@ -52,30 +53,33 @@ fn unexpected_token(token: Token) -> TextKind
 /// The number that this token is.
 #[tactic(auto, unfolding(crate::specs::Answers::number_of))]
 fn number_of(token: Token) -> Option<u64>
+    requires { FitsI64 token }
     ensures value { result ≡ number_of token }
     ensures fits { IfSome result (λ n. n < 2 ^ 63) }
 {
     match token {
-        Token::Number(number) => {
-            if number < 0 {
-                None
-            } else {
-                Some(number as u64)
-            }
-        }
+        Token::Number(number) => Some(number),
         _ => None,
     }
 }
 
-/// A number with or without a `-` before it.
+/// The value of a number.
+pub fn value_of(number: u64) -> i64
+    requires { number < 2 ^ 63 }
+    ensures { result ≡ pos number }
+{
+    number as i64
+}
+
+/// The value of a number with or without a `-` before it.
 pub fn signed_value(negative: bool, number: u64) -> i64
     requires { number < 2 ^ 63 }
     ensures { result ≡ with_sign negative number }
 {
     if negative {
-        -(number as i64)
+        -value_of(number)
     } else {
-        number as i64
+        value_of(number)
     }
 }
 
@@ -98,7 +102,8 @@ impl<'a> Reader<'a> {
     /// The token here.
     #[tactic(auto, unfolding(nest_tokens::specs::Ahead::here, nest_grammar::specs::Sights::here))]
     pub fn token(&self) -> Token
-        ensures { result ≡ stands self.now }
+        ensures value { result ≡ stands self.now }
+        ensures fits { FitsI64 result }
     {
         self.cursor.token()
     }

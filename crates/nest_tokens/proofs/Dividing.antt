@@ -6,7 +6,7 @@ use Rattle.nest_tokens.specs.declared.token.Mark.{Mark}
 use Rattle.nest_tokens.specs.declared.token.Spot.{Spot}
 use Rattle.nest_tokens.specs.Tokens.{spelling, sign_at}
 use Rattle.nest_tokens.specs.Lexing.{is_letter, is_digit, is_name_byte, is_blank, between, gap, Lexed, lexed, spelled_by, sign_or_byte, named, numbered, spots, spots_at, tokens_from}
-use Rattle.nest_tokens.specs.Division.{Gap, none, blank, opens, inside, closes, Begins, Stops, AllPass, IsSign, StandsAt, Spells, name, number, sign, bad_byte, Divides, ends, goes_on, TokensDivide}
+use Rattle.nest_tokens.specs.Division.{Gap, none, blank, opens, inside, closes, Begins, Stops, AllPass, StandsAt, Spells, name, number, sign, bad_byte, Divides, ends, goes_on, TokensDivide}
 use Rattle.nest_tokens.proofs.Places.{gap-stays, letter-named, lexed-moves, gap-no_longer, spelling-moves}
 use Rattle.nest_tokens.proofs.SignLaws.{found_len, sign_at-sign, sign_at-longest}
 use Rattle.nest_tokens.proofs.Names.{sign-begins}

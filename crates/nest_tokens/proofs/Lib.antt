@@ -2,6 +2,7 @@ pub mod Marks
 pub mod Numbers
 pub mod Gaps
 pub mod Names
+pub mod FitLaws
 pub mod Places
 pub mod Computed
 pub mod Dividing

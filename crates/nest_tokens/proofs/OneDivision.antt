@@ -1,15 +1,14 @@
 -- Whatever divides a text is its tokens.
-use Rattle.std.proofs.Common.{◌≡◌, ℕ, suc, ◌-◌, ◌≤◌, ◌<◌, List, [], ◌∷◌, ◌++◌, length, take, drop, Bool, true, false, cond, refl, sym, ◌∙◌, ap, arith, subst, Option, Some, None, inl, inr, ◌==◌}
+use Rattle.std.proofs.Common.{◌≡◌, ℕ, ◌-◌, ◌≤◌, List, [], ◌∷◌, ◌++◌, length, take, drop, Bool, true, false, refl, sym, ◌∙◌, ap, arith, subst, Option, Some, None, inl, inr, ◌==◌}
 use Rattle.std.specs.Prelude.{◌&&◌, not}
 use Rattle.std.proofs.lemmas.Bool.{and_parts, not-true}
 use Rattle.std.proofs.lemmas.List.{take-append-drop}
 use Rattle.nest_tokens.specs.declared.token.Mark.{Mark}
 use Rattle.nest_tokens.specs.declared.token.Token.{Token}
 use Rattle.nest_tokens.specs.declared.token.Token.TheVariants as token
-use Rattle.nest_tokens.specs.declared.token.BadToken.TheVariants as bad
 use Rattle.nest_tokens.specs.declared.token.Spot.{Spot}
 use Rattle.nest_tokens.specs.Tokens.{spelling, sign_at, signs}
-use Rattle.nest_tokens.specs.Lexing.{is_letter, is_digit, is_blank, between, gap, lexed, sign_or_byte, tokens_from, tokens}
+use Rattle.nest_tokens.specs.Lexing.{is_letter, is_digit, is_blank, between, gap, lexed, sign_or_byte, tokens_from}
 use Rattle.nest_tokens.specs.Division.{Gap, none, blank, opens, inside, closes, IsOneOf, IsSign, StandsAt, Spells, name, number, sign, bad_byte, Divides, ends, goes_on, OneDivision}
 use Rattle.nest_tokens.proofs.Marks.{same-mark}
 use Rattle.nest_tokens.proofs.Names.{sign-begins}

@@ -1,5 +1,5 @@
 -- Lexing: what separates tokens, and the tokens of a text, each with its place.
-use Rattle.std.specs.Prelude.{ℕ, zero, suc, ◌+◌, ◌-◌, ◌*◌, ◌^◌, pos, List, [], ◌∷◌, ◌++◌, length, take, drop, replicate, Bool, true, false, not, Option, Some, None, ◌==◌, nat_le, nat_lt, ◌&&◌, ◌||◌, if◌then◌else◌}
+use Rattle.std.specs.Prelude.{ℕ, zero, suc, ◌+◌, ◌-◌, ◌*◌, ◌^◌, ◌<◌, List, [], ◌∷◌, ◌++◌, length, take, drop, replicate, Bool, true, false, not, Option, Some, None, ◌==◌, nat_le, nat_lt, ◌&&◌, ◌||◌, if◌then◌else◌}
 use Rattle.std.specs.List.{prefix_len}
 use Rattle.nest_tokens.specs.declared.token.Name.{Name}
 use Rattle.nest_tokens.specs.declared.token.Mark.{Mark}
@@ -53,7 +53,12 @@ below limit n = if nat_lt n limit then Some n else None
 
 -- a run of digits: a number, where its value is at most 2^63 - 1
 unfoldable pub numbered : List ℕ → Token
-numbered ds = if nat_lt (decimal ds) (2 ^ 63) then token.Number (pos (decimal ds)) else token.Bad bad.Number
+numbered ds = if nat_lt (decimal ds) (2 ^ 63) then token.Number (decimal ds) else token.Bad bad.Number
+
+-- a number is at most 2^63 - 1
+abbrev pub FitsI64 : Token → Type 0
+FitsI64 (token.Number n) = n < 2 ^ 63
+FitsI64 _ = Unit {0}
 
 -- a name of at most 32 bytes, kept with zeros behind it
 abbrev pub name_of : List ℕ → Name

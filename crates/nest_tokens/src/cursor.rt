@@ -2,7 +2,7 @@
 
 ghost use Rattle.std.specs.Prelude.{◌≡◌, ◌≤◌, length, drop};
 ghost use Rattle.nest_tokens.specs.Ahead.{Ahead, here, stands, past, whole};
-ghost use Rattle.nest_tokens.specs.Lexing.{tokens_from};
+ghost use Rattle.nest_tokens.specs.Lexing.{FitsI64, tokens_from};
 
 use crate::lexer::{gap_end, lex};
 use crate::token::{Spot, Token};
@@ -57,7 +57,8 @@ impl<'a> Cursor<'a> {
     /// The token here and the offset of its first byte; at the end that is the length of the text.
     #[tactic(auto, unfolding(crate::specs::Ahead::here), using(crate::proofs::Places::places))]
     pub fn spot(&self) -> Spot
-        ensures { result ≡ here self.now }
+        ensures value { result ≡ here self.now }
+        ensures fits { FitsI64 result.token }
     {
         Spot {
             at: self.at,
@@ -67,7 +68,8 @@ impl<'a> Cursor<'a> {
 
     /// The token here.
     pub fn token(&self) -> Token
-        ensures { result ≡ stands self.now }
+        ensures value { result ≡ stands self.now }
+        ensures fits { FitsI64 result }
     {
         self.spot().token
     }

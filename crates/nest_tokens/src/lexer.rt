@@ -96,7 +96,7 @@ fn number(digits: &[u8]) -> Token
     ensures { result ≡ numbered digits.now }
 {
     match value_of(digits) {
-        Some(value) if value <= i64::MAX as u64 => Token::Number(value as i64),
+        Some(value) if value <= i64::MAX as u64 => Token::Number(value),
         _ => Token::Bad(BadToken::Number),
     }
 }

@@ -62,11 +62,11 @@ pub enum BadToken {
     Name,
 }
 
-/// A token of a text. The end of the text is one too.
+/// A token of a text. A number is at most 9223372036854775807. The end of the text is a token too.
 #[derive(Clone, Copy, Debug, PartialEq, Eq)]
 pub enum Token {
     Name(Name),
-    Number(i64),
+    Number(u64),
     Plain(Mark),
     Bad(BadToken),
     End,

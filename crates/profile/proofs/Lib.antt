@@ -2,10 +2,14 @@ pub mod EndLaws
 pub mod ExampleLaws
 pub mod FitLaws
 pub mod FitParts
+pub mod FormReach
 pub mod GatherLaws
 pub mod LogLaws
+pub mod NumberLaws
 pub mod OneFitLaws
 pub mod OneUnfitLaws
+pub mod ReachLaws
 pub mod SamplerLaws
 pub mod SomeFitLaws
+pub mod TripLaws
 pub mod WholeLaws

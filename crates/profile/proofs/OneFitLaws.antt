@@ -83,7 +83,7 @@ accesses-same s r (Some x) (Some y) low high less more same e f g =
     let highs : high ≡ more = ap (λ (t : Tube). t.high) tubes in
     cc
 
-inner-head : (h : LoopHead) (level : ℕ) → 2 ≤ level → IsPresentHead h level
+pub inner-head : (h : LoopHead) (level : ℕ) → 2 ≤ level → IsPresentHead h level
 inner-head (head.For lower upper stride) level h = h
 inner-head (head.While condition) level h = omega arith
 
@@ -161,7 +161,7 @@ module _ (D scalars : ℕ) (loops : List Loop) (observations : List Observation)
         ∙ ap (λ (zs : List (Option Affine)). block_with b.part b.level zs a.accesses) scalar-forms ∙ ap (λ (zs : List Access). block_with b.part b.level b.scalars zs) access-forms
 
   -- ---- loops
-  deep : (x : Table) → IsFitOf D scalars loops observations x → length x.levels ≡ length loops
+  pub deep : (x : Table) → IsFitOf D scalars loops observations x → length x.levels ≡ length loops
   deep x of = sym (length-map x.levels (λ (y : Level). y.kind)) ∙ ap (λ (xs : List LoopKind). length xs) of.shape.levels ∙ length-map loops (λ (y : Loop). kind_of y.head)
 
   module _ (j : ℕ) (within : suc j < length loops) (rank : ℕ) (e : slice_get (present_blocks loops) rank ≡ Some (block_ref Head (suc (suc j)))) where
@@ -177,10 +177,10 @@ module _ (D scalars : ℕ) (loops : List Loop) (observations : List Observation)
     has-lower : Contains (data_of scalars loops block) Lower
     has-lower = Contains-append_right front (bounds_of Head (suc (suc j))) Lower (subst (λ (ws : List What). Contains ws Lower) (sym bounds-are) (0, omega arith, refl))
 
-    has-trip : Contains (data_of scalars loops block) Trip
+    pub has-trip : Contains (data_of scalars loops block) Trip
     has-trip = Contains-append_right front (bounds_of Head (suc (suc j))) Trip (subst (λ (ws : List What). Contains ws Trip) (sym bounds-are) (1, omega arith, refl))
 
-    own : (x : Table) → IsFitOf D scalars loops observations x → head_level x (block_at x rank) ≡ Some (level_at x (suc j))
+    pub own : (x : Table) → IsFitOf D scalars loops observations x → head_level x (block_at x rank) ≡ Some (level_at x (suc j))
     own x of =
         let is = of.shape.each rank block e in
         ap (λ (z : Part). head_level_by z (loop_of x (block_at x rank).level)) is.part ∙ ap (loop_of x) is.level ∙ slice_get-get_or x.levels (suc j) no_level (let c = deep x of in omega (arith, c, within))

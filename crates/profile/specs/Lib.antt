@@ -6,4 +6,5 @@ pub mod Keeping
 pub mod Laws
 pub mod Logs
 pub mod Parts
+pub mod Reach
 pub mod Sampled

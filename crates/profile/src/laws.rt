@@ -1,6 +1,7 @@
 //! Laws: functions that do nothing, each with a law of the definitions as its contract.
 
 ghost use Rattle.profile.specs.Laws.{FitOrFirstUnfit, FitOrUnfit, FormIsOnlyAffine, OneFirstUnfit, OneFit, SamplesLieInTubes};
+ghost use Rattle.profile.specs.Reach.{FormsStayWithinReach, TripsStayWithinReach};
 ghost use Rattle.profile.specs.Sampled.{SamplerKeepsAll};
 
 /// A sampler that was shown a list of things, one after another, keeps the observations among them, in order, or was
@@ -38,4 +39,14 @@ pub fn samples_lie_in_tubes()
 /// the only affine function through its samples.
 pub fn form_is_only_affine()
     ensures { FormIsOnlyAffine }
+{}
+
+/// Each trip that is seen in a run whose numbers are i64s stays within reach: the stride times it is at most 2^65.
+pub fn trips_stay_within_reach()
+    ensures { TripsStayWithinReach }
+{}
+
+/// Where the trips that were seen stay within reach, so do the forms of a fit: `fit` finds no form beyond it.
+pub fn forms_stay_within_reach()
+    ensures { FormsStayWithinReach }
 {}

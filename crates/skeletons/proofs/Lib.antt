@@ -5,3 +5,5 @@ pub mod BoxLaws
 pub mod FrameLaws
 pub mod ListLaws
 pub mod SkeletonLaws
+pub mod RunListLaws
+pub mod CellListLaws

@@ -56,17 +56,17 @@ use Rattle.skeletons.proofs.BoxLaws.{in_box-at, in_box-from, length-place, withi
 both : (a b : Bool) → a ≡ true → b ≡ true → (a && b) ≡ true
 both a b e f = rw (e, f) refl
 
-has_map : {X Y : Type 0} (f : X → Y) (xs : List X) (x : X) → Has xs x → Has (map f xs) (f x)
+pub has_map : {X Y : Type 0} (f : X → Y) (xs : List X) (x : X) → Has xs x → Has (map f xs) (f x)
 has_map f [] x h = absurd h
 has_map f (y ∷ ys) x (inl e) = inl (ap f e)
 has_map f (y ∷ ys) x (inr h) = inr (has_map f ys x h)
 
-map_has : {X Y : Type 0} (f : X → Y) (xs : List X) (z : Y) → Has (map f xs) z → (x : X) × Has xs x × (z ≡ f x)
+pub map_has : {X Y : Type 0} (f : X → Y) (xs : List X) (z : Y) → Has (map f xs) z → (x : X) × Has xs x × (z ≡ f x)
 map_has f [] z h = absurd h
 map_has f (y ∷ ys) z (inl e) = (y, inl refl, e)
 map_has f (y ∷ ys) z (inr h) = let (x, k, e) = map_has f ys z h in (x, inr k, e)
 
-ordered_map : {X Y : Type 0} (f : X → Y) (R : X → X → Type 0) (S : Y → Y → Type 0) (xs : List X) → ((a b : X) → Has xs a → Has xs b → R a b → S (f a) (f b)) → Ordered R xs → Ordered S (map f xs)
+pub ordered_map : {X Y : Type 0} (f : X → Y) (R : X → X → Type 0) (S : Y → Y → Type 0) (xs : List X) → ((a b : X) → Has xs a → Has xs b → R a b → S (f a) (f b)) → Ordered R xs → Ordered S (map f xs)
 ordered_map f R S [] h o = tt
 ordered_map {X} {Y} f R S (x ∷ xs) h o = (
   all_from (S (f x)) (map f xs) (λ z k. let (y, there, e) = map_has f xs z k in subst (S (f x)) (sym e) (h x y (inl refl) (inr there) (all_has (R x) xs y o.0 there))),
@@ -145,10 +145,10 @@ has-listed lows highs (p ∷ ps) z h i = by (in_box lows highs p.items) refl h (
     by false e (inr k) more = more k
 
 module _ (n : ℕ) (e : Extent) (inverse : List (List ℤ)) (blocks : List BlockScan) (is : IsFrame n e inverse blocks) (lows highs : List ℤ) (box : IsBox n lows highs) where
-  place-long : (rank : ℕ) (z : List ℤ) → IsPlaceOf e rank z → length z ≡ n
+  pub place-long : (rank : ℕ) (z : List ℤ) → IsPlaceOf e rank z → length z ≡ n
   place-long rank z p = ap length (sym p.there) ∙ length-place n e.schedule is.schedule (padded e.table p.at)
 
-  points-of : (rank : ℕ) (b : BlockScan) → Finds n e rank b → IsBlock n b → (z : List ℤ) → Has (points_in lows highs b) z ↔ (IsPlaceOf e rank z × (in_box lows highs z ≡ true))
+  pub points-of : (rank : ℕ) (b : BlockScan) → Finds n e rank b → IsBlock n b → (z : List ℤ) → Has (points_in lows highs b) z ↔ (IsPlaceOf e rank z × (in_box lows highs z ≡ true))
   points-of rank (Scanned b) finds block z = (
     λ h.
         let point = (lists.same z).0 h in
@@ -222,7 +222,7 @@ module _ (n : ℕ) (e : Extent) (inverse : List (List ℤ)) (blocks : List Block
       (λ i. cut-after c (padded e.table x) k i ∙ sym (p.is.rest k i))
       (cases_lt k c))
 
-  instance-is : (best : Best) (p : IsPlaceOf e best.rank best.point.items) → instance_at e inverse best ≡ p.at
+  pub instance-is : (best : Best) (p : IsPlaceOf e best.rank best.point.items) → instance_at e inverse best ≡ p.at
   instance-is best p = ap₂ instance (sym p.block) (
       ap₂ (λ (r : ℕ) (q : List ℤ). cut (counters e.table (block_at e.table r)) q) (sym p.block)
       (ap (product inverse) (sym p.there) ∙ is.there (padded e.table p.at) (length-padded e.table p.at ∙ is.table.deep))

@@ -6,3 +6,5 @@ pub mod Blocks
 pub mod Scans
 pub mod Boxes
 pub mod Frames
+pub mod RunLists
+pub mod CellLists

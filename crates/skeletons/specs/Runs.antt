@@ -57,3 +57,9 @@ RunComes e r q = slice_cmp int_cmp (run_key e r) (run_key e q) ≡ Less
 pub record AreRunsOf (e : Extent) (direction : List ℤ) (cell : Cell) (runs : List Run) : Type 0 where
   pub ordered : Ordered (RunComes e) runs
   pub has : (r : Run) → Has runs r ↔ IsRun e direction cell r
+
+-- exactly the runs of the cell in the last direction of the schedule, which is the only one that its matrix maps so
+pub record HasRuns (n : ℕ) (e : Extent) (cell : Cell) (list : List Run) : Type 0 where
+  pub direction : List ℤ
+  pub last : IsDirection n e.schedule direction
+  pub runs : AreRunsOf e direction cell list

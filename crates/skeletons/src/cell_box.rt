@@ -31,7 +31,7 @@ fn lead_range(lead: i64, tile: i64) -> (i64, i64)
 }
 
 /// The first and the last number of a tile.
-fn tile_ends(tile: i64, size: u32) -> (i128, i128)
+pub(crate) fn tile_ends(tile: i64, size: u32) -> (i128, i128)
     requires { size ≤ 65536 }
     ensures first { result.0 ≡ pos size *ℤ tile }
     ensures last { result.1 ≡ (pos size *ℤ tile +ℤ pos size) -ℤ pos 1 }

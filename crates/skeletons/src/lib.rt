@@ -10,9 +10,11 @@
 mod block;
 mod cell;
 mod cell_box;
+mod cell_list;
 mod frame;
 mod inverse;
 mod places;
+mod run_list;
 mod side;
 mod skeleton;
 mod tile_walk;

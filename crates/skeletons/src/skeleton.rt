@@ -1,12 +1,16 @@
 //! The skeleton of a chunk.
 
 ghost use Rattle.std.specs.Prelude.{◌≡◌, ◌<◌, ◌≤◌, IfOk};
-ghost use Rattle.skeletons.specs.Cells.{IsLaunch};
+ghost use Rattle.skeletons.specs.Cells.{AreCellsOf, IsLaunch};
 ghost use Rattle.skeletons.specs.Frames.{IsFrame};
+ghost use Rattle.skeletons.specs.Runs.{HasRuns};
 
 use crate::block::{Scope, block_scan};
+use crate::cell::{Cell, Run};
+use crate::cell_list::cells_of;
 use crate::frame::Frame;
 use crate::inverse::transposed;
+use crate::run_list::runs_in;
 use domain::{Chunk, Prediction};
 use std::alloc::{AllocError, Global};
 use std::marker::Model;
@@ -64,6 +68,21 @@ impl<'a, const D: usize> Skeleton<'a, D> {
                 blocks,
             },
         })
+    }
+
+    /// The cells that have an instance, by phase key and then by tile, and so each once.
+    pub fn cells(&self, alloc: Global) -> Result<Vec<Cell<D>>, AllocError>
+        ensures { IfOk result (λ cells. AreCellsOf self.now cells.items) }
+    {
+        cells_of(alloc, self.frame())
+    }
+
+    /// The runs of a cell, by the rank of the block and then by the place of the first instance. A cell without
+    /// instances has none.
+    pub fn runs(&self, alloc: Global, cell: &Cell<D>) -> Result<Vec<Run<D>>, AllocError>
+        ensures { IfOk result (λ runs. HasRuns D self.now cell.now runs.items) }
+    {
+        runs_in(alloc, self.frame(), cell)
     }
 
     /// Its fields.
