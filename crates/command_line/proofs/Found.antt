@@ -14,7 +14,7 @@ use Rattle.command_line.specs.Modes.{word_of}
 use Rattle.command_line.specs.Syntax.{syntax}
 use Rattle.command_line.specs.declared.invocation.Invocation.{Invocation}
 use Rattle.command_line.specs.declared.invocation.Mode.{Mode}
-use Rattle.command_line.specs.declared.invocation.Mode.TheVariants.{Plain, Check}
+use Rattle.command_line.specs.declared.invocation.Mode.TheVariants.{Plain, Check, Deps}
 
 pub nothing : {T : Type 0} (found : Option T) (P : T → Type 0) → found ≡ None → ((x : T) → P x → ⊥) → Finds found P
 nothing found P none h = subst (λ o. Finds o P) (sym none) h
@@ -69,12 +69,14 @@ some_that (Some y) x h = ap (λ z. Some z) h
 unfoldable pub mode_of : Text → Option Mode
 mode_of word = if bytes_eq word (codes "plain") then Some Plain
     else if bytes_eq word (codes "check") then Some Check
+    else if bytes_eq word (codes "deps") then Some Deps
     else None
 
 pub mode_of-word_of : (mode : Mode) → mode_of (word_of mode) ≡ Some mode
 unfolding mode_of
 mode_of-word_of Plain = refl
 mode_of-word_of Check = refl
+mode_of-word_of Deps = refl
 
 one_mode : (one other : Mode) → word_of one ≡ word_of other → one ≡ other
 one_mode one other e = same_text one other (sym (mode_of-word_of one) ∙ (ap mode_of e ∙ mode_of-word_of other))

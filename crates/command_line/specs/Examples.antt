@@ -2,7 +2,7 @@
 use Rattle.std.specs.Prelude.{ℕ, pos, [], ◌∷◌, codes}
 use Rattle.command_line.specs.declared.invocation.Invocation.{Invocation}
 use Rattle.command_line.specs.declared.invocation.Mode.{Mode}
-use Rattle.command_line.specs.declared.invocation.Mode.TheVariants.{Plain, Check}
+use Rattle.command_line.specs.declared.invocation.Mode.TheVariants.{Plain, Check, Deps}
 use Rattle.command_line.specs.Invocations.{IsInvocation, IsNoInvocation}
 
 -- a command of these numbers: workers, chunk, sample, steps
@@ -17,6 +17,7 @@ command mode workers chunk sample steps = record {
 pub record AreInvocations : Type 0 where
   pub plain : IsInvocation (codes "plain" ∷ []) (command Plain 4 32 4 1000000)
   pub check : IsInvocation (codes "check" ∷ []) (command Check 4 32 4 1000000)
+  pub deps : IsInvocation (codes "deps" ∷ codes "--chunk=8" ∷ []) (command Deps 4 8 4 1000000)
   pub steps : IsInvocation (codes "plain" ∷ codes "--steps" ∷ codes "10" ∷ []) (command Plain 4 32 4 10)
   pub joined_and_first : IsInvocation (codes "--steps=10" ∷ codes "plain" ∷ []) (command Plain 4 32 4 10)
   pub all_options : IsInvocation (codes "--workers" ∷ codes "64" ∷ codes "plain" ∷ codes "--chunk=1" ∷ codes "--sample" ∷ codes "0000000008" ∷ codes "--steps=4294967296" ∷ []) (command Plain 64 1 8 4294967296)

@@ -11,6 +11,8 @@ pub enum Mode {
     Plain,
     /// Write the canonical text of the file.
     Check,
+    /// Write the dependence listing of the file.
+    Deps,
 }
 
 impl Mode {
@@ -21,6 +23,7 @@ impl Mode {
         match word {
             "plain" => Some(Mode::Plain),
             "check" => Some(Mode::Check),
+            "deps" => Some(Mode::Deps),
             _ => None,
         }
     }

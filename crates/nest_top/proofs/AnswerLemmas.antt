@@ -18,7 +18,7 @@ use Rattle.report.proofs.RunLemmas.{longest_runs}
 use Rattle.report.proofs.OneList.{same_runs}
 use Rattle.command_line.specs.declared.invocation.Invocation.{Invocation}
 use Rattle.command_line.specs.declared.invocation.Mode.{Mode}
-use Rattle.command_line.specs.declared.invocation.Mode.TheVariants.{Plain, Check}
+use Rattle.command_line.specs.declared.invocation.Mode.TheVariants.{Plain, Check, Deps}
 use Rattle.command_line.specs.declared.invocation.Options.{Options}
 use Rattle.command_line.specs.Invocations.{IsInvocation, IsNoInvocation, usage_line}
 use Rattle.command_line.proofs.Found.{one_invocation}
@@ -27,9 +27,12 @@ use Rattle.std.specs.Str.Parse.{digits_value}
 use Rattle.nest_top.specs.declared.status.Status.{Status}
 use Rattle.nest_top.specs.declared.status.Status.TheVariants.{Ended, Trapped, Limited, Refused, Usage, SourceFault, SinkFault, NoMemory}
 use Rattle.nest_top.specs.Texts.{IsTextOf, text_taken}
-use Rattle.nest_top.specs.Answers.{AnswersFile, AnswersReading, Causes, Finishes, IsAnswer, IsOutcomeOf, Prepared, finish_of, run_of_file, status_of}
+use Rattle.nest_top.specs.Answers.{AnswersFile, AnswersReading, Causes, Finishes, IsAnswer, IsListingOf, IsOutcomeOf, Prepared, finish_of, journey_options, run_of_file, status_of}
 use Rattle.nest_top.specs.Answers.IsAnswer.{usage, invoked}
-use Rattle.nest_text.specs.Files.{scalar_names}
+use Rattle.nest_text.specs.Files.{IsOfText, scalar_names}
+use Rattle.report.specs.Lines.{listing_text}
+use Rattle.listing.proofs.OneListing.{one-listing}
+use Rattle.std.specs.List.{flat_map}
 use Rattle.nest_top.specs.Laws.{OneAnswer, EachHasItsCause}
 use Rattle.nest_top.proofs.TrapsOnly.{plain_run-finishes}
 
@@ -97,6 +100,7 @@ record EndedSo (mode : Mode) (options : Options) (file : File) (status : Status)
 ended-so : (mode : Mode) (options : Options) (file : File) (bytes : List ℕ) (status : Status) → AnswersFile mode options file bytes status → EndedSo mode options file status
 ended-so Plain options file bytes status is = record { ending = is.ending; finished = is.ended; answered = is.answered }
 ended-so Check options file bytes status is = record { ending = ending.Ended; finished = refl; answered = is.1 }
+ended-so Deps options file bytes status is = record { ending = ending.Ended; finished = refl; answered = is.1 }
 
 -- ---- causes
 
@@ -182,13 +186,21 @@ one-outcome file steps bytes bytes' status status' o p =
       o.answered ∙ ap status_of e ∙ sym p.answered,
     )
 
-one-file_answer : (mode : Mode) (options : Options) (file : File) (bytes bytes' : List ℕ) (status status' : Status) → AnswersFile mode options file bytes status → AnswersFile mode options file bytes' status' → Same bytes bytes' status status'
-one-file_answer Plain options file bytes bytes' status status' a b = one-outcome file options.steps bytes bytes' status status' a b
-one-file_answer Check options file bytes bytes' status status' a b = (a.0 ∙ sym b.0, a.1 ∙ sym b.1)
+-- a file has one listing
+one-deps : (options : Options) (file : File) → IsOfText file → (bytes bytes' : List ℕ) → IsListingOf options file bytes → IsListingOf options file bytes' → bytes ≡ bytes'
+one-deps options file of bytes bytes' a b =
+    let one = one-listing (journey_options options) file of in
+    let same : a.0 ≡ b.0 = one.2 a.0 a.1 ∙ sym (one.2 b.0 b.1) in
+    a.2 ∙ ap (flat_map (listing_text (scalar_names file))) same ∙ sym b.2
 
-one-reading_answer : (c : Invocation) (r : Result File TextFault) (bytes bytes' : List ℕ) (status status' : Status) → AnswersReading c r bytes status → AnswersReading c r bytes' status' → Same bytes bytes' status status'
-one-reading_answer c (Ok file) bytes bytes' status status' a b = one-file_answer c.mode c.options file bytes bytes' status status' a b
-one-reading_answer c (Err fault) bytes bytes' status status' a b = (a.0 ∙ sym b.0, a.1 ∙ sym b.1)
+one-file_answer : (mode : Mode) (options : Options) (file : File) → IsOfText file → (bytes bytes' : List ℕ) (status status' : Status) → AnswersFile mode options file bytes status → AnswersFile mode options file bytes' status' → Same bytes bytes' status status'
+one-file_answer Plain options file of bytes bytes' status status' a b = one-outcome file options.steps bytes bytes' status status' a b
+one-file_answer Check options file of bytes bytes' status status' a b = (a.0 ∙ sym b.0, a.1 ∙ sym b.1)
+one-file_answer Deps options file of bytes bytes' status status' a b = (one-deps options file of bytes bytes' a.0 b.0, a.1 ∙ sym b.1)
+
+one-reading_answer : (c : Invocation) (text : List ℕ) (r : Result File TextFault) → reading text ≡ r → (bytes bytes' : List ℕ) (status status' : Status) → AnswersReading c r bytes status → AnswersReading c r bytes' status' → Same bytes bytes' status status'
+one-reading_answer c text (Ok file) reads bytes bytes' status status' a b = one-file_answer c.mode c.options file (text, reads) bytes bytes' status status' a b
+one-reading_answer c text (Err fault) reads bytes bytes' status status' a b = (a.0 ∙ sym b.0, a.1 ∙ sym b.1)
 
 -- words and a text have at most one answer
 at_most_one_answer : (words : List (List ℕ)) (text bytes bytes' : List ℕ) (status status' : Status) → IsAnswer words text bytes status → IsAnswer words text bytes' status' → Same bytes bytes' status status'
@@ -196,28 +208,31 @@ at_most_one_answer words text bytes bytes' status status' (usage n) (usage m) = 
 at_most_one_answer words text bytes bytes' status status' (usage n) (invoked d is b s a) = absurd (n d is)
 at_most_one_answer words text bytes bytes' status status' (invoked c is b s a) (usage n) = absurd (n c is)
 at_most_one_answer words text bytes bytes' status status' (invoked c is b s a) (invoked d is' b' s' a') =
-    one-reading_answer c (reading text) b b' s s' a (subst (λ (x : Invocation). AnswersReading x (reading text) b' s') (sym (one_invocation words c d is is')) a')
+    one-reading_answer c text (reading text) refl b b' s s' a (subst (λ (x : Invocation). AnswersReading x (reading text) b' s') (sym (one_invocation words c d is is')) a')
 
 -- and one at least
 Answered_by : List (List ℕ) → List ℕ → Type 0
 Answered_by words text = (bytes : List ℕ) × (status : Status) × IsAnswer words text bytes status
 
-a-file_answer : (mode : Mode) (options : Options) (file : File) → (bytes : List ℕ) × (status : Status) × AnswersFile mode options file bytes status
-a-file_answer Plain options file =
+a-file_answer : (mode : Mode) (options : Options) (file : File) → IsOfText file → (bytes : List ℕ) × (status : Status) × AnswersFile mode options file bytes status
+a-file_answer Plain options file of =
     let run = run_of_file file options.steps in
     let e = plain_run-finishes (nests_of file) (first_store file) options.steps in
     let runs = longest_runs run.store.memory in
     (outcome_lines (scalar_names file) run.store.scalars runs.0 e.0 run.steps, status_of e.0, record { ending = e.0; ended = e.1; written = (runs.0, runs.1, refl); answered = refl })
-a-file_answer Check options file = (canonical file, Ended, (refl, refl))
+a-file_answer Check options file of = (canonical file, Ended, (refl, refl))
+a-file_answer Deps options file of =
+    let one = one-listing (journey_options options) file of in
+    (flat_map (listing_text (scalar_names file)) one.0, Ended, ((one.0, one.1, refl), refl))
 
-a-reading_answer : (c : Invocation) (r : Result File TextFault) → (bytes : List ℕ) × (status : Status) × AnswersReading c r bytes status
-a-reading_answer c (Ok file) = a-file_answer c.mode c.options file
-a-reading_answer c (Err fault) = (refusal_line fault, Refused, (refl, refl))
+a-reading_answer : (c : Invocation) (text : List ℕ) (r : Result File TextFault) → reading text ≡ r → (bytes : List ℕ) × (status : Status) × AnswersReading c r bytes status
+a-reading_answer c text (Ok file) reads = a-file_answer c.mode c.options file (text, reads)
+a-reading_answer c text (Err fault) reads = (refusal_line fault, Refused, (refl, refl))
 
 an-answer : (words : List (List ℕ)) (text : List ℕ) → Answered_by words text
 unfolding Answered_by
 an-answer words text = elim (invocation_or_none words) [
-  | inl i ↦ (let a = a-reading_answer i.0 (reading text) in (a.0, a.1, invoked i.0 i.1 a.0 a.1 a.2))
+  | inl i ↦ (let a = a-reading_answer i.0 text (reading text) refl in (a.0, a.1, invoked i.0 i.1 a.0 a.1 a.2))
   | inr none ↦ (usage_line, Usage, usage none)
 ]
 

@@ -1,5 +1,5 @@
 -- Answers: what words and a text give, as bytes and a status.
-use Rattle.std.specs.Prelude.{◌≡◌, ◌↔◌, ℕ, List, Option, Result, Ok, Err}
+use Rattle.std.specs.Prelude.{◌≡◌, ◌↔◌, ℕ, List, Option, Result, Ok, Err, flat_map}
 use Rattle.nest_lang.specs.declared.budget.Ending.{Ending}
 use Rattle.nest_lang.specs.declared.budget.Ending.TheVariants as ending
 use Rattle.nest_lang.specs.declared.tree.Trap.{Trap}
@@ -14,9 +14,13 @@ use Rattle.canonical.specs.Contents.{canonical}
 use Rattle.nest_text.specs.Files.{scalar_names}
 use Rattle.report.specs.Faults.{refusal_line}
 use Rattle.report.specs.Outcomes.{IsOutcome}
+use Rattle.report.specs.Lines.{listing_text}
+use Rattle.report.specs.declared.journey.Options.{Options as JourneyOptions}
+use Rattle.report.specs.declared.line.ListingLine.{ListingLine}
+use Rattle.listing.specs.Listings.{IsListing}
 use Rattle.command_line.specs.declared.invocation.Invocation.{Invocation}
 use Rattle.command_line.specs.declared.invocation.Mode.{Mode}
-use Rattle.command_line.specs.declared.invocation.Mode.TheVariants.{Plain, Check}
+use Rattle.command_line.specs.declared.invocation.Mode.TheVariants.{Plain, Check, Deps}
 use Rattle.command_line.specs.declared.invocation.Options.{Options}
 use Rattle.command_line.specs.Invocations.{IsInvocation, IsNoInvocation, usage_line}
 use Rattle.nest_top.specs.declared.status.Status.{Status}
@@ -44,11 +48,21 @@ pub record IsOutcomeOf (file : File) (steps : ℕ) (bytes : List ℕ) (status : 
   pub written : IsOutcome (scalar_names file) (run_of_file file steps).store ending (run_of_file file steps).steps bytes
   pub answered : status ≡ status_of ending
 
+-- the options of a journey
+abbrev pub journey_options : Options → JourneyOptions
+journey_options options = record { workers = options.workers; chunk = options.chunk; sample = options.sample; steps = options.steps }
+
+-- bytes are those of the lines of a file's dependence listing, in their order
+abbrev pub IsListingOf : Options → File → List ℕ → Type 0
+IsListingOf options file bytes =
+    (lines : List ListingLine) × IsListing (journey_options options) file lines × (bytes ≡ flat_map (listing_text (scalar_names file)) lines)
+
 -- bytes and a status are the answer to a file: in mode `plain` those of its plain run, in mode `check`
--- its canonical text
+-- its canonical text, in mode `deps` its dependence listing
 abbrev pub AnswersFile : Mode → Options → File → List ℕ → Status → Type 0
 AnswersFile Plain options file bytes status = IsOutcomeOf file options.steps bytes status
 AnswersFile Check options file bytes status = (bytes ≡ canonical file) × (status ≡ Ended)
+AnswersFile Deps options file bytes status = IsListingOf options file bytes × (status ≡ Ended)
 
 -- bytes and a status are the answer of an invocation to what a text reads as: the line of its first fault, or
 -- the answer to its file
@@ -69,11 +83,11 @@ Answered SinkFault = ⊥
 Answered NoMemory = ⊥
 Answered status = Unit {0}
 
--- how the run of an invocation on a file finishes: in mode `plain` the plain run; mode `check` runs nothing
--- and is done
+-- how the run of an invocation on a file finishes: in mode `plain` the plain run; in the modes `check` and `deps` it is done
 abbrev pub finish_of : Mode → Options → File → Finish
 finish_of Plain options file = (run_of_file file options.steps).ending
 finish_of Check options file = traces.Done
+finish_of Deps options file = traces.Done
 
 -- the words are an invocation, the text reads as a file, and the invocation's run on it finishes so
 pub record Finishes (words : List (List ℕ)) (text : List ℕ) (finish : Finish) : Type 0 where

@@ -7,6 +7,7 @@ ghost use Rattle.command_line.specs.Invocations.{usage_line};
 ghost use Rattle.nest_top.specs.Answers.{AnswersFile, AnswersReading};
 
 use crate::check::check;
+use crate::deps::deps;
 use crate::plain::plain;
 use crate::status::Status;
 use command_line::{Invocation, Mode, usage_text};
@@ -69,5 +70,6 @@ fn answer_file(
     match invocation.mode {
         Mode::Plain => plain(alloc, file, invocation.options.steps),
         Mode::Check => check(alloc, file),
+        Mode::Deps => deps(alloc, file, &invocation.options),
     }
 }

@@ -1,6 +1,6 @@
 use Rattle.std.proofs.Common.{codes, refl}
 use Rattle.clap.proofs.OnLiterals.{clap_on_literals}
-use Rattle.command_line.specs.declared.invocation.Mode.TheVariants.{Plain, Check}
+use Rattle.command_line.specs.declared.invocation.Mode.TheVariants.{Plain, Check, Deps}
 use Rattle.command_line.proofs.Computed.{is_command}
 use Rattle.command_line.proofs.laws.invocations.Goals as goal
 
@@ -9,6 +9,7 @@ unfolding clap_on_literals
 returns c = record {
   plain = is_command _ Plain (codes "4") (codes "32") (codes "4") (codes "1000000") refl refl refl refl refl refl refl refl refl refl refl;
   check = is_command _ Check (codes "4") (codes "32") (codes "4") (codes "1000000") refl refl refl refl refl refl refl refl refl refl refl;
+  deps = is_command _ Deps (codes "4") (codes "8") (codes "4") (codes "1000000") refl refl refl refl refl refl refl refl refl refl refl;
   steps = is_command _ Plain (codes "4") (codes "32") (codes "4") (codes "10") refl refl refl refl refl refl refl refl refl refl refl;
   joined_and_first = is_command _ Plain (codes "4") (codes "32") (codes "4") (codes "10") refl refl refl refl refl refl refl refl refl refl refl;
   all_options = is_command _ Plain (codes "64") (codes "1") (codes "0000000008") (codes "4294967296") refl refl refl refl refl refl refl refl refl refl refl;
