@@ -1,8 +1,8 @@
 -- The loop over the nests of a file.
-use Rattle.std.proofs.Common.{◌≡◌, ◌∙◌, refl, ap, ap₂, sym, ℕ, ◌+◌, ◌<◌, ◌≤◌, suc, List, [], ◌∷◌, ◌++◌, length, map, take, drop, Some, None, inl, inr, arith, get_or, drop-cons}
+use Rattle.std.proofs.Common.{◌≡◌, ◌∙◌, refl, ap, ap₂, sym, ℕ, ◌+◌, ◌<◌, ◌≤◌, suc, List, ◌∷◌, length, drop, Some, None, inl, inr, arith, get_or, drop-cons}
 use Rattle.std.specs.Prelude.{slice_get}
 use Rattle.std.proofs.lemmas.Option.{slice_get_cases}
-use Rattle.std.proofs.lemmas.List.{take_more, drop_all}
+use Rattle.std.proofs.lemmas.List.{drop_all}
 use Rattle.nest_lang.specs.declared.tree.Nest.{Nest}
 use Rattle.nest_lang.specs.declared.budget.Ending.{Ending}
 use Rattle.nest_lang.specs.declared.budget.Ending.TheVariants as ending

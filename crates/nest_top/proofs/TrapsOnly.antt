@@ -1,5 +1,5 @@
 -- A plain run ends, traps or is limited: nothing else halts it.
-use Rattle.std.proofs.Common.{◌≡◌, refl, sym, subst, ℕ, zero, suc, ◌+◌, ℤ, pos, Bool, true, false, List, [], ◌∷◌, map, length, Option, Some, None, Result, Ok, Err, cond}
+use Rattle.std.proofs.Common.{◌≡◌, refl, sym, subst, ℕ, zero, suc, ◌+◌, ℤ, pos, Bool, true, false, List, [], ◌∷◌, map, length, Option, Some, None, Result, Ok, Err}
 use Rattle.std.specs.Prelude.{nat_le, if◌then◌else◌}
 use Rattle.nest_lang.specs.declared.tree.Trap.{Trap}
 use Rattle.nest_lang.specs.declared.tree.Part.TheVariants as part
@@ -13,13 +13,12 @@ use Rattle.nest_lang.specs.declared.tree.Head.{Head}
 use Rattle.nest_lang.specs.declared.tree.Head.TheVariants.{For, While}
 use Rattle.nest_lang.specs.declared.tree.Loop.{Loop}
 use Rattle.nest_lang.specs.declared.tree.Nest.{Nest}
-use Rattle.nest_lang.specs.declared.observe.Stop.{Stop}
 use Rattle.nest_lang.specs.declared.budget.Ending.{Ending}
 use Rattle.nest_lang.specs.declared.budget.Ending.TheVariants as ending
 use Rattle.nest_lang.specs.Values.{turn_value}
 use Rattle.nest_lang.specs.Stores.{Store, word_at}
-use Rattle.nest_lang.specs.Lookups.{plain, look, look_load, look_store, word_or_outside}
-use Rattle.nest_lang.specs.Traces.{Occurrence, Observation, Halt, Trapped, Stopped, Over, Trace, Transition, Entry, ends, joined, and_then, in_turn, traced, Finish, Limited, finish_of, cut}
+use Rattle.nest_lang.specs.Lookups.{plain, look, look_load, word_or_outside}
+use Rattle.nest_lang.specs.Traces.{Occurrence, Observation, Halt, Trapped, Stopped, Over, Trace, Transition, Entry, joined, in_turn, traced, Limited, finish_of, cut}
 use Rattle.nest_lang.specs.Expressions.{Frame, Told, told, told_by, then_tell, or_trapped, or_stopped, expression_level}
 use Rattle.nest_lang.specs.Statements.{with_value, stored, statement_level, statement_trace, block_trace, instance_trace, started}
 use Rattle.nest_lang.specs.Heads.{Yield, Bounds, Tested, Headed, then_head, head_of, head_step, headed}

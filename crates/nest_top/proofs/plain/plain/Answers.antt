@@ -1,4 +1,4 @@
-use Rattle.std.proofs.Common.{◌≡◌, ◌∙◌, ◌+◌, ap, subst, map, string_bytes, List, ℕ, arith}
+use Rattle.std.proofs.Common.{◌≡◌, ◌∙◌, ◌+◌, ap, subst, arith}
 use Rattle.nest_lang.specs.Runs.{Run, finish_of_ending, plain_run}
 use Rattle.nest_grammar.specs.Files.{nests_of}
 use Rattle.report.specs.Outcomes.{IsOutcome}

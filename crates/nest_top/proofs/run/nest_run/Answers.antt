@@ -1,4 +1,4 @@
-use Rattle.std.proofs.Common.{rules, ℕ, List, map, string_bytes, subst}
+use Rattle.std.proofs.Common.{rules, map, string_bytes}
 use Rattle.nest_io.specs.Bytes.{Appends}
 use Rattle.nest_top.proofs.AnswerLemmas.{causes, answer-no_memory, answer-no_sink_fault, answer-no_source_fault}
 use Rattle.nest_top.proofs.run.nest_run.Goals as goal
