@@ -2,6 +2,8 @@
 use Rattle.std.proofs.Common.{◌≡◌, refl, sym, ap, ap₂, ◌∙◌, subst, ℕ, zero, suc, ◌<◌, ◌≤◌, ◌+◌, ℤ, List, [], ◌∷◌, ◌++◌, map, length, inl, inr, ⊎_elim, arith, Less, Equal, length-append}
 use Rattle.std.specs.List.{flat_map, range_with_len}
 use Rattle.std.proofs.lemmas.Cmp.{int_cmp_total, lists_total, tied_itself}
+use Rattle.std.proofs.lemmas.List.{length-map}
+use Rattle.std.proofs.lemmas.List.FromFn.{length-range_with_len}
 use Rattle.std.proofs.lemmas.List.Sums.{sum_by-cons}
 use Rattle.orders.specs.Orders.{Has, Ordered, Differ}
 use Rattle.orders.proofs.Lists.{all_from, all_has, has_left, has_right, has_cases, has_split, contains_from_has, has_from_contains, ordered_append, ordered_weaker}
@@ -57,14 +59,6 @@ range_has zero first k h = absurd h
 range_has (suc n) first k (inl e) = (omega arith, omega arith)
 range_has (suc n) first k (inr h) = let (from, to) = range_has n (first + 1) k h in (omega arith, omega arith)
 
-length-range : (n first : ℕ) → length (range_with_len first n) ≡ n
-length-range zero first = refl
-length-range (suc n) first = ap suc (length-range n (first + 1))
-
-pub length-map : {X Y : Type 0} (f : X → Y) (xs : List X) → length (map f xs) ≡ length xs
-length-map f [] = refl
-length-map f (x ∷ xs) = ap suc (length-map f xs)
-
 differ-map_range : {X : Type 0} (f : ℕ → X) (n first : ℕ) → ((k l : ℕ) → first ≤ k → k < l → l < first + n → f k ≡ f l → ⊥) → Ordered Differ (map f (range_with_len first n))
 differ-map_range f zero first apart = tt
 differ-map_range {X} f (suc n) first apart = (
@@ -97,7 +91,7 @@ length-runs : (runs : List Run) → length (flat_map instances_of runs) ≡ coun
 length-runs [] = refl
 length-runs (r ∷ runs) =
     length-append (instances_of r) (flat_map instances_of runs)
-    ∙ ap₂ (λ (a b : ℕ). a + b) (length-map (run_at r) (range_with_len 0 r.count) ∙ length-range r.count 0) (length-runs runs)
+    ∙ ap₂ (λ (a b : ℕ). a + b) (length-map (range_with_len 0 r.count) (run_at r) ∙ length-range_with_len 0 r.count) (length-runs runs)
     ∙ sym (sum_by-cons (λ (q : Run). q.count) r runs)
 
 length-all : (runs : List (List Run)) → length (flat_map (flat_map instances_of) runs) ≡ counted runs

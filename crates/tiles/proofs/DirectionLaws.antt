@@ -1,10 +1,10 @@
 -- The last direction of a schedule is a column of its inverse, so its numbers are small.
-use Rattle.std.proofs.Common.{◌≡◌, refl, sym, ap, ◌∙◌, subst, ℕ, zero, suc, ◌<◌, ◌≤◌, ◌-◌, ◌^◌, ℤ, pos, ◌*ℤ◌, unsigned_abs, List, [], ◌∷◌, map, length, get_or, replicate, ⊎_elim, arith}
+use Rattle.std.proofs.Common.{◌≡◌, refl, sym, ap, ◌∙◌, subst, ℕ, zero, suc, ◌<◌, ◌≤◌, ◌-◌, ◌^◌, ℤ, pos, ◌*ℤ◌, unsigned_abs, List, [], ◌∷◌, length, get_or, replicate, ⊎_elim, arith}
 use Rattle.std.specs.List.{range_with_len}
 use Rattle.std.proofs.Math.IntN.{+ℤ_idr, +ℤ_idl, *ℤ-zero}
 use Rattle.std.proofs.lemmas.Bool.{cases_lt}
 use Rattle.std.proofs.lemmas.Int.{ints}
-use Rattle.std.proofs.lemmas.List.{take_all}
+use Rattle.std.proofs.lemmas.List.{length-map, take_all}
 use Rattle.std.proofs.lemmas.List.FromFn.{length-range_with_len}
 use Rattle.plain_lemmas.proofs.MembershipLaws.{All_from, All_has, map_has}
 use Rattle.affine.specs.Forms.{AllWithinSize}
@@ -44,10 +44,6 @@ small-units rows m k h small = All_from (λ (z : ℤ). unsigned_abs z ≤ 2 ^ 20
     let (row, there, is) = map_has (λ (row : List ℤ). dot row (unit_row m k)) rows z has in
     subst (λ (w : ℤ). unsigned_abs w ≤ 2 ^ 20) (sym (is ∙ dot-unit row m k h)) (small-number row k (All_has (AllWithinSize (2 ^ 20)) rows row small there)))
 
-length-map : (f : ℕ → List ℤ) (ks : List ℕ) → length (map f ks) ≡ length ks
-length-map f [] = refl
-length-map f (k ∷ ks) = ap suc (length-map f ks)
-
 pub direction-small : (n : ℕ) (e : Extent) (columns : List (List ℤ)) (direction : List ℤ) → 1 ≤ n → n ≤ 6 → IsTable n e.table → IsSchedule n e.schedule → IsLaunch e.table e.chunk
     → IsInverse n (matrix e.schedule) columns → HasSmallEntries columns → IsDirection n e.schedule direction → AllWithinSize (2 ^ 20) direction
 direction-small n e columns direction some few table schedule launch inverse small last =
@@ -55,4 +51,4 @@ direction-small n e columns direction some few table schedule launch inverse sma
     (small-units (transposed n columns) n (n - 1) (omega (arith, some)) (transposed-small_from n columns (transposed n columns) inverse.columns_square small size (take_all n (transposed n columns) (omega (arith, size)))))
   where
     size : length (transposed n columns) ≡ n
-    size = length-map (entries columns) (range_with_len 0 n) ∙ length-range_with_len 0 n
+    size = length-map (range_with_len 0 n) (entries columns) ∙ length-range_with_len 0 n

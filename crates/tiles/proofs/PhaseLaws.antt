@@ -3,7 +3,7 @@ use Rattle.std.proofs.Common.{◌≡◌, ◌≢◌, refl, sym, ap, ap₂, ◌∙
 use Rattle.std.specs.Prelude.{Contains, slice_get, slice_index_or}
 use Rattle.std.proofs.lemmas.Bool.{false_from_ne_true, or_cases}
 use Rattle.std.proofs.lemmas.Int.{ints}
-use Rattle.std.proofs.lemmas.List.{append_cancel_right, length-replicate}
+use Rattle.std.proofs.lemmas.List.{append_cancel_right, length-map, length-replicate}
 use Rattle.core_steps.specs.declared.plan.Tile.{Tile}
 use Rattle.core_steps.specs.Numbers.{has}
 use Rattle.core_steps.specs.Plans.{IsInside, IsSeparate, no_tile, touches_of, writes_of}
@@ -20,13 +20,14 @@ use Rattle.dependence.proofs.VerdictLaws.{legal_is_unmet}
 use Rattle.transform.specs.Schedules.{IsSchedule, Schedule, lead, tile, wave, wide_lead, wide_tile, leading, along}
 use Rattle.skeletons.specs.Cells.{Cell, CellComes, Extent, LiesIn, cell_of}
 use Rattle.tiles.specs.Plans.{AreTilesOf, CellReads, CellWrites, IsOnePhase, IsPlannable, IsTileOf, Phase, phase_key}
-use Rattle.tiles.proofs.CountLaws.{cell-itself, length-map}
+use Rattle.tiles.proofs.CountLaws.{cell-itself}
 use Rattle.tiles.proofs.GroupLaws.{key_apart}
+use Rattle.tiles.proofs.StripLaws.{slice_get-has}
 
 -- ---- numbers of a cell
 
 pub length-wide : (s : Schedule) (p : List ℤ) → length (wide_lead s p) ≡ length (leading s) + (length s.lines - s.seq)
-length-wide s p = length-append (lead s p) (replicate (length s.lines - s.seq) (pos 0)) ∙ ap₂ (λ (a b : ℕ). a + b) (length-map (along p) (leading s)) (length-replicate (length s.lines - s.seq) (pos 0))
+length-wide s p = length-append (lead s p) (replicate (length s.lines - s.seq) (pos 0)) ∙ ap₂ (λ (a b : ℕ). a + b) (length-map (leading s) (along p)) (length-replicate (length s.lines - s.seq) (pos 0))
 
 -- ---- tiles of a plan
 
@@ -50,12 +51,6 @@ tile-cell e words (c ∷ cells) [] k a all h = absurd all
 tile-cell e words (c ∷ cells) (t ∷ tiles) zero a all h = record { cell = c; at = refl; is = all.0 }
 tile-cell e words (c ∷ cells) (t ∷ tiles) (suc k) a all h = let r = tile-cell e words cells tiles k a all.1 h in record { cell = r.cell; at = r.at; is = r.is }
 
-get-has : (cells : List Cell) (k : ℕ) (c : Cell) → slice_get cells k ≡ Some c → Has cells c
-get-has [] zero c e = absurd (cc)
-get-has [] (suc k) c e = absurd (cc)
-get-has (d ∷ cells) zero c e = inl (cc)
-get-has (d ∷ cells) (suc k) c e = inr (get-has cells k c e)
-
 -- cells in order are different ones
 cells-apart : (cells : List Cell) (j k : ℕ) (c d : Cell) → Ordered CellComes cells → slice_get cells j ≡ Some c → slice_get cells k ≡ Some d → j ≢ k → c ≡ d → ⊥
 cells-apart [] zero k c d ord e f other same = absurd (cc)
@@ -63,10 +58,10 @@ cells-apart [] (suc j) k c d ord e f other same = absurd (cc)
 cells-apart (x ∷ cells) zero zero c d ord e f other same = other refl
 cells-apart (x ∷ cells) zero (suc k) c d ord e f other same =
     let first : x ≡ c = cc in
-    cell-itself x (subst (CellComes x) (sym (first ∙ same)) (all_has (CellComes x) cells d ord.0 (get-has cells k d f)))
+    cell-itself x (subst (CellComes x) (sym (first ∙ same)) (all_has (CellComes x) cells d ord.0 (slice_get-has cells k d f)))
 cells-apart (x ∷ cells) (suc j) zero c d ord e f other same =
     let first : x ≡ d = cc in
-    cell-itself x (subst (CellComes x) (sym (first ∙ sym same)) (all_has (CellComes x) cells c ord.0 (get-has cells j c e)))
+    cell-itself x (subst (CellComes x) (sym (first ∙ sym same)) (all_has (CellComes x) cells c ord.0 (slice_get-has cells j c e)))
 cells-apart (x ∷ cells) (suc j) (suc k) c d ord e f other same = cells-apart cells j k c d ord.1 e f (λ h. other (ap suc h)) same
 
 writes-touch : (t : Tile) (a : ℕ) → writes_of t a ≡ true → touches_of t a ≡ true
@@ -126,7 +121,7 @@ module _ (n : ℕ) (e : Extent) (words : ℕ) (table : IsTable n e.table) (sched
       let first = tile-cell e words p.cells p.plan.tiles j a all (writes-touch (slice_index_or p.plan.tiles j no_tile) a w) in
       let second = tile-cell e words p.cells p.plan.tiles k a all h in
       let x = tile-writes first.cell (slice_index_or p.plan.tiles j no_tile) a first.is w in
-      let key = one.one first.cell second.cell (get-has p.cells j first.cell first.at) (get-has p.cells k second.cell second.at) in
+      let key = one.one first.cell second.cell (slice_get-has p.cells j first.cell first.at) (slice_get-has p.cells k second.cell second.at) in
       let different = cells-apart p.cells j k first.cell second.cell ord first.at second.at other in
       ⊎_elim
       (λ r. others-apart first.cell second.cell x.at r.at x.lies r.lies key different (pos a, inl (x.writes, inl r.reads)))

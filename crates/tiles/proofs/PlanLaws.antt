@@ -33,6 +33,7 @@ use Rattle.tiles.proofs.CountLaws.{cells-most, count-all, count-most, flat_map_h
 use Rattle.tiles.proofs.DirectionLaws.{direction-small}
 use Rattle.tiles.proofs.GroupLaws.{AreGathered, gathered-more, gathered-none}
 use Rattle.tiles.proofs.PhaseLaws.{inside, length-wide, separate}
+use Rattle.tiles.proofs.WordLaws.{get_or-has}
 use Rattle.tiles.proofs.StripLaws.{HasStrip, planned, strip-writes, tile-is, writes-strip, written}
 
 -- ---- launches
@@ -210,11 +211,6 @@ take-before : (cells : List Cell) (n : ℕ) (cell : Cell) → n < length cells �
 take-before [] n cell inside is ord c h = absurd (omega arith)
 take-before (x ∷ cells) zero cell inside is ord c h = absurd h
 take-before (x ∷ cells) (suc n) cell inside is ord c (inl same) = subst (λ (z : Cell). CellComes z cell) (sym same) (all_has (CellComes x) cells cell ord.0 (get_or-has cells n cell (omega arith) is))
-  where
-    get_or-has : (cells : List Cell) (n : ℕ) (cell : Cell) → n < length cells → cell ≡ get_or cells n cell → Has cells cell
-    get_or-has [] n cell inside is = absurd (omega arith)
-    get_or-has (y ∷ cells) zero cell inside is = inl is
-    get_or-has (y ∷ cells) (suc n) cell inside is = inr (get_or-has cells n cell (omega arith) is)
 take-before (x ∷ cells) (suc n) cell inside is ord c (inr h) = take-before cells n cell (omega arith) is ord.1 c h
 
 take-has : (n : ℕ) (cells : List Cell) (c : Cell) → Has (take n cells) c → Has cells c
@@ -252,7 +248,7 @@ stands-more e words some few table schedule can cells n groups news stripes afte
     record {
       gathered = subst (λ (l : List Cell). AreGathered e words l news) (sym taken) (subst (AreGathered e words (take n cells ++ cell ∷ [])) (sym groups-are)
           (gathered-more e words (length (leading e.schedule) + (length e.schedule.lines - e.schedule.seq)) (take n cells) groups cell tile stands.gathered fits
-          (λ c h. size c (take-has n cells c h)) (size cell (here cells n cell below is)) (take-before cells n cell below is are.ordered)));
+          (λ c h. size c (take-has n cells c h)) (size cell (get_or-has cells n cell below is)) (take-before cells n cell below is are.ordered)));
       runs = stands.runs ++ rs ∷ [];
       have = subst (λ (l : List Cell). HaveRuns e l (stands.runs ++ rs ∷ [])) (sym taken) (have-more e (take n cells) stands.runs cell rs stands.have one);
       strips =
@@ -263,11 +259,6 @@ stands-more e words some few table schedule can cells n groups news stripes afte
   where
     size : (c : Cell) → Has cells c → length c.lead ≡ length (leading e.schedule) + (length e.schedule.lines - e.schedule.seq)
     size c h = let (x, lies) = (are.has c).0 h in ap (λ (z : Cell). length z.lead) (sym lies.inside) ∙ length-wide e.schedule (padded e.table x)
-
-    here : (cells : List Cell) (n : ℕ) (cell : Cell) → n < length cells → cell ≡ get_or cells n cell → Has cells cell
-    here [] n cell inside is = absurd (omega arith)
-    here (y ∷ cells) zero cell inside is = inl is
-    here (y ∷ cells) (suc n) cell inside is = inr (here cells n cell (omega arith) is)
 
 pub stands-plan : (e : Extent) (words : ℕ) (some : 1 ≤ depth e.table) (few : depth e.table ≤ 6) (table : IsTable (depth e.table) e.table) (schedule : IsSchedule (depth e.table) e.schedule) (can : IsPlannable e.table e.schedule e.chunk words)
     (cells : List Cell) (n : ℕ) (groups : List Phase) (stripes : List Stripe) (instances : ℕ) → AreCellsOf e cells → length cells ≤ n → Stands e words cells n groups stripes instances

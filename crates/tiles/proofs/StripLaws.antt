@@ -34,7 +34,7 @@ has-slice_get [] x h = absurd h
 has-slice_get (y ∷ ys) x (inl e) = (0, ap Some (sym e))
 has-slice_get (y ∷ ys) x (inr h) = let (k, is) = has-slice_get ys x h in (suc k, is)
 
-slice_get-has : {X : Type 0} (xs : List X) (k : ℕ) (x : X) → slice_get xs k ≡ Some x → Has xs x
+pub slice_get-has : {X : Type 0} (xs : List X) (k : ℕ) (x : X) → slice_get xs k ≡ Some x → Has xs x
 slice_get-has [] zero x e = absurd (cc)
 slice_get-has [] (suc k) x e = absurd (cc)
 slice_get-has (y ∷ ys) zero x e = inl (cc)
