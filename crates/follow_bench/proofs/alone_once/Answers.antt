@@ -1,4 +1,4 @@
-use Rattle.std.proofs.Common.{◌≡◌, refl, ap, ◌∙◌, length, lit<, lit≤, rules}
+use Rattle.std.proofs.Common.{◌≡◌, refl, ap, ◌∙◌, length, lit<, rules}
 use Rattle.follow_bench.proofs.FirstTurn.{predicted-is, task-is}
 use Rattle.follow_bench.proofs.alone_once.Goals as goal
 
