@@ -30,7 +30,7 @@ use Rattle.domain.specs.Shapes.{IsBlockOf}
 use Rattle.domain.proofs.OrderLaws.{premises_can_hold}
 use Rattle.follow_chunk.specs.Laws.{one_row, one_turn, PremisesCanHold}
 
-abbrev i : Instance
+abbrev pub i : Instance
 i = instance 0 (pos 0 ∷ [])
 
 single : (xs : List ℤ) → length xs ≡ 1 → pos 0 ≤ℤ counter xs 0 → counter xs 0 <ℤ (pos 0 +ℤ pos 1) → xs ≡ pos 0 ∷ []
@@ -38,7 +38,7 @@ single [] size from below = absurd (omega arith)
 single (x ∷ []) size from below = let e : x ≡ pos 0 = omega (arith, ints) in ap (λ (z : ℤ). z ∷ []) e
 single (x ∷ y ∷ xs) size from below = absurd (omega arith)
 
-here : Predicted row one_turn i
+pub here : Predicted row one_turn i
 here = record {
   is = record { block = omega arith; size = refl; rest = λ k l. rests k l };
   turn = record { from = omega (arith, ints); below = omega (arith, ints); inner = λ k l m. absurd (omega arith) };

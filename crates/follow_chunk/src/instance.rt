@@ -39,25 +39,25 @@ impl<const D: usize> Task<'_, D> {
         requires predicted { Predicted self.now.pred.now self.now.chunk inst.now }
         ensures { result ≡ block_ref (block_of self.now.pred.now inst.now).part (block_of self.now.pred.now inst.now).level }
     {
-        let Some(block) = self.nest.present(inst.block) else {
-            unreachable!()
-        };
-        block
+        let forms = self.pred.block(inst.block);
+        BlockRef {
+            part: forms.part,
+            level: forms.level,
+        }
     }
 
-    /// What is due of an instance of that block.
-    fn due(&self, inst: &Instance<D>, block: BlockRef) -> Due
+    /// What is due of an instance.
+    fn due(&self, inst: &Instance<D>) -> Due
         requires few { D < 7 }
         requires task { IsSomeTask D self.now.scalars self.now.nest.now.loops self.now.pred.now self.now.outer self.now.chunk }
         requires predicted { Predicted self.now.pred.now self.now.chunk inst.now }
-        requires block { block ≡ block_ref (block_of self.now.pred.now inst.now).part (block_of self.now.pred.now inst.now).level }
         ensures scalars { result.scalars.items ≡ scalars_at self.now.pred.now inst.now }
         ensures intervals { (access : ℕ) → interval_at self.now.pred.now inst.now access ≡ interval_of result.intervals.items access }
         ensures after { result.after.items ≡ scalars_at self.now.pred.now (next self.now.pred.now inst.now) }
     {
         let begins = scalars_at(self.pred, inst, self.scalars);
         let behind = successor(self.pred, inst);
-        let accesses = self.nest.accesses(block);
+        let accesses = self.pred.block(inst.block).accesses.as_slice();
         Due {
             scalars: narrowed(begins.as_slice()),
             intervals: intervals_at(self.pred, inst, accesses.len()),
@@ -109,7 +109,7 @@ impl<const D: usize> Task<'_, D> {
         };
         let places = self.places(inst, loops as usize);
         let site = places.site(block, loops as usize);
-        let mut due = self.due(inst, block);
+        let mut due = self.due(inst);
         let expected = Expected {
             intervals: due.intervals.as_slice(),
             after: due.after.as_slice(),

@@ -1,10 +1,9 @@
 use Rattle.std.proofs.Common.{◌≡◌, ◌≤◌, sym, ◌∙◌, ap, subst, List, ℤ, pos, FitsSigned, w64, get_or, length, arith, rules}
-use Rattle.nest_lang.specs.declared.tree.BlockRef.{BlockRef}
-use Rattle.nest_lang.specs.Accesses.{accesses_of}
+use Rattle.domain.specs.Tables.{Block, block_at}
 use Rattle.domain.specs.Instances.{Instance, block_of}
 use Rattle.follow_chunk.specs.Predicted.{scalars_at}
-use Rattle.follow_chunk.proofs.Standing.{can-turn, accesses-here}
-use Rattle.follow_chunk.proofs.Running.{count-here, count-next, few-scalars, few-accesses, fits-here, next-is}
+use Rattle.follow_chunk.proofs.Standing.{can-turn}
+use Rattle.follow_chunk.proofs.Running.{count-here, count-next, few-scalars, fits-here, next-is}
 use Rattle.follow_chunk.proofs.task.Task.due.Goals as goal
 
 pub scalars_at-begins-requires : goal.scalars_at-begins-requires
@@ -27,14 +26,10 @@ successor-behind-requires g c =
     let can = can-turn g.row.D self.scalars self.nest.now.loops self.pred.now self.outer self.chunk task.0 task.1 x p in
     search rules
 
-pub accesses-accesses-requires : goal.accesses-accesses-requires
-accesses-accesses-requires g c =
-    let self = c.args.self.now in
-    let task = c.requires.task in
-    let x = c.args.inst.now in
-    let p = c.requires.predicted in
-    let few = few-accesses g.row.D self.scalars self.nest.now.loops self.pred.now self.outer self.chunk task.0 task.1 x p in
-    subst (λ (r : BlockRef). length (accesses_of self.nest.now.loops r) ≤ 64) (sym c.requires.block) few
+pub block-requires : goal.block-requires
+block-requires g c =
+    let block = c.requires.predicted.is.block in
+    search rules
 
 pub narrowed-requires-clause-fits : goal.narrowed-requires-clause-fits
 narrowed-requires-clause-fits g c =
@@ -46,16 +41,13 @@ narrowed-requires-clause-fits g c =
 
 pub intervals_at-requires : goal.intervals_at-requires
 intervals_at-requires g c =
-    let self = c.args.self.now in
-    let task = c.requires.task in
+    let t = c.args.self.now.pred.now in
     let x = c.args.inst.now in
-    let p = c.requires.predicted in
-    let few = few-accesses g.row.D self.scalars self.nest.now.loops self.pred.now self.outer self.chunk task.0 task.1 x p in
-    let count = accesses-here g.row.D self.scalars self.nest.now.loops self.pred.now self.outer self.chunk task.0 task.1 x p in
-    let items = ap length (c.accesses-accesses.ensures ∙ ap (λ (r : BlockRef). accesses_of self.nest.now.loops r) c.requires.block) in
-    let len = c.len.ensures.value in
-    let short : c.len.result ≤ 64 = omega arith in
-    let all : length (block_of self.pred.now x).accesses ≡ c.len.result = omega arith in
+    let is = c.block.ensures.is.accesses in
+    let size : length c.as_slice-accesses.result.now ≡ length c.block.result.now.accesses = ap length c.as_slice-accesses.ensures.value ∙ ap (λ (b : Block). length b.accesses) c.behind-self.view_is in
+    let at : c.block.result.now ≡ block_of t x = c.block.ensures.block ∙ ap (λ (y : Instance). block_at t y.block) c.inst.view_is in
+    let short : length c.as_slice-accesses.result.now ≤ 64 = omega (arith, is, size) in
+    let all : length (block_of t x).accesses ≡ length c.as_slice-accesses.result.now = ap (λ (b : Block). length b.accesses) (sym at) ∙ sym size in
     search rules
 
 pub scalars_at-requires : goal.scalars_at-requires
