@@ -71,7 +71,7 @@ fn attempt<const D: usize>(
 /// comes exactly where it follows its prediction: words, scalars and steps are then those of the plain run of its turns.
 /// `AllocError` comes before any instance is run, and leaves words, scalars and steps. The schedule is legal for chunks of
 /// some length, from this one's turns to 1,024; no plan is posted, also after every answer; the steps left and used are
-/// together at most 2^32.
+/// together at most 2^32. D is from 1 to 6.
 pub fn run_chunk<const D: usize>(
     alloc: Global,
     task: &Task<'_, D>,
