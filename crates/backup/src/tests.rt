@@ -1,3 +1,5 @@
+//! The words of two stripes, taken and put back.
+
 use crate::{Stripe, restore, take};
 use shared_words::SharedWords;
 use std::alloc::AllocError;

@@ -1,3 +1,5 @@
+//! The words of the main seat through its port, from the first to the last.
+
 use crate::MainPort;
 use block_exec::{Port, Stop};
 use shared_words::SharedWords;
