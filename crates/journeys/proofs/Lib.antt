@@ -1,0 +1,4 @@
+pub mod Standing
+pub mod Entering
+pub mod PlainRuns
+pub mod OneWay

@@ -1,0 +1,6 @@
+pub mod Settings
+pub mod Tellings
+pub mod Stages
+pub mod Journeys
+pub mod Laws
+pub mod Examples
