@@ -6,7 +6,6 @@ pub mod Predicting
 pub mod PredictedChains
 pub mod Telling
 pub mod Watching
-pub mod Wanting
 pub mod Occurring
 pub mod Closing
 pub mod CompareLaws

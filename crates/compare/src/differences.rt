@@ -1,11 +1,11 @@
 //! How what is shown of an instance differs from what is predicted of it.
 
-ghost use Rattle.std.specs.Prelude.{◌≡◌, ◌<◌, ◌≤◌, ◌+ℤ◌, ◌-ℤ◌, pos, int_le, Some, length, slice_index_or, FitsSigned};
+ghost use Rattle.std.specs.Prelude.{◌≡◌, ◌<◌, ◌≤◌, ◌+ℤ◌, ◌-ℤ◌, pos, int_le, Some, length, FitsSigned};
 ghost use Rattle.std.specs.Int.{w128};
 ghost use Rattle.nest_lang.specs.Lookups.{lies_in};
 ghost use Rattle.follow.specs.Intervals.{interval_by};
 ghost use Rattle.nest_lang.specs.Traces.{Observation};
-ghost use Rattle.follow_chunk.specs.Predicted.{scalars_at, interval_at, lower_at, instance_of};
+ghost use Rattle.follow_chunk.specs.Predicted.{lower_at, instance_of};
 ghost use Rattle.compare.specs.Chunks.{IsWatchable};
 ghost use Rattle.compare.specs.Comparisons.{IsOfTurns};
 ghost use Rattle.compare.specs.Occurrences.{occurrence_at};
@@ -15,7 +15,7 @@ ghost use Rattle.compare.specs.Differences.{scalar_difference, address_differenc
 use crate::occurrence::Occurrence;
 use domain::{Instance, Prediction, What, expected};
 use follow::{How, Interval};
-use follow_chunk::Task;
+use follow_chunk::{Task, expected_interval, expected_scalar};
 use nest_lang::Seen;
 
 /// The value where it is an i64, as each that a run shows is.
@@ -30,30 +30,6 @@ fn kept_u64(value: i128) -> u64
     ensures { pos result ≡ kept_u64 value }
 {
     u64::try_from(value).unwrap_or(0)
-}
-
-/// The expected value of a scalar as an instance begins.
-#[tactic(auto, using(crate::proofs::Wanting::scalar_wanted))]
-fn wanted_scalar<const D: usize>(pred: &Prediction<D>, inst: &Instance<D>, number: u8) -> i128
-    requires { D < 7 }
-    ensures { result ≡ slice_index_or (scalars_at pred.now inst.now) number (pos 0) }
-{
-    expected(pred, inst, What::Scalar(number)).unwrap_or(0)
-}
-
-/// The expected interval of the address of an access.
-#[tactic(auto, unfolding(follow_chunk::specs::Predicted::interval_at))]
-fn wanted_interval<const D: usize>(
-    pred: &Prediction<D>,
-    inst: &Instance<D>,
-    access: u8,
-) -> Option<Interval>
-    requires { D < 7 }
-    ensures { interval_by (Some result) ≡ interval_at pred.now inst.now access }
-{
-    let line = expected(pred, inst, What::Address(access))?;
-    let (low, high) = pred.tube(inst.block, access)?;
-    Some(Interval { line, low, high })
 }
 
 /// The expected lower bound of the head of a `for`.
@@ -83,7 +59,7 @@ fn stays_within(value: i128, line: i128, high: i64) -> bool
 
 /// Whether a value lies in an interval. One that is no i128 away from the line doesn't.
 fn lies_in(interval: Interval, value: i128) -> bool
-    ensures { result ≡ lies_in (interval_by (Some (Some interval))) value }
+    ensures { result ≡ lies_in (interval_by (Some interval)) value }
 {
     match value.checked_sub(interval.line) {
         Some(_) => {
@@ -104,7 +80,7 @@ pub(crate) fn scalar_difference<const D: usize>(
     requires { D < 7 }
     ensures { result ≡ scalar_difference pred.now inst.now number value }
 {
-    let wanted = wanted_scalar(pred, inst, number);
+    let wanted = expected_scalar(pred, inst, number);
     if value == wanted {
         None
     } else {
@@ -122,7 +98,7 @@ pub(crate) fn address_difference<const D: usize>(
     requires { D < 7 }
     ensures { result ≡ address_difference pred.now inst.now access value }
 {
-    match wanted_interval(pred, inst, access) {
+    match expected_interval(pred, inst, access) {
         Some(interval) if lies_in(interval, value) => None,
         Some(interval) => Some(How::Address(access, interval.line, kept_i64(value))),
         None => Some(How::Unseen(access, kept_i64(value))),

@@ -1,5 +1,5 @@
--- Shapes: the table of a nest, whatever the forms in it are.
-use Rattle.std.specs.Prelude.{◌≡◌, ℕ, Bool, true, false, List, length, map, slice_get, Some}
+-- Shapes: the table of a nest, whatever the forms in it are, and which forms come together.
+use Rattle.std.specs.Prelude.{◌≡◌, ℕ, ℤ, Bool, true, false, List, length, map, slice_get, Some, None}
 use Rattle.nest_lang.specs.declared.tree.Access.{Access as NestAccess}
 use Rattle.nest_lang.specs.declared.tree.AccessKind.{AccessKind}
 use Rattle.nest_lang.specs.declared.tree.AccessKind.TheVariants as access
@@ -11,7 +11,7 @@ use Rattle.nest_lang.specs.Accesses.{accesses_of}
 use Rattle.nest_lang.specs.Blocks.{present_blocks}
 use Rattle.domain.specs.declared.table.LoopKind.{LoopKind}
 use Rattle.domain.specs.declared.table.LoopKind.TheVariants.{For, While}
-use Rattle.domain.specs.Tables.{Table, Block, Access, Level, block_at}
+use Rattle.domain.specs.Tables.{Table, Block, Access, Level, block_at, level_at}
 
 -- the kind of the loop with this head
 abbrev pub kind_of : Head → LoopKind
@@ -35,3 +35,7 @@ pub record IsTableOf (scalars : ℕ) (loops : List Loop) (t : Table) : Type 0 wh
   pub levels : map (λ (l : Level). l.kind) t.levels ≡ map (λ (l : Loop). kind_of l.head) loops
   pub count : length t.blocks ≡ length (present_blocks loops)
   pub each : (rank : ℕ) (block : BlockRef) → slice_get (present_blocks loops) rank ≡ Some block → IsBlockOf scalars loops block (block_at t rank)
+
+-- a `for` with a form of its trip has one of its lower bound too: its head shows both or neither
+abbrev pub LowersWithTrips : Table → Type 0
+LowersWithTrips t = (k : ℕ) (stride : ℤ) → (level_at t k).kind ≡ For stride → (level_at t k).lower ≡ None → (level_at t k).trip ≡ None

@@ -20,7 +20,7 @@ use Rattle.follow.specs.Successors.{next_scalars, closing_scalars, successor_sca
 use Rattle.follow.proofs.Chaining.{same_all-exact, chunk-law}
 use Rattle.follow.proofs.Standing.{planned-in_order}
 
-same-self : (z : ℤ) → same z z ≡ true
+pub same-self : (z : ℤ) → same z z ≡ true
 same-self (pos n) = grind (arith, nat_tests)
 same-self (negsuc n) = grind (arith, nat_tests)
 

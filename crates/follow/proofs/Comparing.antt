@@ -1,23 +1,22 @@
 -- The run of one instance, compared with what is expected of it.
-use Rattle.std.proofs.Common.{◌≡◌, refl, ap, ap₂, ◌∙◌, sym, subst, ℕ, ℤ, zero, suc, pos, ◌+◌, ◌-◌, ◌<◌, ◌≤◌, leb, Bool, true, false, List, [], ◌∷◌, ◌++◌, append_assoc, append-nil, length, get_or, Option, Some, None, Result, Ok, Err, arith}
+use Rattle.std.proofs.Common.{◌≡◌, refl, ap, ap₂, ◌∙◌, sym, subst, ℕ, ℤ, suc, pos, ◌+◌, ◌-◌, ◌≤◌, leb, Bool, true, false, List, [], ◌∷◌, ◌++◌, append_assoc, append-nil, length, get_or, Option, Some, None, Ok, Err, arith}
 use Rattle.std.specs.Prelude.{if◌then◌else◌, ◌&&◌, nat_le}
 use Rattle.std.proofs.lemmas.Bool.Decides.{nat_tests}
 use Rattle.nest_lang.specs.declared.observe.Seen.TheVariants as see
 use Rattle.nest_lang.specs.Values.{same}
-use Rattle.nest_lang.specs.Stores.{Store, store_of}
-use Rattle.nest_lang.specs.Lookups.{plain, line_of}
+use Rattle.nest_lang.specs.Stores.{Store}
+use Rattle.nest_lang.specs.Lookups.{plain}
 use Rattle.nest_lang.specs.Traces.{Occurrence, Observation, Halt, Trapped, Stopped, Over, Trace, Finish, Done, Halted, Limited, Cut, cut_of, cut, seen_in}
 use Rattle.nest_lang.specs.Traces as traces
 use Rattle.nest_lang.specs.Statements.{scalars_from}
 use Rattle.orders.specs.Chains.{State}
-use Rattle.orders.specs.Runs.{Outcome}
 use Rattle.follow.specs.declared.how.How.{How}
 use Rattle.follow.specs.declared.how.How.TheVariants as how
-use Rattle.follow.specs.Forecasts.{agrees, all_agree, same_all, Forecast}
+use Rattle.follow.specs.Forecasts.{all_agree, same_all, Forecast}
 use Rattle.follow.specs.Plans.{frame_with}
 use Rattle.follow.specs.Reaches.{reach, Reached}
 use Rattle.follow.specs.FollowRuns.{state_of, ended_with}
-use Rattle.follow.specs.ChunkRuns.{ChunkRun, scalars_at, closing_at, chunk_run}
+use Rattle.follow.specs.ChunkRuns.{ChunkRun, scalars_at, closing_at}
 use Rattle.follow.specs.Deviations.{Deviation, Differs, Halts, Limit, IsFirst, IsDeviation, FollowsPrediction}
 use Rattle.follow.specs.Hows.{how_refused, how_seen, how_of, how_of_finish, scalars_differ}
 use Rattle.follow.specs.Followed.{IsFollowed}

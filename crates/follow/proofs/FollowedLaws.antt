@@ -1,19 +1,17 @@
 -- An instance of a block that was run with its addresses verified, followed.
-use Rattle.std.proofs.Common.{◌≡◌, refl, ap, ◌∙◌, sym, subst, ℕ, ℤ, ◌+◌, true, List, [], length, Option, Some, None, Result, Ok, Err}
+use Rattle.std.proofs.Common.{◌≡◌, ap, ◌∙◌, sym, ℕ, ℤ, ◌+◌, true, List, [], length, Option, Some, None, Result, Ok, Err}
 use Rattle.nest_lang.specs.declared.tree.Stmt.{Stmt}
 use Rattle.nest_lang.specs.Stores.{Store, store_of}
 use Rattle.nest_lang.specs.Lookups.{Expectation}
-use Rattle.nest_lang.specs.Traces.{Occurrence, Trace, Finish, Done, Cut, cut_of, cut}
-use Rattle.nest_lang.specs.Expressions.{Frame}
+use Rattle.nest_lang.specs.Traces.{Occurrence, Trace, Done, Cut, cut_of, cut}
 use Rattle.nest_lang.specs.Statements.{announced, instance_trace}
 use Rattle.block_exec.specs.declared.halt.Halt as code
 use Rattle.block_exec.specs.declared.halt.Cut as code_cut
 use Rattle.block_exec.specs.declared.halt.Cut.TheVariants as short
 use Rattle.block_exec.specs.Halts.{finish_of}
 use Rattle.follow.specs.declared.how.How.{How}
-use Rattle.follow.specs.declared.verify.Interval.{Interval}
 use Rattle.follow.specs.Forecasts.{expectation_at, all_agree, same_all, Forecast}
-use Rattle.follow.specs.Intervals.{interval_of, verified_by}
+use Rattle.follow.specs.Intervals.{Intervals, verified_by}
 use Rattle.follow.specs.Plans.{frame_with}
 use Rattle.follow.specs.Hows.{how_of_finish, scalars_differ}
 use Rattle.follow.specs.Followed.{Foretold, IsFollowed}
@@ -27,18 +25,18 @@ not-done short.Halted halt e = cc
 not-done short.Limited halt e = cc
 
 -- what is expected of an instance is what its addresses are verified against
-pub foretold-verified : (p : Forecast) (at next : Occurrence) (scalars : List ℤ) (intervals : List (Option Interval)) (after : List ℤ) → Foretold p at next scalars intervals after → verified_by intervals ≡ expectation_at p at
+pub foretold-verified : (p : Forecast) (at next : Occurrence) (scalars : List ℤ) (intervals : Intervals) (after : List ℤ) → Foretold p at next scalars intervals after → verified_by intervals ≡ expectation_at p at
 foretold-verified p at next scalars intervals after told =
-    let is : interval_of intervals ≡ p.interval at = λ i access. sym (told.addresses access) i in
+    let is : intervals ≡ p.interval at = λ i access. sym (told.addresses access) i in
     ap (λ (g : ℕ → _). record { verifies = true; loads = g; stores = g }) is
 
-pub foretold-announced : (p : Forecast) (at next : Occurrence) (values scalars words : List ℤ) (intervals : List (Option Interval)) (after : List ℤ) → Foretold p at next scalars intervals after
+pub foretold-announced : (p : Forecast) (at next : Occurrence) (values scalars words : List ℤ) (intervals : Intervals) (after : List ℤ) → Foretold p at next scalars intervals after
     → all_agree p (announced (f p at values) (store_of words scalars [])) ≡ true
 foretold-announced p at next values scalars words intervals after told =
     announced-agree p (frame_with at values (expectation_at p at)) (store_of words scalars []) (ap length told.begins)
     ∙ ap (same_all scalars) told.begins ∙ same_all-self scalars
 
-module _ (p : Forecast) (at next : Occurrence) (values scalars : List ℤ) (intervals : List (Option Interval)) (after : List ℤ) (told : Foretold p at next scalars intervals after) (words : List ℤ) (block : List Stmt) where
+module _ (p : Forecast) (at next : Occurrence) (values scalars : List ℤ) (intervals : Intervals) (after : List ℤ) (told : Foretold p at next scalars intervals after) (words : List ℤ) (block : List Stmt) where
   abbrev from : Store
   from = store_of words scalars []
 

@@ -24,16 +24,15 @@ use Rattle.follow.specs.declared.how.Turning.{Turning}
 use Rattle.follow.specs.declared.how.Turning.TheVariants as turning
 use Rattle.follow.specs.declared.how.Turns.{Turns}
 use Rattle.follow.specs.declared.how.Turns.TheVariants as turns
-use Rattle.follow.specs.declared.verify.Interval.{Interval}
 use Rattle.follow.specs.Forecasts.{expectation_at, expects_turn, all_agree, Forecast}
-use Rattle.follow.specs.Intervals.{verified_by}
+use Rattle.follow.specs.Intervals.{Intervals, verified_by}
 use Rattle.follow.specs.Plans.{frame_with, work_trace, Evaluates}
 use Rattle.follow.specs.ChunkRuns.{closing_at}
 use Rattle.follow.specs.Deviations.{Differs, Limit, IsFirst}
-use Rattle.follow.specs.Hows.{how_seen, how_of_finish, scalars_differ}
+use Rattle.follow.specs.Hows.{how_of_finish, scalars_differ}
 use Rattle.follow.specs.Turnings.{yield_by, IsTurning, condition_differs, turns_differ}
 use Rattle.follow.specs.Followed.{Foretold, IsFollowed}
-use Rattle.follow.proofs.Showing.{Fine, FineTrace, fine-one, HeadFine, head-fine}
+use Rattle.follow.proofs.Showing.{Fine, fine-one, HeadFine, head-fine}
 use Rattle.follow.proofs.Yields.{agree-append}
 use Rattle.follow.proofs.FollowedLaws.{foretold-verified, foretold-announced}
 use Rattle.follow.proofs.Comparing.{run_by, Differ, Deviates, first-front, all-nil, followed-cut, followed-scalar, followed-done}
@@ -243,7 +242,7 @@ module _ (p : Forecast) (next : Occurrence) (at : Occurrence) (values : List ℤ
         (followed-done p next at values (trace_by seen (Ok (yield_by y))) s (suc got.0) u (cut_of s got.0 1 Done) (fine-one p at values (entry seen) None agree all) (cut-one seen None got.0) refl taken sizes same))
 
 -- the same of what a run says whose addresses are verified
-module _ (p : Forecast) (at next : Occurrence) (values scalars : List ℤ) (intervals : List (Option Interval)) (after : List ℤ) (told : Foretold p at next scalars intervals after) (words : List ℤ) (head : Head) where
+module _ (p : Forecast) (at next : Occurrence) (values scalars : List ℤ) (intervals : Intervals) (after : List ℤ) (told : Foretold p at next scalars intervals after) (words : List ℤ) (head : Head) where
   abbrev from : Store
   from = store_of words scalars []
 

@@ -21,5 +21,6 @@ pub mod Reordering
 pub mod VerifyLaws
 pub mod Showing
 pub mod Comparing
+pub mod Differing
 pub mod FollowedLaws
 pub mod HeadedLaws

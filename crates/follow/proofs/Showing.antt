@@ -10,16 +10,15 @@ use Rattle.nest_lang.specs.declared.tree.Stmt.TheFolds.{fold-roll-Stmt, ind-Stmt
 use Rattle.nest_lang.specs.declared.tree.Head.{Head}
 use Rattle.nest_lang.specs.declared.tree.Head.TheVariants.{For, While}
 use Rattle.nest_lang.specs.declared.tree.Trap.{Trap}
-use Rattle.nest_lang.specs.declared.observe.Stop.{Stop}
 use Rattle.nest_lang.specs.declared.observe.Stop.TheVariants.{Unexpected}
 use Rattle.nest_lang.specs.declared.observe.Seen.TheVariants.{Address, Lower, Trip, Condition}
-use Rattle.nest_lang.specs.Values.{same, apply_of, negate_of, trip_count}
-use Rattle.nest_lang.specs.Stores.{Store, word_at, Nothing, Local, Scalar, effect_on}
+use Rattle.nest_lang.specs.Values.{same, apply_of, negate_of}
+use Rattle.nest_lang.specs.Stores.{Store, word_at, Nothing, effect_on}
 use Rattle.nest_lang.specs.Lookups.{lies_in, line_of, look, look_load, look_store, word_or_outside}
 use Rattle.nest_lang.specs.Traces.{Occurrence, Observation, Entry, Halt, Trapped, Stopped, Over, Trace, joined, and_then, in_turn, Transition, step_of, traced, after_all, seen_of}
-use Rattle.nest_lang.specs.Expressions.{Frame, shown, Told, telling, then_tell, or_trapped, or_stopped, expression_level, told_by, told, place_value}
+use Rattle.nest_lang.specs.Expressions.{Frame, shown, Told, then_tell, or_trapped, or_stopped, expression_level, told_by, told, place_value}
 use Rattle.nest_lang.specs.Statements.{with_value, stored, statement_level, statement_trace, block_trace, started, announced, shown_before, instance_trace}
-use Rattle.nest_lang.specs.Heads.{Yield, Bounds, Tested, Headed, heading, then_head, head_of, as_number}
+use Rattle.nest_lang.specs.Heads.{Yield, Bounds, Tested, Headed, then_head, head_of, as_number}
 use Rattle.follow.specs.Forecasts.{expectation_at, all_agree, Forecast}
 use Rattle.follow.specs.Plans.{frame_with}
 use Rattle.follow.proofs.Yields.{agree-append}

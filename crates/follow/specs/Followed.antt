@@ -1,13 +1,11 @@
 -- Followed: the run of one instance against what is expected of it.
-use Rattle.std.specs.Prelude.{◌≡◌, ℕ, ℤ, List, length, Option, Some, Result, Ok, Err}
+use Rattle.std.specs.Prelude.{◌≡◌, ℕ, ℤ, List, length, Some, Result, Ok, Err}
 use Rattle.nest_lang.specs.Stores.{Store}
 use Rattle.nest_lang.specs.Traces.{Occurrence, Trace}
 use Rattle.block_exec.specs.declared.site.Site.{Site}
-use Rattle.orders.specs.Runs.{Outcome}
 use Rattle.follow.specs.declared.how.How.{How}
-use Rattle.follow.specs.declared.verify.Interval.{Interval}
 use Rattle.follow.specs.Forecasts.{Forecast}
-use Rattle.follow.specs.Intervals.{interval_of}
+use Rattle.follow.specs.Intervals.{Intervals}
 use Rattle.follow.specs.Reaches.{reach}
 use Rattle.follow.specs.FollowRuns.{state_of, ended_with}
 use Rattle.follow.specs.ChunkRuns.{chunk_run}
@@ -20,9 +18,9 @@ occurrence_at site = record { block = site.block; counters = site.counters.now }
 
 -- these scalars are expected as an instance begins, these intervals of its accesses, and those scalars of its
 -- successor
-pub record Foretold (p : Forecast) (at next : Occurrence) (scalars : List ℤ) (intervals : List (Option Interval)) (after : List ℤ) : Type 0 where
+pub record Foretold (p : Forecast) (at next : Occurrence) (scalars : List ℤ) (intervals : Intervals) (after : List ℤ) : Type 0 where
   pub begins : p.scalars at ≡ scalars
-  pub addresses : (access : ℕ) → p.interval at access ≡ interval_of intervals access
+  pub addresses : (access : ℕ) → p.interval at access ≡ intervals access
   pub closes : p.scalars next ≡ after
   pub sizes : length after ≡ length scalars
 

@@ -16,9 +16,9 @@ ghost use Rattle.follow.specs.Intervals.{verified_by};
 ghost use Rattle.follow.specs.Plans.{work_trace, Evaluates};
 ghost use Rattle.follow.specs.Turnings.{yield_by, IsTurning};
 
+use crate::expected::Expected;
 use crate::how::{How, Turning, Turns};
-use crate::instance::Expected;
-use crate::verify::{Interval, VerifyingPort};
+use crate::verify::VerifyingPort;
 use block_exec::{Blind, Cut, Halt, Port, Run, Site, Watch};
 use nest_lang::{Budget, Head};
 
@@ -91,10 +91,10 @@ fn head_over<P: Port>(
 }
 
 /// The same with each address verified, over a port that verifies nothing.
-fn head_verified<P: Port>(
+fn head_verified<P: Port, E: Expected>(
     site: &Site<'_>,
     head: &Head,
-    intervals: &[Option<Interval>],
+    expected: &E,
     scalars: &mut [i64],
     port: &mut P,
     left: u64,
@@ -103,7 +103,7 @@ fn head_verified<P: Port>(
     requires scalars { length scalars.old ≤ 256 }
     requires strides { strides head.now ≡ true }
     requires plain { (P.expects port.old).verifies ≡ false }
-    ensures evaluated { yield_where_left yield_by result.yielded result.halt ≡ where_left left (head_of (frame_at site.now (verified_by intervals.now)) head.now (store_of (P.memory port.old) scalars.old [])).value }
+    ensures evaluated { yield_where_left yield_by result.yielded result.halt ≡ where_left left (head_of (frame_at site.now (verified_by (E.intervals expected.now))) head.now (store_of (P.memory port.old) scalars.old [])).value }
     ensures memory { P.memory port.new ≡ P.memory port.old }
     ensures left { result.steps.left ≡ left - 1 }
     ensures steps { result.steps.left + result.steps.used ≡ left }
@@ -111,7 +111,7 @@ fn head_verified<P: Port>(
     ensures expects { P.expects port.new ≡ P.expects port.old }
     ensures basis { P.basis port.new ≡ P.basis port.old }
 {
-    let mut verified = VerifyingPort::new(port, intervals);
+    let mut verified = VerifyingPort::new(port, expected);
     head_over(site, head, scalars, &mut verified, left)
 }
 
@@ -120,10 +120,10 @@ fn head_verified<P: Port>(
 /// scalar. It gives the steps, which are at most those left, or how it differs first. Where it doesn't differ, the scalars
 /// that are expected after it are i64s. The steps left are at most 2^32, there are at most 256 scalars, and a stride is
 /// not 0.
-pub fn follow_head<P: Port>(
+pub fn follow_head<P: Port, E: Expected>(
     site: &Site<'_>,
     head: &Head,
-    expected: &Expected<'_>,
+    expected: &E,
     turning: Turning,
     scalars: &mut [i64],
     port: &mut P,
@@ -133,15 +133,15 @@ pub fn follow_head<P: Port>(
     requires scalars { length scalars.old ≤ 256 }
     requires strides { strides head.now ≡ true }
     requires plain { (P.expects port.old).verifies ≡ false }
-    ensures followed { (p : Forecast) (next : Occurrence) → Foretold p (occurrence_at site.now) next scalars.old expected.now.intervals.now expected.now.after.now → IsTurning p (occurrence_at site.now) head.now turning
+    ensures followed { (p : Forecast) (next : Occurrence) → Foretold p (occurrence_at site.now) next scalars.old (E.intervals expected.now) (E.after expected.now) → IsTurning p (occurrence_at site.now) head.now turning
         → IsFollowed p next (work_trace (frame_at site.now (expectation_at p (occurrence_at site.now))) (Evaluates head.now) (store_of (P.memory port.old) scalars.old [])) (store_of (P.memory port.old) scalars.old []) left result (P.memory port.new) }
     ensures memory { P.memory port.new ≡ P.memory port.old }
-    ensures fits { IsOk result → (k : ℕ) → k < length scalars.old → FitsSigned w64 (slice_index_or expected.now.after.now k (pos 0)) }
+    ensures fits { IsOk result → (k : ℕ) → k < length scalars.old → FitsSigned w64 (slice_index_or (E.after expected.now) k (pos 0)) }
     ensures scalars { scalars.new ≡ scalars.old }
     ensures expects { P.expects port.new ≡ P.expects port.old }
     ensures basis { P.basis port.new ≡ P.basis port.old }
 {
-    let ended = head_verified(site, head, expected.intervals, scalars, port, left);
+    let ended = head_verified(site, head, expected, scalars, port, left);
     let yielded = match ended.yielded {
         Ok(yielded) => yielded,
         Err(cut) => return Err(How::of_cut(cut, ended.halt)),
@@ -149,7 +149,7 @@ pub fn follow_head<P: Port>(
     if let Some(how) = How::of_turns(site.block.level, turning, yielded) {
         return Err(how);
     }
-    if let Some(how) = How::of_scalars(expected.after, scalars) {
+    if let Some(how) = How::of_scalars(expected, scalars) {
         return Err(how);
     }
     Ok(ended.steps.used)

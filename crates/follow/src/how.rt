@@ -6,6 +6,7 @@ ghost use Rattle.block_exec.specs.Halts.{finish_of};
 ghost use Rattle.follow.specs.Hows.{how_of_finish, scalars_differ};
 ghost use Rattle.follow.specs.Turnings.{turns_differ};
 
+use crate::expected::Expected;
 use block_exec::{Cut, Halt};
 use nest_lang::Trap;
 
@@ -89,14 +90,15 @@ impl How {
         }
     }
 
-    /// The first scalar that differs from the expected one. Where there is none, each of these is expected to be an i64.
-    pub(crate) fn of_scalars(expected: &[i128], scalars: &[i64]) -> Option<How>
+    /// The first scalar that differs from the one expected after an instance. Where there is none, each of these is
+    /// expected to be an i64.
+    pub(crate) fn of_scalars<E: Expected>(expected: &E, scalars: &[i64]) -> Option<How>
         requires { length scalars.now ≤ 256 }
-        ensures first { result ≡ scalars_differ expected.now 0 scalars.now }
-        ensures fits { IsNone result → (k : ℕ) → k < length scalars.now → FitsSigned w64 (slice_index_or expected.now k (pos 0)) }
+        ensures first { result ≡ scalars_differ (E.after expected.now) 0 scalars.now }
+        ensures fits { IsNone result → (k : ℕ) → k < length scalars.now → FitsSigned w64 (slice_index_or (E.after expected.now) k (pos 0)) }
     {
         for (number, scalar) in scalars.iter().enumerate() {
-            let wanted = expected.get(number).copied().unwrap_or(0);
+            let wanted = expected.scalar_after(number as u8);
             if wanted != i128::from(*scalar) {
                 return Some(How::Scalar(number as u8, wanted, *scalar));
             }

@@ -12,8 +12,9 @@ ghost use Rattle.follow.specs.Forecasts.{Forecast, expectation_at};
 ghost use Rattle.follow.specs.Followed.{Foretold, IsFollowed, occurrence_at};
 ghost use Rattle.follow.specs.Intervals.{verified_by};
 
+use crate::expected::Expected;
 use crate::how::How;
-use crate::verify::{Interval, VerifyingPort};
+use crate::verify::VerifyingPort;
 use block_exec::{Blind, Cut, Halt, Port, Run, Site};
 use nest_lang::{Budget, Stmt};
 
@@ -60,10 +61,10 @@ fn block_over<P: Port>(
 }
 
 /// The same with each address verified, over a port that verifies nothing.
-fn block_verified<P: Port>(
+fn block_verified<P: Port, E: Expected>(
     site: &Site<'_>,
     block: &[Stmt],
-    intervals: &[Option<Interval>],
+    expected: &E,
     scalars: &mut [i64],
     port: &mut P,
     left: u64,
@@ -72,22 +73,14 @@ fn block_verified<P: Port>(
     requires scalars { length scalars.old ≤ 256 }
     requires plain { (P.expects port.old).verifies ≡ false }
     ensures ran { cut_of (store_of (P.memory port.new) scalars.new []) result.steps.left result.steps.used (finish_of result.end result.halt)
-        ≡ cut (instance_trace (frame_at site.now (verified_by intervals.now)) block.now (store_of (P.memory port.old) scalars.old [])) (store_of (P.memory port.old) scalars.old []) left 0 }
+        ≡ cut (instance_trace (frame_at site.now (verified_by (E.intervals expected.now))) block.now (store_of (P.memory port.old) scalars.old [])) (store_of (P.memory port.old) scalars.old []) left 0 }
     ensures steps { result.steps.left + result.steps.used ≡ left }
     ensures scalars { length scalars.new ≡ length scalars.old }
     ensures expects { P.expects port.new ≡ P.expects port.old }
     ensures basis { P.basis port.new ≡ P.basis port.old }
 {
-    let mut verified = VerifyingPort::new(port, intervals);
+    let mut verified = VerifyingPort::new(port, expected);
     block_over(site, block, scalars, &mut verified, left)
-}
-
-/// What is expected of an instance: the interval of each of its accesses, by number, and the scalars that its
-/// successor begins with.
-#[derive(Clone, Copy, Debug)]
-pub struct Expected<'e> {
-    pub intervals: &'e [Option<Interval>],
-    pub after: &'e [i128],
 }
 
 /// Runs an instance of a block that has statements, with these scalars, and compares it with what is expected of
@@ -95,10 +88,10 @@ pub struct Expected<'e> {
 /// are at most those left, or how it differs first. The port's words are then those after the steps that were taken;
 /// where it doesn't differ, the scalars that are expected after it are i64s. The steps left are at most 2^32, and there
 /// are at most 256 scalars.
-pub fn follow_block<P: Port>(
+pub fn follow_block<P: Port, E: Expected>(
     site: &Site<'_>,
     block: &[Stmt],
-    expected: &Expected<'_>,
+    expected: &E,
     scalars: &mut [i64],
     port: &mut P,
     left: u64,
@@ -106,19 +99,19 @@ pub fn follow_block<P: Port>(
     requires steps { left ≤ 2 ^ 32 }
     requires scalars { length scalars.old ≤ 256 }
     requires plain { (P.expects port.old).verifies ≡ false }
-    ensures followed { (p : Forecast) (next : Occurrence) → Foretold p (occurrence_at site.now) next scalars.old expected.now.intervals.now expected.now.after.now
+    ensures followed { (p : Forecast) (next : Occurrence) → Foretold p (occurrence_at site.now) next scalars.old (E.intervals expected.now) (E.after expected.now)
         → IsFollowed p next (instance_trace (frame_at site.now (expectation_at p (occurrence_at site.now))) block.now (store_of (P.memory port.old) scalars.old [])) (store_of (P.memory port.old) scalars.old []) left result (P.memory port.new) }
-    ensures words { P.memory port.new ≡ (cut (instance_trace (frame_at site.now (verified_by expected.now.intervals.now)) block.now (store_of (P.memory port.old) scalars.old [])) (store_of (P.memory port.old) scalars.old []) left 0).store.memory }
-    ensures fits { IsOk result → (k : ℕ) → k < length scalars.old → FitsSigned w64 (slice_index_or expected.now.after.now k (pos 0)) }
+    ensures words { P.memory port.new ≡ (cut (instance_trace (frame_at site.now (verified_by (E.intervals expected.now))) block.now (store_of (P.memory port.old) scalars.old [])) (store_of (P.memory port.old) scalars.old []) left 0).store.memory }
+    ensures fits { IsOk result → (k : ℕ) → k < length scalars.old → FitsSigned w64 (slice_index_or (E.after expected.now) k (pos 0)) }
     ensures scalars { length scalars.new ≡ length scalars.old }
     ensures expects { P.expects port.new ≡ P.expects port.old }
     ensures basis { P.basis port.new ≡ P.basis port.old }
 {
-    let ended = block_verified(site, block, expected.intervals, scalars, port, left);
+    let ended = block_verified(site, block, expected, scalars, port, left);
     if let Err(cut) = ended.end {
         return Err(How::of_cut(cut, ended.halt));
     }
-    if let Some(how) = How::of_scalars(expected.after, scalars) {
+    if let Some(how) = How::of_scalars(expected, scalars) {
         return Err(how);
     }
     Ok(ended.steps.used)

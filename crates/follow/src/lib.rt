@@ -15,15 +15,17 @@
 //! which run instances in the order of a schedule and on several threads, rest on these laws and calls.
 #![tactic(auto)]
 
+mod expected;
 mod head;
 mod how;
 mod instance;
 pub mod laws;
 mod verify;
 
+pub use expected::Expected;
 pub use head::follow_head;
 pub use how::{How, Turning};
-pub use instance::{Expected, follow_block};
+pub use instance::follow_block;
 pub use verify::{Interval, VerifyingPort};
 
 #[cfg(test)]

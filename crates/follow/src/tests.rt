@@ -1,4 +1,5 @@
-ghost use Rattle.std.specs.Prelude.{◌≡◌, ◌≤◌, ◌^◌, true};
+ghost use Rattle.std.specs.Prelude.{◌≡◌, ◌≤◌, ◌^◌, true, None, slice_index_or};
+ghost use Rattle.follow.specs.Intervals.{interval_by};
 ghost use Rattle.nest_lang.specs.Rules.{strides};
 
 use super::*;
@@ -8,8 +9,9 @@ use sqlite_items::{Boxed, Items};
 use std::alloc::{AllocError, Global};
 use std::test::Fail;
 
-/// Access 1 is expected at 1 and 2, access 2 nowhere, and access 3 from 0 to 6.
-const EXPECTED: [Option<Interval>; 3] = [
+/// Access 1 is expected at 1 and 2, access 2 nowhere, and access 3 from 0 to 6; there is no access 0.
+const EXPECTED: [Option<Interval>; 4] = [
+    None,
     Some(Interval {
         line: 1,
         low: 0,
@@ -23,6 +25,27 @@ const EXPECTED: [Option<Interval>; 3] = [
     }),
 ];
 
+/// Intervals by access number, and the scalars after an instance.
+#[derive(Clone, Copy)]
+struct Listed<'e> {
+    intervals: &'e [Option<Interval>],
+    after: [i128; 2],
+}
+
+impl Expected for Listed<'_> {
+    ghost intervals = { λ e access. interval_by (slice_index_or e.intervals.now access None) };
+
+    ghost after = { λ e. e.after };
+
+    fn interval(&self, access: u8) -> Option<Interval> {
+        self.intervals.get(access as usize).copied().unwrap_or(None)
+    }
+
+    fn scalar_after(&self, number: u8) -> i128 {
+        self.after.get(number as usize).copied().unwrap_or(0)
+    }
+}
+
 fn unexpected(seen: i64, expected: Option<i128>) -> Stop {
     Stop::Unexpected { seen, expected }
 }
@@ -31,7 +54,11 @@ fn unexpected(seen: i64, expected: Option<i128>) -> Stop {
 fn loads_are_compared_with_their_intervals(rt: HostRuntime) -> Result<(), Fail> {
     let mut memory = [7, 8, 9];
     let mut port = MemoryPort::new(&mut memory);
-    let mut verified = VerifyingPort::new(&mut port, &EXPECTED);
+    let expected = Listed {
+        intervals: &EXPECTED,
+        after: [5, 6],
+    };
+    let mut verified = VerifyingPort::new(&mut port, &expected);
     assert_eq!(rt; verified.load(1, 1), Ok(8));
     assert_eq!(rt; verified.load(1, 2), Ok(9));
     assert_eq!(rt; verified.load(1, 0), Err(unexpected(0, Some(1))));
@@ -48,7 +75,11 @@ fn loads_are_compared_with_their_intervals(rt: HostRuntime) -> Result<(), Fail> 
 fn a_refused_store_leaves_the_memory(rt: HostRuntime) -> Result<(), Fail> {
     let mut memory = [7, 8, 9];
     let mut port = MemoryPort::new(&mut memory);
-    let mut verified = VerifyingPort::new(&mut port, &EXPECTED);
+    let expected = Listed {
+        intervals: &EXPECTED,
+        after: [5, 6],
+    };
+    let mut verified = VerifyingPort::new(&mut port, &expected);
     assert_eq!(rt; verified.store(1, 2, 5), Ok(()));
     assert_eq!(rt; verified.store(1, 0, 5), Err(unexpected(0, Some(1))));
     assert_eq!(rt; verified.store(2, 1, 5), Err(unexpected(1, None)));
@@ -73,10 +104,7 @@ fn followed(
         level: 1,
     };
     let places = Places::new();
-    let expected = Expected {
-        intervals,
-        after: &after,
-    };
+    let expected = Listed { intervals, after };
     let mut scalars = [5, 6];
     let mut port = MemoryPort::new(words);
     follow_block(
@@ -105,9 +133,9 @@ fn evaluated(
         level,
     };
     let places = Places::new();
-    let expected = Expected {
+    let expected = Listed {
         intervals: &EXPECTED,
-        after: &after,
+        after,
     };
     let mut words = [9, 2];
     let mut scalars = [5, 6];

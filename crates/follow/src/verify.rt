@@ -3,8 +3,9 @@
 ghost use Rattle.std.specs.Prelude.{◌≡◌, ◌+ℤ◌, int_le, false, Some, None, if◌then◌else◌};
 ghost use Rattle.std.specs.Borrow.{GName};
 ghost use Rattle.nest_lang.specs.Lookups.{Expectation, lies_in, line_of};
-ghost use Rattle.follow.specs.Intervals.{interval_by, interval_of, verified_by};
+ghost use Rattle.follow.specs.Intervals.{interval_by, verified_by};
 
+use crate::expected::Expected;
 use block_exec::{Port, Stop};
 
 /// The addresses from line + low to line + high.
@@ -15,19 +16,18 @@ pub struct Interval {
     pub high: i64,
 }
 
-/// The memory of a port that verifies nothing, with what is expected of the addresses of one instance: the
-/// interval of access a at a - 1, where there is one. An address is compared before that port is asked, so no
-/// address that isn't expected reaches it.
+/// The memory of a port that verifies nothing, with what is expected of one instance. An address is compared before that
+/// port is asked, so no address that isn't expected reaches it.
 #[derive(Drop)]
-pub struct VerifyingPort<'p, 'e, P: Port> {
+pub struct VerifyingPort<'p, 'e, P: Port, E: Expected> {
     port: &'p mut P,
-    expected: &'e [Option<Interval>],
+    expected: &'e E,
     ghost plain: { (P.expects port.now).verifies ≡ false },
 }
 
-impl<'p, 'e, P: Port> VerifyingPort<'p, 'e, P> {
-    /// The port over this one, which verifies nothing, and these intervals.
-    pub fn new(port: &'p mut P, expected: &'e [Option<Interval>]) -> VerifyingPort<'p, 'e, P>
+impl<'p, 'e, P: Port, E: Expected> VerifyingPort<'p, 'e, P, E> {
+    /// The port over this one, which verifies nothing, with what is expected.
+    pub fn new(port: &'p mut P, expected: &'e E) -> VerifyingPort<'p, 'e, P, E>
         requires { (P.expects port.now).verifies ≡ false }
         ensures port { result.port ≡ port.entry }
         ensures expected { result.expected.now ≡ expected.now }
@@ -36,12 +36,12 @@ impl<'p, 'e, P: Port> VerifyingPort<'p, 'e, P> {
     }
 }
 
-impl<P: Port> Port for VerifyingPort<'_, '_, P> {
+impl<P: Port, E: Expected> Port for VerifyingPort<'_, '_, P, E> {
     ghost Basis = { P.Basis × Expectation × GName };
 
     ghost memory = { λ p. P.memory p.port.now };
 
-    ghost expects = { λ p. verified_by p.expected.now };
+    ghost expects = { λ p. verified_by (E.intervals p.expected.now) };
 
     ghost basis = { λ p. (P.basis p.port.now, P.expects p.port.now, p.port.ghost_name) };
 
@@ -71,7 +71,7 @@ impl<P: Port> Port for VerifyingPort<'_, '_, P> {
 impl Interval {
     /// Whether the address lies in the interval.
     fn has(self, address: i64) -> bool
-        ensures { result ≡ lies_in (interval_by (Some (Some self))) address }
+        ensures { result ≡ lies_in (interval_by (Some self)) address }
     {
         reaches(self.line, self.low, address) && stays_within(self.line, self.high, address)
     }
@@ -94,19 +94,11 @@ fn stays_within(line: i128, high: i64, address: i64) -> bool
     distance <= line
 }
 
-/// The interval of an access, from 1, where there is one.
-fn expected_at(expected: &[Option<Interval>], access: u8) -> Option<Interval>
-    ensures { interval_by (Some result) ≡ interval_of expected.now access }
-{
-    let place = access.checked_sub(1)?;
-    *expected.get(place as usize)?
-}
-
 /// The line of what is expected of that access, or that nothing is, where the address isn't expected.
-fn refused(expected: &[Option<Interval>], access: u8, address: i64) -> Option<Option<i128>>
-    ensures { result ≡ (if lies_in (interval_of expected.now access) address then None else Some (line_of (interval_of expected.now access))) }
+fn refused<E: Expected>(expected: &E, access: u8, address: i64) -> Option<Option<i128>>
+    ensures { result ≡ (if lies_in (E.intervals expected.now access) address then None else Some (line_of (E.intervals expected.now access))) }
 {
-    match expected_at(expected, access) {
+    match expected.interval(access) {
         Some(interval) if interval.has(address) => None,
         Some(interval) => Some(Some(interval.line)),
         None => Some(None),

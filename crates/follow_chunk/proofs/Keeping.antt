@@ -1,5 +1,5 @@
 -- Keeping: what an instance leaves, whether it deviates or not.
-use Rattle.std.proofs.Common.{◌≡◌, refl, sym, ap, ◌∙◌, subst, ℕ, ◌<◌, ◌≤◌, ℤ, pos, FitsSigned, w64, Bool, true, false, List, [], length, get_or, Option, Some, Ok, ⊎_elim, arith}
+use Rattle.std.proofs.Common.{◌≡◌, refl, sym, ap, ◌∙◌, subst, ℕ, ◌<◌, ◌≤◌, ℤ, pos, FitsSigned, w64, Bool, true, false, List, [], length, get_or, Some, Ok, ⊎_elim, arith}
 use Rattle.std.specs.Prelude.{◌^◌}
 use Rattle.std.proofs.lemmas.Bool.{cases_lt}
 use Rattle.std.proofs.lemmas.Int.{ints}
@@ -20,9 +20,8 @@ use Rattle.domain.specs.declared.chunk.Chunk.{Chunk}
 use Rattle.domain.specs.Tables.{Table}
 use Rattle.domain.specs.Instances.{Instance, block_of, Predicted}
 use Rattle.domain.specs.Steps.{next}
-use Rattle.follow.specs.declared.verify.Interval.{Interval}
 use Rattle.follow.specs.Forecasts.{expectation_at}
-use Rattle.follow.specs.Intervals.{interval_of, verified_by}
+use Rattle.follow.specs.Intervals.{Intervals, verified_by}
 use Rattle.follow.specs.Plans.{Item, item_trace, frame_with, occurrence}
 use Rattle.follow.specs.Footprints.{item_writes}
 use Rattle.follow.specs.Followed.{occurrence_at}
@@ -66,7 +65,7 @@ module _ (D scalars : ℕ) (loops : List Loop) (t : Table) (o : Outer) (chunk : 
 
   -- a block that was run with its addresses verified
   pub changes-block : (site : Site) → ((e : Expectation) → frame_at site e ≡ frame_of e (block_of t x).part (block_of t x).level (standing.A D scalars loops t o chunk words task x p))
-      → (intervals : List (Option Interval)) → ((access : ℕ) → interval_at t x access ≡ interval_of intervals access)
+      → (intervals : Intervals) → ((access : ℕ) → interval_at t x access ≡ intervals access)
       → (m after sc : List ℤ) (ss : List Stmt) → sc ≡ scalars_at t x → statements_of loops (block_ref (block_of t x).part (block_of t x).level) ≡ Some ss
       → after ≡ (cut (instance_trace (frame_at site (verified_by intervals)) ss (store_of m sc [])) (store_of m sc []) (2 ^ 32) 0).store.memory
       → ChangesWrites t x m after

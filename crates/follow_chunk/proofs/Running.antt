@@ -33,9 +33,8 @@ use Rattle.domain.proofs.RankLaws.{Stands}
 use Rattle.follow.specs.declared.how.How.{How}
 use Rattle.follow.specs.declared.how.Turning.{Turning}
 use Rattle.follow.specs.declared.how.Turning.TheVariants.{Bounds, Holds}
-use Rattle.follow.specs.declared.verify.Interval.{Interval}
 use Rattle.follow.specs.Forecasts.{Forecast, expectation_at, last_of, around_last}
-use Rattle.follow.specs.Intervals.{interval_of}
+use Rattle.follow.specs.Intervals.{Intervals}
 use Rattle.follow.specs.Plans.{item, occurrence, Item, Work, Runs, Evaluates, frame_with, work_trace, item_trace}
 use Rattle.follow.specs.Followed.{Foretold, IsFollowed, occurrence_at}
 use Rattle.follow.specs.Turnings.{IsTurning}
@@ -82,6 +81,10 @@ take-take_less (suc n) zero xs l = absurd (omega arith)
 take-take_less (suc n) (suc m) [] l = refl
 take-take_less (suc n) (suc m) (x ∷ xs) l = ap (λ (zs : List ℤ). x ∷ zs) (take-take_less n m xs (omega arith))
 
+nothing : (xs : List ℤ) → length xs ≡ 0 → xs ≡ []
+nothing [] e = refl
+nothing (x ∷ xs) e = absurd (omega arith)
+
 module _ (D scalars : ℕ) (loops : List Loop) (t : Table) (o : Outer) (chunk : Chunk) (words : ℤ) (task : IsTask D scalars loops t o chunk words) (x : Instance) (p : Predicted t chunk x) where
   abbrev q : Forecast
   q = forecast_of t
@@ -101,7 +104,12 @@ module _ (D scalars : ℕ) (loops : List Loop) (t : Table) (o : Outer) (chunk : 
   pub count-next : length (block_of t (next t x)).scalars ≡ scalars
   count-next = forms-of (next t x).block (standing.next-instance D scalars loops t o chunk words task x p).block
 
-  foretold : (intervals : List (Option Interval)) → ((access : ℕ) → interval_at t x access ≡ interval_of intervals access) → Foretold q (occurrence_of t x) (occurrence_of t (next t x)) (scalars_at t x) intervals (scalars_at t (next t x))
+  -- without scalars every instance begins with those of the successor
+  pub none-behind : scalars ≡ 0 → scalars_at t x ≡ scalars_at t (next t x)
+  none-behind e =
+      nothing (scalars_at t x) (length-scalars t x ∙ count-here ∙ e) ∙ sym (nothing (scalars_at t (next t x)) (length-scalars t (next t x) ∙ count-next ∙ e))
+
+  foretold : (intervals : Intervals) → ((access : ℕ) → interval_at t x access ≡ intervals access) → Foretold q (occurrence_of t x) (occurrence_of t (next t x)) (scalars_at t x) intervals (scalars_at t (next t x))
   foretold intervals each = record {
     begins = ap (scalars_at t) io;
     addresses = λ access. ap (λ (y : Instance). interval_at t y access) io ∙ each access;
@@ -109,7 +117,7 @@ module _ (D scalars : ℕ) (loops : List Loop) (t : Table) (o : Outer) (chunk : 
     sizes = length-scalars t (next t x) ∙ count-next ∙ sym (length-scalars t x ∙ count-here);
   }
 
-  module _ (site : Site) (frames : (e : Expectation) → frame_at site e ≡ frame_of e (block_of t x).part (block_of t x).level (standing.A D scalars loops t o chunk words task x p)) (intervals : List (Option Interval)) (each : (access : ℕ) → interval_at t x access ≡ interval_of intervals access) (m after : List ℤ) (result : Result ℕ How) where
+  module _ (site : Site) (frames : (e : Expectation) → frame_at site e ≡ frame_of e (block_of t x).part (block_of t x).level (standing.A D scalars loops t o chunk words task x p)) (intervals : Intervals) (each : (access : ℕ) → interval_at t x access ≡ intervals access) (m after : List ℤ) (result : Result ℕ How) where
     abbrev here : Occurrence
     here = occurrence (block_of t x).part (block_of t x).level (standing.A D scalars loops t o chunk words task x p)
 

@@ -1,19 +1,14 @@
 -- Tasks: a launched chunk of a nest, with what is predicted of it.
-use Rattle.std.specs.Prelude.{◌≡◌, ◌^◌, ℕ, ℤ, pos, ◌≤ℤ◌, unsigned_abs, List, None}
+use Rattle.std.specs.Prelude.{◌≡◌, ◌^◌, ℕ, ℤ, pos, ◌≤ℤ◌, unsigned_abs, List}
 use Rattle.nest_lang.specs.declared.tree.Loop.{Loop}
 use Rattle.nest_lang.specs.declared.state.Outer.{Outer}
 use Rattle.nest_lang.specs.Rules.{NestKeeps}
 use Rattle.nest_lang.specs.Turns.{IsPositionIn}
 use Rattle.domain.specs.declared.chunk.Chunk.{Chunk}
-use Rattle.domain.specs.declared.table.LoopKind.TheVariants.{For}
-use Rattle.domain.specs.Tables.{Table, level_at, IsTable}
-use Rattle.domain.specs.Shapes.{IsTableOf}
+use Rattle.domain.specs.Tables.{Table, IsTable}
+use Rattle.domain.specs.Shapes.{IsTableOf, LowersWithTrips}
 use Rattle.domain.specs.Launches.{IsLaunched}
 use Rattle.follow.specs.ChunkRuns.{HasTurnsIn}
-
--- a `for` with a form of its trip has one of its lower bound too: its head shows both or neither
-abbrev pub LowersWithTrips : Table → Type 0
-LowersWithTrips t = (k : ℕ) (stride : ℤ) → (level_at t k).kind ≡ For stride → (level_at t k).lower ≡ None → (level_at t k).trip ≡ None
 
 -- a chunk of a nest of D loops in a file with so many scalars, over so many words: the nest keeps the rules, the table
 -- is one of it, the chunk has the next turns from the position of the outermost loop, which that loop has, and it is

@@ -1,14 +1,38 @@
 //! What is expected of an instance.
 
-ghost use Rattle.std.specs.Prelude.{◌≡◌, ◌<◌, ◌≤◌, ℕ, pos, Some, length, slice_index_or, FitsSigned};
+ghost use Rattle.std.specs.Prelude.{◌≡◌, ◌<◌, ◌≤◌, ℕ, pos, length, slice_index_or, FitsSigned};
 ghost use Rattle.std.specs.Int.{w64};
 ghost use Rattle.domain.specs.Instances.{block_of};
-ghost use Rattle.follow.specs.Intervals.{interval_by, interval_of};
+ghost use Rattle.follow.specs.Intervals.{interval_by};
 ghost use Rattle.follow_chunk.specs.Predicted.{scalars_at, interval_at};
 
 use arrayvec::ArrayVec;
 use domain::{Instance, Prediction, What, expected};
-use follow::Interval;
+use follow::{Expected, Interval};
+
+/// A scalar expected as an instance begins, by number; 0 where there is no form of it.
+#[tactic(auto, using(crate::proofs::Predicting::scalar_expected))]
+pub fn expected_scalar<const D: usize>(pred: &Prediction<D>, inst: &Instance<D>, number: u8) -> i128
+    requires { D < 7 }
+    ensures { result ≡ slice_index_or (scalars_at pred.now inst.now) number (pos 0) }
+{
+    expected(pred, inst, What::Scalar(number)).unwrap_or(0)
+}
+
+/// The expected interval of an access, by number; None where there is no form of its line.
+#[tactic(auto, unfolding(crate::specs::Predicted::interval_at))]
+pub fn expected_interval<const D: usize>(
+    pred: &Prediction<D>,
+    inst: &Instance<D>,
+    access: u8,
+) -> Option<Interval>
+    requires { D < 7 }
+    ensures { interval_by result ≡ interval_at pred.now inst.now access }
+{
+    let line = expected(pred, inst, What::Address(access))?;
+    let (low, high) = pred.tube(inst.block, access)?;
+    Some(Interval { line, low, high })
+}
 
 /// The scalars expected as an instance begins, of which there are so many (at most 16).
 pub fn scalars_at<const D: usize>(
@@ -23,7 +47,7 @@ pub fn scalars_at<const D: usize>(
 {
     let mut scalars = ArrayVec::new();
     for number in 0..count {
-        scalars.push(expected(pred, inst, What::Scalar(number)).unwrap_or(0));
+        scalars.push(expected_scalar(pred, inst, number));
     }
     scalars
 }
@@ -41,35 +65,39 @@ pub fn narrowed(scalars: &[i128]) -> ArrayVec<i64, 16>
     narrow
 }
 
-/// The expected interval of an access.
-#[tactic(auto, unfolding(crate::specs::Predicted::interval_at))]
-fn interval<const D: usize>(
-    pred: &Prediction<D>,
-    inst: &Instance<D>,
-    access: u8,
-) -> Option<Interval>
-    requires { D < 7 }
-    ensures { interval_by (Some result) ≡ interval_at pred.now inst.now access }
+/// Sets each scalar to the one expected as an instance begins, which is an i64.
+pub(crate) fn begin<const D: usize>(pred: &Prediction<D>, inst: &Instance<D>, scalars: &mut [i64])
+    requires few { D < 7 }
+    requires short { length scalars.old ≤ 16 }
+    requires count { length (block_of pred.now inst.now).scalars ≡ length scalars.old }
+    requires fits { (k : ℕ) → FitsSigned w64 (slice_index_or (scalars_at pred.now inst.now) k (pos 0)) }
+    ensures { scalars.new ≡ scalars_at pred.now inst.now }
 {
-    let line = expected(pred, inst, What::Address(access))?;
-    let (low, high) = pred.tube(inst.block, access)?;
-    Some(Interval { line, low, high })
+    for number in 0..scalars.len() {
+        scalars[number] = expected_scalar(pred, inst, number as u8) as i64;
+    }
 }
 
-/// The expected intervals of the accesses of an instance, of which there are so many (at most 64).
-pub fn intervals_at<const D: usize>(
-    pred: &Prediction<D>,
-    inst: &Instance<D>,
-    count: usize,
-) -> ArrayVec<Option<Interval>, 64>
-    requires few { D < 7 }
-    requires short { count ≤ 64 }
-    requires count { length (block_of pred.now inst.now).accesses ≡ count }
-    ensures { (access : ℕ) → interval_at pred.now inst.now access ≡ interval_of result.items access }
-{
-    let mut intervals = ArrayVec::new();
-    for place in 0..count {
-        intervals.push(interval(pred, inst, place as u8 + 1));
+/// What a prediction expects of one instance, after which the scalars are those that `next` begins with. A form is found by
+/// its index and evaluated where its value is asked for.
+#[derive(Drop)]
+pub(crate) struct Foreseen<'a, const D: usize> {
+    pub pred: &'a Prediction<D>,
+    pub inst: &'a Instance<D>,
+    pub next: Instance<D>,
+    ghost few: { D < 7 },
+}
+
+impl<const D: usize> Expected for Foreseen<'_, D> {
+    ghost intervals = { λ e. interval_at e.pred.now e.inst.now };
+
+    ghost after = { λ e. scalars_at e.pred.now e.next };
+
+    fn interval(&self, access: u8) -> Option<Interval> {
+        expected_interval(self.pred, self.inst, access)
     }
-    intervals
+
+    fn scalar_after(&self, number: u8) -> i128 {
+        expected_scalar(self.pred, &self.next, number)
+    }
 }

@@ -5,32 +5,21 @@ ghost use Rattle.nest_lang.specs.declared.tree.Part.TheVariants.{Head as HeadPar
 ghost use Rattle.nest_lang.specs.Blocks.{block_ref, head_at};
 ghost use Rattle.domain.specs.Instances.{block_of, Predicted};
 ghost use Rattle.domain.specs.Steps.{next};
-ghost use Rattle.follow.specs.Intervals.{interval_of};
 ghost use Rattle.follow.specs.Turnings.{IsTurning};
-ghost use Rattle.follow_chunk.specs.Predicted.{occurrence_of, scalars_at, interval_at, forecast_of};
+ghost use Rattle.follow_chunk.specs.Predicted.{occurrence_of, scalars_at, forecast_of};
 ghost use Rattle.follow_chunk.specs.Tasks.{IsTask, IsSomeTask};
 ghost use Rattle.follow_chunk.specs.Followed.{IsRun, IsInstanceFollowed, ChangesWrites, ClosesSmall, IsClosedSmall};
 
-use crate::expect::{intervals_at, narrowed, scalars_at};
+use crate::expect::{Foreseen, begin};
 use crate::place::cut;
 use crate::task::{Deviation, Followed, Task};
-use arrayvec::ArrayVec;
 use block_exec::Port;
 use domain::{Instance, What, expected, successor};
-use follow::{Expected, How, Interval, Turning, follow_block, follow_head};
+use follow::{How, Turning, follow_block, follow_head};
 use nest_lang::{BlockRef, Head};
 
 /// More steps than an instance has: its block has fewer than 2^20 statements.
 const MOST_STEPS: u64 = 1 << 32;
-
-/// What is due of an instance: the scalars that it begins with, the interval of each of its accesses, and the scalars
-/// that its successor begins with.
-#[derive(Drop)]
-struct Due {
-    scalars: ArrayVec<i64, 16>,
-    intervals: ArrayVec<Option<Interval>, 64>,
-    after: ArrayVec<i128, 16>,
-}
 
 impl<const D: usize> Task<'_, D> {
     /// The block of an instance.
@@ -46,22 +35,34 @@ impl<const D: usize> Task<'_, D> {
         }
     }
 
-    /// What is due of an instance.
-    fn due(&self, inst: &Instance<D>) -> Due
+    /// An instance that is expected to begin with the scalars of the successor: that successor, and where there are no
+    /// scalars any.
+    fn behind(&self, inst: &Instance<D>) -> Instance<D>
         requires few { D < 7 }
         requires task { IsSomeTask D self.now.scalars self.now.nest.now.loops self.now.pred.now self.now.outer self.now.chunk }
         requires predicted { Predicted self.now.pred.now self.now.chunk inst.now }
-        ensures scalars { result.scalars.items ≡ scalars_at self.now.pred.now inst.now }
-        ensures intervals { (access : ℕ) → interval_at self.now.pred.now inst.now access ≡ interval_of result.intervals.items access }
-        ensures after { result.after.items ≡ scalars_at self.now.pred.now (next self.now.pred.now inst.now) }
+        ensures { scalars_at self.now.pred.now result ≡ scalars_at self.now.pred.now (next self.now.pred.now inst.now) }
     {
-        let begins = scalars_at(self.pred, inst, self.scalars);
-        let behind = successor(self.pred, inst);
-        let accesses = self.pred.block(inst.block).accesses.as_slice();
-        Due {
-            scalars: narrowed(begins.as_slice()),
-            intervals: intervals_at(self.pred, inst, accesses.len()),
-            after: scalars_at(self.pred, &behind, self.scalars),
+        let count = self.scalars;
+        if count == 0 {
+            return *inst;
+        }
+        successor(self.pred, inst)
+    }
+
+    /// What is expected of an instance.
+    fn foreseen<'i>(&'i self, inst: &'i Instance<D>) -> Foreseen<'i, D>
+        requires few { D < 7 }
+        requires task { IsSomeTask D self.now.scalars self.now.nest.now.loops self.now.pred.now self.now.outer self.now.chunk }
+        requires predicted { Predicted self.now.pred.now self.now.chunk inst.now }
+        ensures pred { result.pred.now ≡ self.now.pred.now }
+        ensures inst { result.inst.now ≡ inst.now }
+        ensures next { scalars_at self.now.pred.now result.next ≡ scalars_at self.now.pred.now (next self.now.pred.now inst.now) }
+    {
+        Foreseen {
+            pred: self.pred,
+            inst,
+            next: self.behind(inst),
         }
     }
 
@@ -109,20 +110,18 @@ impl<const D: usize> Task<'_, D> {
         };
         let places = self.places(inst, loops as usize);
         let site = places.site(block, loops as usize);
-        let mut due = self.due(inst);
-        let expected = Expected {
-            intervals: due.intervals.as_slice(),
-            after: due.after.as_slice(),
-        };
-        let scalars = due.scalars.as_mut_slice();
+        let mut room = [0; 16];
+        let scalars = &mut room[..self.scalars as usize];
+        begin(self.pred, inst, scalars);
+        let foreseen = self.foreseen(inst);
         if let Some(statements) = self.nest.statements(block) {
-            return follow_block(&site, statements, &expected, scalars, port, MOST_STEPS);
+            return follow_block(&site, statements, &foreseen, scalars, port, MOST_STEPS);
         }
         let Some(head) = self.nest.head(block.level) else {
             unreachable!()
         };
         let turning = self.turning(inst, block, head);
-        follow_head(&site, head, &expected, turning, scalars, port, MOST_STEPS)
+        follow_head(&site, head, &foreseen, turning, scalars, port, MOST_STEPS)
     }
 }
 

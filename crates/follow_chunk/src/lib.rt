@@ -6,10 +6,10 @@
 //! instance after another, up to the first that differs. Their contracts give the follow run and the deviation of
 //! `follow`, at the forecast that the prediction's table makes.
 //!
-//! The crate stands on `follow`, whose calls run one block or head against lists of what is expected, and on `domain`,
-//! which has predictions, instances and their successors. It takes no memory. `laws` ties its instances to the items
-//! that `follow`'s laws speak of. The layers that run tiles of instances on several threads use its calls, and its
-//! definitions of forecasts and items.
+//! The crate stands on `follow`, whose calls run one block or head against what is expected of it, and on `domain`,
+//! which has predictions, instances and their successors. It takes no memory: a form is evaluated where its value is
+//! asked for. `laws` ties its instances to the items that `follow`'s laws speak of. The layers that run tiles of instances
+//! on several threads use its calls, and its definitions of forecasts and items.
 #![tactic(auto)]
 
 mod expect;
@@ -19,7 +19,7 @@ mod list;
 mod place;
 mod task;
 
-pub use expect::{narrowed, scalars_at};
+pub use expect::{expected_interval, expected_scalar, narrowed, scalars_at};
 pub use instance::follow_instance;
 pub use list::follow_list;
 pub use task::{Deviation, Followed, Task};

@@ -91,23 +91,23 @@ trip-reaches : (stride D : ℕ) (samples : List Sample) (trip : Option Affine) �
 trip-reaches stride D samples None few h all = tt
 trip-reaches stride D samples (Some form) few h all = reach stride D samples form few h.0 h.1.line all
 
-kind-at : (levels : List Level) (ls : List Loop) (k : ℕ) (l : Loop) → map (λ (x : Level). x.kind) levels ≡ map (λ (m : Loop). kind_of m.head) ls → slice_get ls k ≡ Some l → (get_or levels k no_level).kind ≡ kind_of l.head
+pub kind-at : (levels : List Level) (ls : List Loop) (k : ℕ) (l : Loop) → map (λ (x : Level). x.kind) levels ≡ map (λ (m : Loop). kind_of m.head) ls → slice_get ls k ≡ Some l → (get_or levels k no_level).kind ≡ kind_of l.head
 kind-at levels [] k l e at = absurd (cc)
 kind-at [] (m ∷ ls) k l e at = absurd (cc)
 kind-at (x ∷ levels) (m ∷ ls) zero l e at = let same : m ≡ l = cc in let kind : x.kind ≡ kind_of m.head = cc in kind ∙ ap (λ (z : Loop). kind_of z.head) same
 kind-at (x ∷ levels) (m ∷ ls) (suc k) l e at = kind-at levels ls k l (cc) at
 
-past-none : (levels : List Level) (k : ℕ) → length levels ≤ k → get_or levels k no_level ≡ no_level
+pub past-none : (levels : List Level) (k : ℕ) → length levels ≤ k → get_or levels k no_level ≡ no_level
 past-none [] k h = refl
 past-none (x ∷ levels) zero h = absurd (omega (arith, h))
 past-none (x ∷ levels) (suc k) h = past-none levels k (omega (arith, h))
 
-nth : (xs : List Loop) (k : ℕ) → k < length xs → (l : Loop) × (slice_get xs k ≡ Some l)
+pub nth : (xs : List Loop) (k : ℕ) → k < length xs → (l : Loop) × (slice_get xs k ≡ Some l)
 nth [] k h = absurd (omega (arith, h))
 nth (x ∷ xs) zero h = (x, refl)
 nth (x ∷ xs) (suc k) h = nth xs k (omega (arith, h))
 
-in-or-past : (k n : ℕ) → (k < n) ⊎ (n ≤ k)
+pub in-or-past : (k n : ℕ) → (k < n) ⊎ (n ≤ k)
 in-or-past k n = grind arith
 
 abbrev ReachesAt : Level → Type 0

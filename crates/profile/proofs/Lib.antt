@@ -1,3 +1,4 @@
+pub mod BoundsLaws
 pub mod EndLaws
 pub mod ExampleLaws
 pub mod FitLaws
@@ -10,6 +11,7 @@ pub mod OneFitLaws
 pub mod OneUnfitLaws
 pub mod ReachLaws
 pub mod SamplerLaws
+pub mod ShownBounds
 pub mod SomeFitLaws
 pub mod TripLaws
 pub mod WholeLaws

@@ -174,7 +174,7 @@ module _ (D scalars : ℕ) (loops : List Loop) (observations : List Observation)
     bounds-are : bounds_of Head (suc (suc j)) ≡ Lower ∷ Trip ∷ []
     bounds-are = bounds-two D observations block refl (omega arith)
 
-    has-lower : Contains (data_of scalars loops block) Lower
+    pub has-lower : Contains (data_of scalars loops block) Lower
     has-lower = Contains-append_right front (bounds_of Head (suc (suc j))) Lower (subst (λ (ws : List What). Contains ws Lower) (sym bounds-are) (0, omega arith, refl))
 
     pub has-trip : Contains (data_of scalars loops block) Trip

@@ -55,7 +55,7 @@ each-left : {A : Type 0} (P : A → Type 0) (xs ys : List A) → Each P (xs ++ y
 each-left P [] ys h = tt
 each-left P (x ∷ xs) ys h = (h.0, each-left P xs ys h.1)
 
-each-right : {A : Type 0} (P : A → Type 0) (xs ys : List A) → Each P (xs ++ ys) → Each P ys
+pub each-right : {A : Type 0} (P : A → Type 0) (xs ys : List A) → Each P (xs ++ ys) → Each P ys
 each-right P [] ys h = h
 each-right P (x ∷ xs) ys h = each-right P xs ys h.1
 
@@ -145,7 +145,7 @@ module _ (B : ℕ) (small : B ≤ 2 ^ 33) (loops : List Loop) where
   effect-fits s (Scalar number v) h f = record { memory = f.memory; scalars = All-set I64 s.scalars number v h f.scalars; locals = f.locals }
   effect-fits s (Word address v) h f = record { memory = All-set I64 s.memory address v h f.memory; scalars = f.scalars; locals = f.locals }
 
-  after-fits : (n : ℕ) (s : Store) (es : List Entry) → Sound n es → length es ≤ n → IsOfI64s s → IsOfI64s (after_all s es)
+  pub after-fits : (n : ℕ) (s : Store) (es : List Entry) → Sound n es → length es ≤ n → IsOfI64s s → IsOfI64s (after_all s es)
   after-fits n s [] h l f = f
   after-fits zero s (e ∷ es) h l f = absurd (omega (arith, l))
   after-fits (suc n) s (e ∷ es) h l f = after-fits n (effect_on s e.effect) es h.3 (omega (arith, l)) (effect-fits s e.effect h.2 f)
@@ -338,7 +338,7 @@ module _ (B : ℕ) (small : B ≤ 2 ^ 33) (loops : List Loop) where
         (block-sound block h j (started u) (record { memory = f.memory; scalars = f.scalars; locals = All-replicate I64 16 (pos 0) (pos-fits 0 (omega arith)) }))
 
     -- ---- heads
-    abbrev YieldFine : Head → Result Yield Halt → Type 0
+    abbrev pub YieldFine : Head → Result Yield Halt → Type 0
     YieldFine (For lower upper stride) (Ok y) = YieldsTo stride y
     YieldFine (For lower upper stride) (Err halt) = Unit {0}
     YieldFine (While condition) r = Unit {0}
@@ -350,7 +350,7 @@ module _ (B : ℕ) (small : B ≤ 2 ^ 33) (loops : List Loop) where
     then_head-fine h os (Ok z) go good f none more = let m = more z f in (each-append Good os (go z).seen good m.0, m.1)
     then_head-fine h os (Err halt) go good f none more = (good, none halt)
 
-    head-fine : (l0 : Loop) → loop_at loops at.block.level ≡ Some l0 → (head : Head) → l0.head ≡ head → Each I64 (head_numbers head) → strides head ≡ true → (s : Store) → IsOfI64s s → HeadedFine head (head_of g head s)
+    pub head-fine : (l0 : Loop) → loop_at loops at.block.level ≡ Some l0 → (head : Head) → l0.head ≡ head → Each I64 (head_numbers head) → strides head ≡ true → (s : Store) → IsOfI64s s → HeadedFine head (head_of g head s)
     unfolding head_of
     head-fine l0 found (For lower upper stride) is h turns s f =
         let front = each-left I64 (expression_numbers lower ++ expression_numbers upper) (stride ∷ []) h in
@@ -460,7 +460,7 @@ module _ (B : ℕ) (small : B ≤ 2 ^ 33) (loops : List Loop) where
         at zero h = absurd (omega (arith, h))
         at (suc n) h = traced-some (headed (frame_of plain part.Head level (inward a 0 (pos 0))) head (turn_if (turn (inward a 0 (pos 0))) (whiles_from n (0 + 1) (λ t. frame_of plain part.Head level (inward a t (pos t))) head (λ t. turn (inward a t (pos t))))) s) s
 
-    turn-takes : (l : Loop) (ls : List Loop) (level : ℕ) → loop_keeps l ls ≡ true → (a : Around) (s : Store) → Takes (turn_trace plain level l (loops_trace plain k (level + 1) ls) a s)
+    pub turn-takes : (l : Loop) (ls : List Loop) (level : ℕ) → loop_keeps l ls ≡ true → (a : Around) (s : Store) → Takes (turn_trace plain level l (loops_trace plain k (level + 1) ls) a s)
     unfolding turn_trace
     turn-takes l [] level h a s =
         let pre = instance_trace (frame_of plain part.Pre level a) l.pre s in

@@ -8,3 +8,4 @@ pub mod Logs
 pub mod Parts
 pub mod Reach
 pub mod Sampled
+pub mod TurnLaws

@@ -3,6 +3,7 @@
 ghost use Rattle.profile.specs.Laws.{FitOrFirstUnfit, FitOrUnfit, FormIsOnlyAffine, OneFirstUnfit, OneFit, SamplesLieInTubes};
 ghost use Rattle.profile.specs.Reach.{FormsStayWithinReach, TripsStayWithinReach};
 ghost use Rattle.profile.specs.Sampled.{SamplerKeepsAll};
+ghost use Rattle.profile.specs.TurnLaws.{FitsAreTables, LowersComeWithTrips};
 
 /// A sampler that was shown a list of things, one after another, keeps the observations among them, in order, or was
 /// refused memory.
@@ -49,4 +50,14 @@ pub fn trips_stay_within_reach()
 /// Where the trips that were seen stay within reach, so do the forms of a fit: `fit` finds no form beyond it.
 pub fn forms_stay_within_reach()
     ensures { FormsStayWithinReach }
+{}
+
+/// The fit of what some turns show has a form of the lower bound of each `for` of whose trip it has one.
+pub fn lowers_come_with_trips()
+    ensures { LowersComeWithTrips }
+{}
+
+/// The fit of what some turns show is a table, as a prediction has.
+pub fn fits_are_tables()
+    ensures { FitsAreTables }
 {}

@@ -1,5 +1,4 @@
-use Rattle.std.proofs.Common.{◌∙◌, ap, ap₂, sym, pos, Option, List, ℤ, ◌++◌, ◌∷◌, [], arith, rules}
-use Rattle.std.specs.Prelude.{unwrap_or}
+use Rattle.std.proofs.Common.{◌∙◌, ap₂, sym, List, ℤ, ◌++◌, ◌∷◌, [], arith, rules}
 use Rattle.std.specs.Int.{w128}
 use Rattle.std.proofs.lemmas.Int.{to_z-of_z}
 use Rattle.std.proofs.lemmas.List.{take_all}
@@ -11,10 +10,9 @@ pub loop-number-preserved : goal.loop-number-preserved
 loop-number-preserved g c =
     let room = c.requires.count in
     let test = c.loop-number-test.true in
-    let read = to_z-of_z w128 c.unwrap_or.result (search rules) in
-    let value = c.unwrap_or.ensures ∙ ap (λ (v : Option ℤ). unwrap_or v (pos 0)) c.expected.ensures in
+    let read = to_z-of_z w128 c.expected_scalar.result (search rules) in
     c.push.ensures.items ∙ ap₂ (λ (xs : List ℤ) (v : ℤ). xs ++ v ∷ []) c.loop-number.invariant read
-    ∙ sym (scalar-next c.args.pred.now c.args.inst.now c.loop-number.number c.unwrap_or.result (omega arith) value)
+    ∙ sym (scalar-next c.args.pred.now c.args.inst.now c.loop-number.number c.expected_scalar.result (omega arith) c.expected_scalar.ensures)
 
 pub returns : goal.returns
 returns g c =
