@@ -1,5 +1,5 @@
 -- States, and the blocks that they stand for.
-use Rattle.std.proofs.Common.{◌≡◌, ◌≤◌, ℤ, Bool, true, false, List, [], ◌∷◌, ◌++◌, length, take, drop, refl, sym, ap, ap₂, ◌∙◌, subst, arith}
+use Rattle.std.proofs.Common.{◌≡◌, ◌≤◌, ℤ, pos, ◌+ℤ◌, Bool, true, false, List, [], ◌∷◌, ◌++◌, length, take, drop, refl, sym, ap, ap₂, ◌∙◌, subst, arith}
 use Rattle.std.specs.Prelude.{Option, Some, None, IfSome, MatchOption, if◌then◌else◌}
 use Rattle.arrayvec.specs.ArrayVec.{ArrayVec}
 use Rattle.affine.specs.declared.row.Row.{Row}
@@ -10,7 +10,7 @@ use Rattle.level_walk.specs.Places.{Place}
 use Rattle.level_walk.specs.Lattices.{in_cell}
 use Rattle.level_walk.specs.Blocks.{BlockStands, block_left}
 use Rattle.level_walk.specs.declared.runs.Run.{Run}
-use Rattle.level_walk.proofs.BlockLemmas.{head_at}
+use Rattle.level_walk.proofs.BlockLemmas.{bumped_at, head_at}
 use Rattle.level_walk.specs.States.{StateStands, head_of, place_of, run_of, state_left}
 use Rattle.level_walk.specs.declared.states.State.{State}
 
@@ -64,3 +64,16 @@ head_scanned s state stands = at state.begun refl
     at : (b : Bool) → state.begun ≡ b → MatchOption (if b then Some (record { items = items }) else None) (state_left s state ≡ []) (λ (point : ArrayVec ℤ). state_left s state ≡ point.items ∷ drop 1 (state_left s state))
     at true e = head_state s state items e refl stands
     at false e = ap (λ (b : Bool). block_left s (if b then Some (record { front = record { items = take state.width state.front }; low = state.low; high = state.high }) else None) (place_of state)) e
+
+-- the run of a state, from this last value on
+abbrev run_at : State → ℤ → Run
+run_at state low = record { front = record { items = take state.width state.front }; low = low; high = state.high }
+
+begun_run : (state : State) → state.begun ≡ true → run_of state ≡ Some (run_at state state.low)
+begun_run state begun = ap (λ (b : Bool). if b then Some (run_at state state.low) else None) begun
+
+-- the first point is taken off a run in which another one follows
+pub advanced_left : (s : Space) (state : State) → state.begun ≡ true → StateStands s state → state_left s (record state { low = state.low +ℤ pos 1 }) ≡ drop 1 (state_left s state)
+advanced_left s state begun stands =
+    ap (λ (o : Option Run). block_left s o (place_of state)) (begun_run (record state { low = state.low +ℤ pos 1 }) begun)
+    ∙ bumped_at s (run_of state) (run_at state state.low) (run_at state (state.low +ℤ pos 1)) (place_of state) stands.block (begun_run state begun) refl

@@ -214,8 +214,36 @@ pub fn started(scan: &Scan, rows: &[Row], lows: &[i64], highs: &[i64]) -> State
     packed(walk.cursor(), walk.run())
 }
 
+/// The state once the first point is taken off the run, where another one follows.
+fn advanced(state: &State) -> Option<State>
+    ensures some { IfSome result (λ next. (s : Space) → StateStands s state.now → StateStands s next) }
+    ensures left { IfSome result (λ next. (s : Space) → StateStands s state.now → state_left s next ≡ drop 1 (state_left s state.now)) }
+{
+    if state.begun && state.low < state.high {
+        Some(State {
+            low: state.low + 1,
+            ..*state
+        })
+    } else {
+        None
+    }
+}
+
 /// The walk once its first point is taken off.
 pub fn moved(scan: &Scan, rows: &[Row], lows: &[i64], highs: &[i64], state: &State) -> State
+    requires fits { FitsCell scan.now rows.now lows.now highs.now }
+    requires stands { StateStands (in_cell (length scan.now.levels) rows.now lows.now highs.now) state.now }
+    ensures stands { StateStands (in_cell (length scan.now.levels) rows.now lows.now highs.now) result }
+    ensures left { let space = in_cell (length scan.now.levels) rows.now lows.now highs.now in state_left space result ≡ drop 1 (state_left space state.now) }
+{
+    match advanced(state) {
+        Some(next) => next,
+        None => refilled(scan, rows, lows, highs, state),
+    }
+}
+
+/// The same by the walk that the state stands for.
+fn refilled(scan: &Scan, rows: &[Row], lows: &[i64], highs: &[i64], state: &State) -> State
     requires fits { FitsCell scan.now rows.now lows.now highs.now }
     requires stands { StateStands (in_cell (length scan.now.levels) rows.now lows.now highs.now) state.now }
     ensures stands { StateStands (in_cell (length scan.now.levels) rows.now lows.now highs.now) result }

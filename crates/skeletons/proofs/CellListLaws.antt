@@ -88,10 +88,10 @@ floor-small z (suc n) h = abs-floor z n
 pub near-fits : (z : ℤ) → IsNear z → FitsSigned w64 z
 near-fits z near = let a = near.low in let b = near.high in fits_signed_from_abs w64 z (omega (arith, ints, a, b))
 
-zero-fits : FitsSigned w64 (pos 0)
+pub zero-fits : FitsSigned w64 (pos 0)
 zero-fits = fits_signed_from_abs w64 (pos 0) (omega arith)
 
-past : (xs : List ℤ) (k : ℕ) → length xs ≤ k → counter xs k ≡ pos 0
+pub past : (xs : List ℤ) (k : ℕ) → length xs ≤ k → counter xs k ≡ pos 0
 past [] k h = refl
 past (x ∷ xs) zero h = absurd (omega arith)
 past (x ∷ xs) (suc k) h = past xs k (omega arith)

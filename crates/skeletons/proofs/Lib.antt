@@ -7,3 +7,5 @@ pub mod ListLaws
 pub mod SkeletonLaws
 pub mod RunListLaws
 pub mod CellListLaws
+pub mod PlaceListLaws
+pub mod SortedPointLaws

@@ -8,3 +8,4 @@ pub mod Boxes
 pub mod Frames
 pub mod RunLists
 pub mod CellLists
+pub mod PlaceLists

@@ -10,6 +10,7 @@ ghost use Rattle.skeletons.specs.Cells.{IsLaunch};
 ghost use Rattle.skeletons.specs.Frames.{Finds};
 ghost use Rattle.skeletons.specs.Scans.{IsRowsTo};
 
+use crate::place_list::listed_places;
 use crate::places::{greatest, least};
 use crate::side::Side;
 use affine::{Matrix, Row};
@@ -71,8 +72,8 @@ pub(crate) fn block_rows<const D: usize>(
     Ok(rows)
 }
 
-/// How the places of a block are found: by its rows where they can be eliminated. Where they can't be met it has none.
-/// Rows that grow too wide are given up as want of memory is.
+/// How the places of a block are found: by its rows where they can be eliminated, and else as a list. Where they can't be
+/// met it has none.
 pub(crate) fn block_scan<const D: usize>(
     alloc: Global,
     schedule: &Schedule<D>,
@@ -98,6 +99,8 @@ pub(crate) fn block_scan<const D: usize>(
         Ruling::Empty => Ok(BlockScan::Listed(Listing {
             points: Vec::new(alloc),
         })),
-        Ruling::Wide => Err(AllocError),
+        Ruling::Wide => Ok(BlockScan::Listed(Listing {
+            points: listed_places(alloc, schedule, scope, rank)?,
+        })),
     }
 }

@@ -14,6 +14,7 @@ mod cell_box;
 mod cell_list;
 mod frame;
 mod inverse;
+mod place_list;
 mod places;
 mod run_list;
 mod side;
