@@ -2,3 +2,11 @@ pub mod Standing
 pub mod Entering
 pub mod PlainRuns
 pub mod OneWay
+pub mod OneLaunch
+pub mod OneChunk
+pub mod OneJourney
+pub mod SomeLaunch
+pub mod SomeJourney
+pub mod Premises
+pub mod SomeWay
+pub mod TurnSteps

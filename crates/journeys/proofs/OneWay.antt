@@ -42,13 +42,13 @@ moment-same a b outer store left used =
     ∙ ap (λ (n : ℕ). record b { left = n; used = a.used }) left
     ∙ ap (λ (n : ℕ). record b { used = n }) used
 
-record SameRun (i j : ℕ) (f h : Finish) (p q : Moment) : Type 0 where
-  done : i ≡ j
-  finish : f ≡ h
-  there : p ≡ q
+pub record SameRun (i j : ℕ) (f h : Finish) (p q : Moment) : Type 0 where
+  pub done : i ≡ j
+  pub finish : f ≡ h
+  pub there : p ≡ q
 
 module _ (g : Setting) (m : Moment) where
-  ran-one : (c i j : ℕ) (finish finish' : Finish) (after after' : Moment) → Ran g m c i finish after → Ran g m c j finish' after' → SameRun i j finish finish' after after'
+  pub ran-one : (c i j : ℕ) (finish finish' : Finish) (after after' : Moment) → Ran g m c i finish after → Ran g m c j finish' after' → SameRun i j finish finish' after after'
   ran-one c i j finish finish' after after' a b =
       let k = suc m.left in
       let few : m.left < k = omega arith in
@@ -113,7 +113,7 @@ module _ (g : Setting) (observations : List Observation) where
 
 -- ---- a profile
 
-has-both : (b : Bool) → b ≡ true → b ≡ false → ⊥
+pub has-both : (b : Bool) → b ≡ true → b ≡ false → ⊥
 has-both b on off = false≢true (sym off ∙ on)
 
 module _ (g : Setting) (m : Moment) where

@@ -38,7 +38,7 @@ use Rattle.journeys.proofs.Entering.{entry-stops, entry-goes, Yields, stepped-go
 
 -- ---- moments
 
-no-turns : (loops : List Loop) (k : ℕ) (o : Outer) (s : Store) (left used : ℕ) → cut_of s left used Done ≡ cut (turns_trace plain k loops o 0 s) s left used
+pub no-turns : (loops : List Loop) (k : ℕ) (o : Outer) (s : Store) (left used : ℕ) → cut_of s left used Done ≡ cut (turns_trace plain k loops o 0 s) s left used
 unfolding turns_trace
 no-turns [] k o s left used = sym (cut-ends s left used)
 no-turns (l ∷ ls) k o s left used = elim l.head as (λ (h : Head). cut_of s left used Done ≡ cut (turns_by h plain l.head (turn_trace plain 1 l (loops_trace plain k 2 ls)) o 0 s) s left used) [

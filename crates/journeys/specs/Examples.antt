@@ -5,13 +5,16 @@ use Rattle.nest_lang.specs.declared.tree.Head.TheVariants.{For}
 use Rattle.nest_lang.specs.declared.tree.Loop.{Loop}
 use Rattle.nest_lang.specs.Stores.{Store}
 use Rattle.nest_lang.specs.Traces.{Done, Limited, cut_of}
+use Rattle.nest_grammar.specs.declared.file.File.{File}
 use Rattle.nest_grammar.specs.declared.version.Version.TheVariants.{One, Two}
+use Rattle.follow_chunk.specs.Laws.{one_row}
 use Rattle.legality.specs.declared.refusals.Refusal.{Refusal}
 use Rattle.report.specs.declared.journey.Options.{Options}
 use Rattle.report.specs.declared.line.Line.TheVariants as said
 use Rattle.journeys.specs.Settings.{Setting, turns_within, entry}
 use Rattle.journeys.specs.Tellings.{heading, illegal_line, illegal_lines}
 use Rattle.journeys.specs.Journeys.{IsNestJourney, IsJourneyOf}
+use Rattle.journeys.specs.Laws.{IsRunnable}
 use Rattle.journeys.specs.Journeys.IsNestJourney.{not_entered}
 
 -- a chunk has 32 turns, or the five that are left of a `for`
@@ -44,3 +47,11 @@ no_step_at_all lower upper s = not_entered Limited refl
 -- behind the last nest nothing is told
 pub behind_the_last : (options : Options) (s : Store) (left used : ℕ) → IsJourneyOf options Two 0 [] 3 s left used [] (cut_of s left used Done)
 behind_the_last options s left used = (refl, refl)
+
+-- a file of 40 words and one nest, for i = 0 below 40 { [i] = 1 }
+abbrev pub one_row_file : File
+one_row_file = record { version = One; scalars = []; words = 40; items = []; units = record { nest = record { loops = one_row }; names = []; scripts = [] } ∷ [] }
+
+-- the premises of the law on journeys can be met
+abbrev pub PremisesCanHold : Type 0
+PremisesCanHold = IsRunnable (record { workers = 4; chunk = pos 32; sample = pos 4; steps = 1000000 }) one_row_file
