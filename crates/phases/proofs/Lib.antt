@@ -1,0 +1,3 @@
+pub mod WorkerSteps
+pub mod Together
+pub mod Gathering

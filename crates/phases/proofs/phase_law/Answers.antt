@@ -1,0 +1,5 @@
+use Rattle.phases.proofs.Gathering.{phase_law}
+use Rattle.phases.proofs.phase_law.Goals as goal
+
+pub returns : goal.returns
+returns g c = phase_law _ _ c.lawful.ensures
