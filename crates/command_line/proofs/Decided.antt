@@ -14,7 +14,7 @@ use Rattle.command_line.specs.Syntax.{syntax}
 use Rattle.command_line.specs.declared.invocation.Invocation.{Invocation}
 use Rattle.command_line.specs.declared.invocation.Options.{Options}
 use Rattle.command_line.specs.declared.invocation.Mode.{Mode}
-use Rattle.command_line.specs.declared.invocation.Mode.TheVariants.{Plain, Check, Deps}
+use Rattle.command_line.specs.declared.invocation.Mode.TheVariants.{Plain, Run, Check, Deps}
 use Rattle.command_line.proofs.Found.{no_number, number_there, no_number_below, same_text}
 
 -- something is so, or nothing is
@@ -79,16 +79,18 @@ options rows = elim (has_number rows (codes "workers") 1 64) [
 
 -- the mode of a word
 mode : (word : Text) → Decided (λ m. word ≡ word_of m)
-mode word = at (bytes_eq word (codes "plain")) (bytes_eq word (codes "check")) (bytes_eq word (codes "deps")) refl refl refl
+mode word = at (bytes_eq word (codes "plain")) (bytes_eq word (codes "run")) (bytes_eq word (codes "check")) (bytes_eq word (codes "deps")) refl refl refl refl
   where
-    at : (plain check deps : Bool) → bytes_eq word (codes "plain") ≡ plain → bytes_eq word (codes "check") ≡ check → bytes_eq word (codes "deps") ≡ deps → Decided (λ m. word ≡ word_of m)
-    at true check deps e k l = inl (Plain, (bytes_eq-Decides word (codes "plain")).0 e)
-    at false true deps e k l = inl (Check, (bytes_eq-Decides word (codes "check")).0 k)
-    at false false true e k l = inl (Deps, (bytes_eq-Decides word (codes "deps")).0 l)
-    at false false false e k l = inr none
+    at : (plain run check deps : Bool) → bytes_eq word (codes "plain") ≡ plain → bytes_eq word (codes "run") ≡ run → bytes_eq word (codes "check") ≡ check → bytes_eq word (codes "deps") ≡ deps → Decided (λ m. word ≡ word_of m)
+    at true run check deps e r k l = inl (Plain, (bytes_eq-Decides word (codes "plain")).0 e)
+    at false true check deps e r k l = inl (Run, (bytes_eq-Decides word (codes "run")).0 r)
+    at false false true deps e r k l = inl (Check, (bytes_eq-Decides word (codes "check")).0 k)
+    at false false false true e r k l = inl (Deps, (bytes_eq-Decides word (codes "deps")).0 l)
+    at false false false false e r k l = inr none
       where
         none : (m : Mode) → word ≡ word_of m → ⊥
         none Plain h = let t : bytes_eq word (codes "plain") ≡ true = (bytes_eq-Decides word (codes "plain")).1 h in let bad : true ≡ false = sym t ∙ e in cc
+        none Run h = let t : bytes_eq word (codes "run") ≡ true = (bytes_eq-Decides word (codes "run")).1 h in let bad : true ≡ false = sym t ∙ r in cc
         none Check h = let t : bytes_eq word (codes "check") ≡ true = (bytes_eq-Decides word (codes "check")).1 h in let bad : true ≡ false = sym t ∙ k in cc
         none Deps h = let t : bytes_eq word (codes "deps") ≡ true = (bytes_eq-Decides word (codes "deps")).1 h in let bad : true ≡ false = sym t ∙ l in cc
 

@@ -14,7 +14,7 @@ use Rattle.command_line.specs.Modes.{word_of}
 use Rattle.command_line.specs.Syntax.{syntax}
 use Rattle.command_line.specs.declared.invocation.Invocation.{Invocation}
 use Rattle.command_line.specs.declared.invocation.Mode.{Mode}
-use Rattle.command_line.specs.declared.invocation.Mode.TheVariants.{Plain, Check, Deps}
+use Rattle.command_line.specs.declared.invocation.Mode.TheVariants.{Plain, Run, Check, Deps}
 
 pub nothing : {T : Type 0} (found : Option T) (P : T → Type 0) → found ≡ None → ((x : T) → P x → ⊥) → Finds found P
 nothing found P none h = subst (λ o. Finds o P) (sym none) h
@@ -68,6 +68,7 @@ some_that (Some y) x h = ap (λ z. Some z) h
 -- the mode of a word
 unfoldable pub mode_of : Text → Option Mode
 mode_of word = if bytes_eq word (codes "plain") then Some Plain
+    else if bytes_eq word (codes "run") then Some Run
     else if bytes_eq word (codes "check") then Some Check
     else if bytes_eq word (codes "deps") then Some Deps
     else None
@@ -75,6 +76,7 @@ mode_of word = if bytes_eq word (codes "plain") then Some Plain
 pub mode_of-word_of : (mode : Mode) → mode_of (word_of mode) ≡ Some mode
 unfolding mode_of
 mode_of-word_of Plain = refl
+mode_of-word_of Run = refl
 mode_of-word_of Check = refl
 mode_of-word_of Deps = refl
 

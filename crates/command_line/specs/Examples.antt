@@ -2,7 +2,7 @@
 use Rattle.std.specs.Prelude.{ℕ, pos, [], ◌∷◌, codes}
 use Rattle.command_line.specs.declared.invocation.Invocation.{Invocation}
 use Rattle.command_line.specs.declared.invocation.Mode.{Mode}
-use Rattle.command_line.specs.declared.invocation.Mode.TheVariants.{Plain, Check, Deps}
+use Rattle.command_line.specs.declared.invocation.Mode.TheVariants.{Plain, Run, Check, Deps}
 use Rattle.command_line.specs.Invocations.{IsInvocation, IsNoInvocation}
 
 -- a command of these numbers: workers, chunk, sample, steps
@@ -16,6 +16,7 @@ command mode workers chunk sample steps = record {
 -- after it, as two words or as one; leading zeros are fine
 pub record AreInvocations : Type 0 where
   pub plain : IsInvocation (codes "plain" ∷ []) (command Plain 4 32 4 1000000)
+  pub run : IsInvocation (codes "--sample" ∷ codes "8" ∷ codes "run" ∷ codes "--chunk=64" ∷ []) (command Run 4 64 8 1000000)
   pub check : IsInvocation (codes "check" ∷ []) (command Check 4 32 4 1000000)
   pub deps : IsInvocation (codes "deps" ∷ codes "--chunk=8" ∷ []) (command Deps 4 8 4 1000000)
   pub steps : IsInvocation (codes "plain" ∷ codes "--steps" ∷ codes "10" ∷ []) (command Plain 4 32 4 10)
@@ -27,7 +28,7 @@ pub record AreInvocations : Type 0 where
 pub record AreNone : Type 0 where
   pub no_word : IsNoInvocation []
   pub no_mode : IsNoInvocation (codes "--steps" ∷ codes "10" ∷ [])
-  pub another_mode : IsNoInvocation (codes "run" ∷ [])
+  pub another_mode : IsNoInvocation (codes "runs" ∷ [])
   pub an_argument : IsNoInvocation (codes "plain" ∷ codes "x" ∷ [])
   pub given_twice : IsNoInvocation (codes "plain" ∷ codes "--steps" ∷ codes "10" ∷ codes "--steps" ∷ codes "11" ∷ [])
   pub no_value : IsNoInvocation (codes "plain" ∷ codes "--steps" ∷ [])

@@ -2,9 +2,10 @@
 use Rattle.std.specs.Prelude.{codes}
 use Rattle.clap.specs.Words.{Text}
 use Rattle.command_line.specs.declared.invocation.Mode.{Mode}
-use Rattle.command_line.specs.declared.invocation.Mode.TheVariants.{Plain, Check, Deps}
+use Rattle.command_line.specs.declared.invocation.Mode.TheVariants.{Plain, Run, Check, Deps}
 
 abbrev pub word_of : Mode → Text
 word_of Plain = codes "plain"
+word_of Run = codes "run"
 word_of Check = codes "check"
 word_of Deps = codes "deps"

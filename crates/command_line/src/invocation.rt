@@ -9,6 +9,8 @@ ghost use Rattle.std.specs.Prelude.{◌≡◌};
 pub enum Mode {
     /// Run the file plainly, and write the outcome.
     Plain,
+    /// Run the file speculatively, and write the outcome and the lines of the journey.
+    Run,
     /// Write the canonical text of the file.
     Check,
     /// Write the dependence listing of the file.
@@ -22,6 +24,7 @@ impl Mode {
     {
         match word {
             "plain" => Some(Mode::Plain),
+            "run" => Some(Mode::Run),
             "check" => Some(Mode::Check),
             "deps" => Some(Mode::Deps),
             _ => None,

@@ -1,10 +1,11 @@
 -- Answers: which status has which cause, and that there is one.
-use Rattle.std.proofs.Common.{◌≡◌, refl, ap, ◌∙◌, sym, subst, ℕ, List, [], Option, Some, None, Result, Ok, Err, IfOk, ◌≤◌, ◌^◌, arith, pos, inl, inr}
+use Rattle.std.proofs.Common.{◌≡◌, refl, ap, ap₂, ◌∙◌, sym, subst, ℕ, ℤ, List, [], ◌++◌, Option, Some, None, Result, Ok, Err, IfOk, ◌≤◌, ◌≤ℤ◌, ◌^◌, arith, pos, inl, inr}
+use Rattle.std.proofs.lemmas.Int.{ints}
 use Rattle.nest_lang.specs.declared.tree.Trap.{Trap}
 use Rattle.nest_lang.specs.declared.budget.Ending.{Ending}
 use Rattle.nest_lang.specs.declared.budget.Ending.TheVariants as ending
 use Rattle.nest_lang.specs.Traces as traces
-use Rattle.nest_lang.specs.Traces.{Finish}
+use Rattle.nest_lang.specs.Traces.{Cut, Finish}
 use Rattle.nest_lang.specs.Runs.{finish_of_ending}
 use Rattle.nest_grammar.specs.declared.fault.TextFault.{TextFault}
 use Rattle.nest_grammar.specs.declared.file.File.{File}
@@ -18,22 +19,29 @@ use Rattle.report.proofs.RunLemmas.{longest_runs}
 use Rattle.report.proofs.OneList.{same_runs}
 use Rattle.command_line.specs.declared.invocation.Invocation.{Invocation}
 use Rattle.command_line.specs.declared.invocation.Mode.{Mode}
-use Rattle.command_line.specs.declared.invocation.Mode.TheVariants.{Plain, Check, Deps}
+use Rattle.command_line.specs.declared.invocation.Mode.TheVariants.{Plain, Run, Check, Deps}
 use Rattle.command_line.specs.declared.invocation.Options.{Options}
 use Rattle.command_line.specs.Invocations.{IsInvocation, IsNoInvocation, usage_line}
 use Rattle.command_line.proofs.Found.{one_invocation}
 use Rattle.command_line.proofs.Decided.{invocation_or_none}
 use Rattle.std.specs.Str.Parse.{digits_value}
+use Rattle.command_line.specs.Numbers.{IsNumberIn}
 use Rattle.nest_top.specs.declared.status.Status.{Status}
 use Rattle.nest_top.specs.declared.status.Status.TheVariants.{Ended, Trapped, Limited, Refused, Usage, SourceFault, SinkFault, NoMemory}
 use Rattle.nest_top.specs.Texts.{IsTextOf, text_taken}
-use Rattle.nest_top.specs.Answers.{AnswersFile, AnswersReading, Causes, Finishes, IsAnswer, IsListingOf, IsOutcomeOf, Prepared, finish_of, journey_options, run_of_file, status_of}
+use Rattle.nest_top.specs.Answers.{AnswersFile, AnswersReading, AreInRange, Causes, Finishes, IsAnswer, IsListingOf, IsOutcomeOf, IsReportOf, Prepared, finish_of, journey_options, run_of_file, status_of}
 use Rattle.nest_top.specs.Answers.IsAnswer.{usage, invoked}
 use Rattle.nest_text.specs.Files.{IsOfText, scalar_names}
-use Rattle.report.specs.Lines.{listing_text}
+use Rattle.report.specs.Lines.{line_text, listing_text}
+use Rattle.report.specs.declared.line.Line.{Line}
+use Rattle.journeys.specs.Journeys.{IsJourney}
+use Rattle.journeys.specs.Laws.{IsRunnable}
+use Rattle.journeys.proofs.OneJourney.{one-journey}
+use Rattle.journeys.proofs.SomeJourney.{some-journey}
+use Rattle.grammar_laws.proofs.Rules.{reading-keeps}
 use Rattle.listing.proofs.OneListing.{one-listing}
 use Rattle.std.specs.List.{flat_map}
-use Rattle.nest_top.specs.Laws.{OneAnswer, EachHasItsCause}
+use Rattle.nest_top.specs.Laws.{AreI64s, OneAnswer, SomeAnswer, EachHasItsCause}
 use Rattle.nest_top.proofs.TrapsOnly.{plain_run-finishes}
 
 -- ---- statuses of endings
@@ -99,6 +107,7 @@ record EndedSo (mode : Mode) (options : Options) (file : File) (status : Status)
 
 ended-so : (mode : Mode) (options : Options) (file : File) (bytes : List ℕ) (status : Status) → AnswersFile mode options file bytes status → EndedSo mode options file status
 ended-so Plain options file bytes status is = record { ending = is.ending; finished = is.ended; answered = is.answered }
+ended-so Run options file bytes status is = record { ending = is.is.ending; finished = is.is.ended; answered = is.is.answered }
 ended-so Check options file bytes status is = record { ending = ending.Ended; finished = refl; answered = is.1 }
 ended-so Deps options file bytes status is = record { ending = ending.Ended; finished = refl; answered = is.1 }
 
@@ -169,6 +178,29 @@ pub causes : EachHasItsCause
 causes words text bytes status (usage none) = usage-causes words text none
 causes words text bytes status (invoked c is b s answers) = invocation-causes words text c is b s (reading text) refl answers
 
+-- ---- options
+
+same-natural : (m n : ℕ) → pos m ≡ pos n → m ≡ n
+same-natural m n e = cc
+
+-- a number that was given lies in its range
+number-within : (least most : ℕ) (text : List ℕ) (number : ℤ) → IsNumberIn least most text number → (pos least ≤ℤ number) × (number ≤ℤ pos most)
+number-within least most text number is =
+    let value = is.value in
+    let from = is.from in
+    let upto = is.upto in
+    (omega (arith, ints, value, from), omega (arith, ints, value, upto))
+
+-- the options of an invocation are in their ranges
+pub options-in_range : (words : List (List ℕ)) (c : Invocation) → IsInvocation words c → AreInRange c.options
+options-in_range words c is =
+    let given = is.found.options in
+    let chunk = number-within 1 1024 given.chunk.text c.options.chunk given.chunk.is in
+    let sample = number-within 2 64 given.sample.text c.options.sample given.sample.is in
+    let value : c.options.steps ≡ digits_value 10 given.steps.text = same-natural _ _ given.steps.is.value in
+    let upto = given.steps.is.upto in
+    record { chunk_from = chunk.0; chunk_to = chunk.1; sample_from = sample.0; sample_to = sample.1; steps = omega (arith, upto, value) }
+
 -- ---- one answer
 
 abbrev Same : List ℕ → List ℕ → Status → Status → Type 0
@@ -186,6 +218,15 @@ one-outcome file steps bytes bytes' status status' o p =
       o.answered ∙ ap status_of e ∙ sym p.answered,
     )
 
+-- a file has at most one report
+one-report : (options : Options) (file : File) (bytes bytes' : List ℕ) (status status' : Status) → IsReportOf options file bytes status → IsReportOf options file bytes' status' → Same bytes bytes' status status'
+one-report options file bytes bytes' status status' a b =
+    let outcome = one-outcome file options.steps a.outcome b.outcome status status' a.is b.is in
+    let told = (one-journey (journey_options options) file a.lines b.lines a.end b.end a.journey b.journey).told in (
+      a.written ∙ ap₂ (λ (part : List ℕ) (lines : List Line). part ++ flat_map (line_text (scalar_names file)) lines) outcome.0 told ∙ sym b.written,
+      outcome.1,
+    )
+
 -- a file has one listing
 one-deps : (options : Options) (file : File) → IsOfText file → (bytes bytes' : List ℕ) → IsListingOf options file bytes → IsListingOf options file bytes' → bytes ≡ bytes'
 one-deps options file of bytes bytes' a b =
@@ -195,6 +236,7 @@ one-deps options file of bytes bytes' a b =
 
 one-file_answer : (mode : Mode) (options : Options) (file : File) → IsOfText file → (bytes bytes' : List ℕ) (status status' : Status) → AnswersFile mode options file bytes status → AnswersFile mode options file bytes' status' → Same bytes bytes' status status'
 one-file_answer Plain options file of bytes bytes' status status' a b = one-outcome file options.steps bytes bytes' status status' a b
+one-file_answer Run options file of bytes bytes' status status' a b = one-report options file bytes bytes' status status' a b
 one-file_answer Check options file of bytes bytes' status status' a b = (a.0 ∙ sym b.0, a.1 ∙ sym b.1)
 one-file_answer Deps options file of bytes bytes' status status' a b = (one-deps options file of bytes bytes' a.0 b.0, a.1 ∙ sym b.1)
 
@@ -203,42 +245,56 @@ one-reading_answer c text (Ok file) reads bytes bytes' status status' a b = one-
 one-reading_answer c text (Err fault) reads bytes bytes' status status' a b = (a.0 ∙ sym b.0, a.1 ∙ sym b.1)
 
 -- words and a text have at most one answer
-at_most_one_answer : (words : List (List ℕ)) (text bytes bytes' : List ℕ) (status status' : Status) → IsAnswer words text bytes status → IsAnswer words text bytes' status' → Same bytes bytes' status status'
-at_most_one_answer words text bytes bytes' status status' (usage n) (usage m) = (refl, refl)
-at_most_one_answer words text bytes bytes' status status' (usage n) (invoked d is b s a) = absurd (n d is)
-at_most_one_answer words text bytes bytes' status status' (invoked c is b s a) (usage n) = absurd (n c is)
-at_most_one_answer words text bytes bytes' status status' (invoked c is b s a) (invoked d is' b' s' a') =
+pub one-answer : OneAnswer
+one-answer words text bytes bytes' status status' (usage n) (usage m) = (refl, refl)
+one-answer words text bytes bytes' status status' (usage n) (invoked d is b s a) = absurd (n d is)
+one-answer words text bytes bytes' status status' (invoked c is b s a) (usage n) = absurd (n c is)
+one-answer words text bytes bytes' status status' (invoked c is b s a) (invoked d is' b' s' a') =
     one-reading_answer c text (reading text) refl b b' s s' a (subst (λ (x : Invocation). AnswersReading x (reading text) b' s') (sym (one_invocation words c d is is')) a')
 
--- and one at least
-Answered_by : List (List ℕ) → List ℕ → Type 0
-Answered_by words text = (bytes : List ℕ) × (status : Status) × IsAnswer words text bytes status
+-- ---- and one at least
 
-a-file_answer : (mode : Mode) (options : Options) (file : File) → IsOfText file → (bytes : List ℕ) × (status : Status) × AnswersFile mode options file bytes status
-a-file_answer Plain options file of =
-    let run = run_of_file file options.steps in
-    let e = plain_run-finishes (nests_of file) (first_store file) options.steps in
+some-outcome : (file : File) (steps : ℕ) → (bytes : List ℕ) × (status : Status) × IsOutcomeOf file steps bytes status
+some-outcome file steps =
+    let run = run_of_file file steps in
+    let e = plain_run-finishes (nests_of file) (first_store file) steps in
     let runs = longest_runs run.store.memory in
     (outcome_lines (scalar_names file) run.store.scalars runs.0 e.0 run.steps, status_of e.0, record { ending = e.0; ended = e.1; written = (runs.0, runs.1, refl); answered = refl })
-a-file_answer Check options file of = (canonical file, Ended, (refl, refl))
-a-file_answer Deps options file of =
+
+-- a file that a text reads as has a journey, where its numbers are i64s and the options are in their ranges
+runnable : (options : Options) (file : File) → IsOfText file → AreInRange options → AreI64s file → IsRunnable (journey_options options) file
+runnable options file of range i64s =
+    let sample = range.sample_from in
+    record {
+      keeps = reading-keeps of.0 file of.1;
+      numbers = i64s.numbers;
+      store = i64s.store;
+      sample = omega (arith, ints, sample);
+      chunk = range.chunk_from;
+      steps = range.steps;
+    }
+
+some-file_answer : (mode : Mode) (options : Options) (file : File) → IsOfText file → AreInRange options → (mode ≡ Run → AreI64s file) → (bytes : List ℕ) × (status : Status) × AnswersFile mode options file bytes status
+some-file_answer Plain options file of range i64s = some-outcome file options.steps
+some-file_answer Run options file of range i64s =
+    let o = some-outcome file options.steps in
+    let j = some-journey (journey_options options) file (runnable options file of range (i64s refl)) in
+    (o.0 ++ flat_map (line_text (scalar_names file)) j.0, o.1, record { outcome = o.0; is = o.2; lines = j.0; end = j.1; journey = j.2; written = refl })
+some-file_answer Check options file of range i64s = (canonical file, Ended, (refl, refl))
+some-file_answer Deps options file of range i64s =
     let one = one-listing (journey_options options) file of in
     (flat_map (listing_text (scalar_names file)) one.0, Ended, ((one.0, one.1, refl), refl))
 
-a-reading_answer : (c : Invocation) (text : List ℕ) (r : Result File TextFault) → reading text ≡ r → (bytes : List ℕ) × (status : Status) × AnswersReading c r bytes status
-a-reading_answer c text (Ok file) reads = a-file_answer c.mode c.options file (text, reads)
-a-reading_answer c text (Err fault) reads = (refusal_line fault, Refused, (refl, refl))
+some-reading_answer : (c : Invocation) (text : List ℕ) (r : Result File TextFault) → reading text ≡ r → AreInRange c.options → ((file : File) → c.mode ≡ Run → r ≡ Ok file → AreI64s file)
+    → (bytes : List ℕ) × (status : Status) × AnswersReading c r bytes status
+some-reading_answer c text (Ok file) reads range i64s = some-file_answer c.mode c.options file (text, reads) range (λ mode. i64s file mode refl)
+some-reading_answer c text (Err fault) reads range i64s = (refusal_line fault, Refused, (refl, refl))
 
-an-answer : (words : List (List ℕ)) (text : List ℕ) → Answered_by words text
-unfolding Answered_by
-an-answer words text = elim (invocation_or_none words) [
-  | inl i ↦ (let a = a-reading_answer i.0 text (reading text) refl in (a.0, a.1, invoked i.0 i.1 a.0 a.1 a.2))
+pub some-answer : SomeAnswer
+some-answer words text i64s = elim (invocation_or_none words) [
+  | inl i ↦ (let a = some-reading_answer i.0 text (reading text) refl (options-in_range words i.0 i.1) (λ file mode reads. i64s i.0 file i.1 mode reads) in (a.0, a.1, invoked i.0 i.1 a.0 a.1 a.2))
   | inr none ↦ (usage_line, Usage, usage none)
 ]
-
-pub one-answer : OneAnswer
-unfolding Answered_by
-one-answer words text = let a = an-answer words text in (a.0, a.1, a.2, λ other another h. at_most_one_answer words text other a.0 another a.1 h a.2)
 
 -- ---- what the calls use
 
@@ -292,16 +348,6 @@ usage-prepared words left bytes status none is =
 pub ok-map : {A E : Type 0} (P Q : A → Type 0) → ((a : A) → P a → Q a) → (r : Result A E) → IfOk r P → IfOk r Q
 ok-map P Q go (Ok a) p = go a p
 ok-map P Q go (Err e) p = tt
-
-same-natural : (m n : ℕ) → pos m ≡ pos n → m ≡ n
-same-natural m n e = cc
-
--- the steps of an invocation
-pub steps-most : (words : List (List ℕ)) (c : Invocation) → IsInvocation words c → c.options.steps ≤ 2 ^ 32
-steps-most words c is =
-    let given = is.found.options.steps.is in
-    let value : c.options.steps ≡ digits_value 10 is.found.options.steps.text = same-natural _ _ given.value in
-    omega (arith, given.upto, value)
 
 -- an invocation has its answer to the text
 pub invocation-prepared : (words : List (List ℕ)) (left : Option (List ℕ)) (c : Invocation) (text bytes : List ℕ) (status : Status) → IsInvocation words c → IsTextOf left text → AnswersReading c (reading text) bytes status → Prepared words left bytes status

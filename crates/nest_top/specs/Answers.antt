@@ -1,11 +1,12 @@
 -- Answers: what words and a text give, as bytes and a status.
-use Rattle.std.specs.Prelude.{◌≡◌, ◌↔◌, ℕ, List, Option, Result, Ok, Err, flat_map}
+use Rattle.std.specs.Prelude.{◌≡◌, ◌↔◌, ◌≤◌, ◌^◌, ◌≤ℤ◌, ◌++◌, ℕ, pos, List, Option, Result, Ok, Err, flat_map}
 use Rattle.nest_lang.specs.declared.budget.Ending.{Ending}
 use Rattle.nest_lang.specs.declared.budget.Ending.TheVariants as ending
 use Rattle.nest_lang.specs.declared.tree.Trap.{Trap}
 use Rattle.nest_lang.specs.Traces as traces
-use Rattle.nest_lang.specs.Traces.{Finish}
-use Rattle.nest_lang.specs.Runs.{Run, plain_run, finish_of_ending}
+use Rattle.nest_lang.specs.Traces.{Cut, Finish}
+use Rattle.nest_lang.specs.Runs as runs
+use Rattle.nest_lang.specs.Runs.{plain_run, finish_of_ending}
 use Rattle.nest_grammar.specs.declared.fault.TextFault.{TextFault}
 use Rattle.nest_grammar.specs.declared.file.File.{File}
 use Rattle.nest_grammar.specs.Files.{first_store, nests_of}
@@ -14,13 +15,15 @@ use Rattle.canonical.specs.Contents.{canonical}
 use Rattle.nest_text.specs.Files.{scalar_names}
 use Rattle.report.specs.Faults.{refusal_line}
 use Rattle.report.specs.Outcomes.{IsOutcome}
-use Rattle.report.specs.Lines.{listing_text}
+use Rattle.report.specs.Lines.{line_text, listing_text}
 use Rattle.report.specs.declared.journey.Options.{Options as JourneyOptions}
+use Rattle.report.specs.declared.line.Line.{Line}
 use Rattle.report.specs.declared.line.ListingLine.{ListingLine}
+use Rattle.journeys.specs.Journeys.{IsJourney}
 use Rattle.listing.specs.Listings.{IsListing}
 use Rattle.command_line.specs.declared.invocation.Invocation.{Invocation}
 use Rattle.command_line.specs.declared.invocation.Mode.{Mode}
-use Rattle.command_line.specs.declared.invocation.Mode.TheVariants.{Plain, Check, Deps}
+use Rattle.command_line.specs.declared.invocation.Mode.TheVariants.{Plain, Run, Check, Deps}
 use Rattle.command_line.specs.declared.invocation.Options.{Options}
 use Rattle.command_line.specs.Invocations.{IsInvocation, IsNoInvocation, usage_line}
 use Rattle.nest_top.specs.declared.status.Status.{Status}
@@ -38,7 +41,7 @@ status_of (ending.Trapped trap) = Trapped
 status_of ending.Limited = Limited
 
 -- the plain run of a file's nests, one after another, from its first store within so many steps
-abbrev pub run_of_file : File → ℕ → Run
+abbrev pub run_of_file : File → ℕ → runs.Run
 run_of_file file steps = plain_run (nests_of file) (first_store file) steps
 
 -- bytes and a status are those of the plain run of a file within so many steps
@@ -48,19 +51,37 @@ pub record IsOutcomeOf (file : File) (steps : ℕ) (bytes : List ℕ) (status : 
   pub written : IsOutcome (scalar_names file) (run_of_file file steps).store ending (run_of_file file steps).steps bytes
   pub answered : status ≡ status_of ending
 
+-- the numbers of options are in their ranges
+pub record AreInRange (options : Options) : Type 0 where
+  pub chunk_from : pos 1 ≤ℤ options.chunk
+  pub chunk_to : options.chunk ≤ℤ pos 1024
+  pub sample_from : pos 2 ≤ℤ options.sample
+  pub sample_to : options.sample ≤ℤ pos 64
+  pub steps : options.steps ≤ 2 ^ 32
+
 -- the options of a journey
 abbrev pub journey_options : Options → JourneyOptions
 journey_options options = record { workers = options.workers; chunk = options.chunk; sample = options.sample; steps = options.steps }
+
+-- bytes and a status are those of the plain run of a file, with the lines of its journey behind them, in their order
+pub record IsReportOf (options : Options) (file : File) (bytes : List ℕ) (status : Status) : Type 0 where
+  pub outcome : List ℕ
+  pub is : IsOutcomeOf file options.steps outcome status
+  pub lines : List Line
+  pub end : Cut
+  pub journey : IsJourney (journey_options options) file lines end
+  pub written : bytes ≡ outcome ++ flat_map (line_text (scalar_names file)) lines
 
 -- bytes are those of the lines of a file's dependence listing, in their order
 abbrev pub IsListingOf : Options → File → List ℕ → Type 0
 IsListingOf options file bytes =
     (lines : List ListingLine) × IsListing (journey_options options) file lines × (bytes ≡ flat_map (listing_text (scalar_names file)) lines)
 
--- bytes and a status are the answer to a file: in mode `plain` those of its plain run, in mode `check`
--- its canonical text, in mode `deps` its dependence listing
+-- bytes and a status are the answer to a file: in mode `plain` those of its plain run, in mode `run` those and the lines of
+-- its journey, in mode `check` its canonical text, in mode `deps` its dependence listing
 abbrev pub AnswersFile : Mode → Options → File → List ℕ → Status → Type 0
 AnswersFile Plain options file bytes status = IsOutcomeOf file options.steps bytes status
+AnswersFile Run options file bytes status = IsReportOf options file bytes status
 AnswersFile Check options file bytes status = (bytes ≡ canonical file) × (status ≡ Ended)
 AnswersFile Deps options file bytes status = IsListingOf options file bytes × (status ≡ Ended)
 
@@ -83,9 +104,11 @@ Answered SinkFault = ⊥
 Answered NoMemory = ⊥
 Answered status = Unit {0}
 
--- how the run of an invocation on a file finishes: in mode `plain` the plain run; in the modes `check` and `deps` it is done
+-- how the run of an invocation on a file finishes: in the modes `plain` and `run` the plain run; in the modes `check` and
+-- `deps` it is done
 abbrev pub finish_of : Mode → Options → File → Finish
 finish_of Plain options file = (run_of_file file options.steps).ending
+finish_of Run options file = (run_of_file file options.steps).ending
 finish_of Check options file = traces.Done
 finish_of Deps options file = traces.Done
 

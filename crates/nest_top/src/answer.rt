@@ -1,14 +1,15 @@
 //! Answers, made before anything is written.
 
-ghost use Rattle.std.specs.Prelude.{◌≡◌, ◌≤◌, ◌^◌, IfOk};
+ghost use Rattle.std.specs.Prelude.{◌≡◌, IfOk};
 ghost use Rattle.nest_grammar.specs.Contents.{reading};
 ghost use Rattle.report.specs.Faults.{refusal_line};
 ghost use Rattle.command_line.specs.Invocations.{usage_line};
-ghost use Rattle.nest_top.specs.Answers.{AnswersFile, AnswersReading};
+ghost use Rattle.nest_top.specs.Answers.{AnswersFile, AnswersReading, AreInRange};
 
 use crate::check::check;
 use crate::deps::deps;
 use crate::plain::plain;
+use crate::speculative::speculative;
 use crate::status::Status;
 use command_line::{Invocation, Mode, usage_text};
 use nest_text::{NestFile, ReadRefusal, TextFault, read_nest};
@@ -38,7 +39,7 @@ pub(crate) fn answer_text(
     invocation: &Invocation,
     text: &[u8],
 ) -> Result<Answer, AllocError>
-    requires { invocation.now.options.steps ≤ 2 ^ 32 }
+    requires { AreInRange invocation.now.options }
     ensures { IfOk result (λ answer. AnswersReading invocation.now (reading text.now) answer.bytes.items answer.status) }
 {
     match read_nest(alloc, text) {
@@ -64,11 +65,12 @@ fn answer_file(
     invocation: &Invocation,
     file: &NestFile,
 ) -> Result<Answer, AllocError>
-    requires { invocation.now.options.steps ≤ 2 ^ 32 }
+    requires { AreInRange invocation.now.options }
     ensures { IfOk result (λ answer. AnswersFile invocation.now.mode invocation.now.options file.now answer.bytes.items answer.status) }
 {
     match invocation.mode {
         Mode::Plain => plain(alloc, file, invocation.options.steps),
+        Mode::Run => speculative(alloc, file, &invocation.options),
         Mode::Check => check(alloc, file),
         Mode::Deps => deps(alloc, file, &invocation.options),
     }

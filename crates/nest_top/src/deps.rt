@@ -1,10 +1,10 @@
 //! Mode `deps`: the dependence listing of a file.
 
 ghost use Rattle.std.specs.Prelude.{◌≡◌, ◌≤◌, ◌^◌, IfOk};
-ghost use Rattle.nest_top.specs.Answers as answers;
 ghost use Rattle.nest_top.specs.Answers.{IsListingOf};
 
 use crate::answer::Answer;
+use crate::options::journey_options;
 use crate::status::Status;
 use command_line::Options;
 use listing::listing;
@@ -22,16 +22,4 @@ pub(crate) fn deps(alloc: Global, file: &NestFile, options: &Options) -> Result<
         bytes: listing_text(alloc, file, lines.as_slice())?,
         status: Status::Ended,
     })
-}
-
-/// The options of a journey.
-fn journey_options(options: &Options) -> report::Options
-    ensures { result ≡ answers.journey_options options.now }
-{
-    report::Options {
-        workers: options.workers,
-        chunk: options.chunk,
-        sample: options.sample,
-        steps: options.steps,
-    }
 }

@@ -2,9 +2,9 @@
 //!
 //! `nest_run` takes the words of the command line, reads a text from a source where they are an
 //! invocation, and puts the answer into a sink, whole or, after a fault of the sink, a front of it. Each
-//! mode has a module of its own (`plain`, `check`, `deps`). The crate stands on `command_line` (what the words
-//! say), `nest_text` (what a text reads as), `canonical` (its canonical text), `plain_interp` (the plain
-//! run), `listing` (dependence listings), `report` (outcomes, lines and refusals as text) and `nest_io` (sources and sinks with counted faults).
+//! mode has a module of its own (`plain`, `speculative` for mode `run`, `check`, `deps`). The crate stands on `command_line`
+//! (what the words say), `nest_text` (what a text reads as), `canonical` (its canonical text), `plain_interp` (the plain
+//! run), `controller` (journeys), `listing` (dependence listings), `report` (outcomes, lines and refusals as text) and `nest_io` (sources and sinks with counted faults).
 //! Its contract is the promise of the
 //! product so far: the bytes are exactly those of the *answer* that `specs/Answers.antt` defines, unless
 //! a counted fault or want of memory replaces it. `nest_exit` is the same with the
@@ -15,8 +15,10 @@ mod answer;
 mod check;
 mod deps;
 pub mod laws;
+mod options;
 mod plain;
 mod run;
+mod speculative;
 mod status;
 mod unanswered;
 

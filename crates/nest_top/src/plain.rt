@@ -54,7 +54,7 @@ fn run_nests(file: &NestFile, state: &mut State, steps: &mut Budget) -> Ending
 }
 
 /// The status of a run that ended so.
-fn status_of(ending: Ending) -> Status
+pub(crate) fn status_of(ending: Ending) -> Status
     ensures { result ≡ answers.status_of ending }
 {
     match ending {

@@ -1,6 +1,6 @@
 use Rattle.std.proofs.Common.{codes, refl}
 use Rattle.clap.proofs.OnLiterals.{clap_on_literals}
-use Rattle.command_line.specs.declared.invocation.Mode.TheVariants.{Plain, Check, Deps}
+use Rattle.command_line.specs.declared.invocation.Mode.TheVariants.{Plain, Run, Check, Deps}
 use Rattle.command_line.proofs.Computed.{is_command}
 use Rattle.command_line.proofs.laws.invocations.Goals as goal
 
@@ -8,6 +8,7 @@ pub returns : goal.returns
 unfolding clap_on_literals
 returns c = record {
   plain = is_command _ Plain (codes "4") (codes "32") (codes "4") (codes "1000000") refl refl refl refl refl refl refl refl refl refl refl;
+  run = is_command _ Run (codes "4") (codes "64") (codes "8") (codes "1000000") refl refl refl refl refl refl refl refl refl refl refl;
   check = is_command _ Check (codes "4") (codes "32") (codes "4") (codes "1000000") refl refl refl refl refl refl refl refl refl refl refl;
   deps = is_command _ Deps (codes "4") (codes "8") (codes "4") (codes "1000000") refl refl refl refl refl refl refl refl refl refl refl;
   steps = is_command _ Plain (codes "4") (codes "32") (codes "4") (codes "10") refl refl refl refl refl refl refl refl refl refl refl;

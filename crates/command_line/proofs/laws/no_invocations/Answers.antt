@@ -9,7 +9,7 @@ unfolding clap_on_literals mode_of
 returns c = record {
   no_word = not_taken _ refl;
   no_mode = not_taken _ refl;
-  another_mode = not_a_mode _ (codes "run") refl refl;
+  another_mode = not_a_mode _ (codes "runs") refl refl;
   an_argument = with_arguments _ (codes "x" ∷ []) refl;
   given_twice = not_taken _ refl;
   no_value = not_taken _ refl;

@@ -1,0 +1,219 @@
+-- A chunk, as a way from stage to stage.
+use Rattle.std.proofs.Common.{◌≡◌, refl, ap, ◌∙◌, sym, subst, ℕ, ◌+◌, ◌-◌, ◌<◌, ◌≤◌, ℤ, pos, List, [], ◌∷◌, ◌++◌, append_assoc, append-nil, length, true, false, Option, Some, Ok, unsigned_abs, ◌≤ℤ◌, w64, to_z, of_z, arith}
+use Rattle.std.specs.Prelude.{slice_get}
+use Rattle.nest_lang.specs.declared.tree.Loop.{Loop}
+use Rattle.nest_lang.specs.declared.state.Outer.{Outer}
+use Rattle.nest_lang.specs.declared.budget.Ending.TheVariants.{Ended}
+use Rattle.nest_lang.specs.Stores.{Store, store_of}
+use Rattle.nest_lang.specs.Lookups.{plain}
+use Rattle.nest_lang.specs.Traces.{Finish, Done, Cut, cut, cut_of, seen_in}
+use Rattle.nest_lang.specs.Turns.{turns_trace, turns_later, IsPositionIn}
+use Rattle.plain_interp.proofs.OuterTurns.{position-later}
+use Rattle.block_exec.specs.Moments.{moment}
+use Rattle.block_exec.specs.Watches.{Chain}
+use Rattle.transform.specs.Schedules.{Schedule}
+use Rattle.domain.specs.declared.chunk.Chunk.{Chunk}
+use Rattle.domain.specs.Tables.{Table}
+use Rattle.domain.specs.Instances.{Instance}
+use Rattle.domain.specs.declared.held.HeldWhy.{HeldWhy}
+use Rattle.domain.specs.Launches.{IsHeld, IsLaunched}
+use Rattle.follow.specs.declared.how.How.{How}
+use Rattle.follow.specs.ChunkRuns.{ChunkRun}
+use Rattle.follow.specs.Deviations.{FollowsPrediction}
+use Rattle.follow.proofs.Deviating.{not-both}
+use Rattle.follow_chunk.specs.declared.task.Deviation as code
+use Rattle.follow_chunk.specs.Predicted.{forecast_of}
+use Rattle.skeletons.specs.Cells.{Extent}
+use Rattle.compare.specs.ChainLaw.{run_of_chunk}
+use Rattle.compare.specs.Comparisons.{Comparison, MayCompare, fresh}
+use Rattle.compare.specs.Compared.{IsFirstDeviation, IsDeviationOf}
+use Rattle.chunk_run.specs.declared.run.ChunkEnd.TheVariants.{Committed}
+use Rattle.chunk_run.specs.ChunkEnds.{IsCommitted, IsRolledBack, store_in}
+use Rattle.profiling.specs.FirstProfiles.{has_turn}
+use Rattle.report.specs.declared.line.Line.{Line}
+use Rattle.report.specs.declared.line.Line.TheVariants as said
+use Rattle.journeys.specs.Settings.{Setting, Moment, Ran, plain_turns, next_turns, chunk_turns, next_chunk, words_at}
+use Rattle.journeys.specs.Tellings.{held_line, rollback_line, commit_line}
+use Rattle.journeys.specs.Stages as stages
+use Rattle.journeys.specs.Stages.{Leads, Reaches, ChunkLeads, chunk_run_from, DeviatesAt, FollowsIt}
+use Rattle.journeys.specs.Stages.Leads.{chunk, no_chunk}
+use Rattle.journeys.specs.Stages.Reaches.{begun, then}
+use Rattle.journeys.specs.Stages.ChunkLeads.{held, rolled_back, committed}
+use Rattle.controller.specs.declared.stage.Chosen.{Chosen}
+use Rattle.controller.specs.declared.stage.Stage.{Stage}
+use Rattle.controller.specs.declared.stage.Stage.TheVariants.{Chunks, Plainly, Over}
+use Rattle.controller.specs.Machines.{IsPlaced, HasRun, between_at}
+use Rattle.controller.specs.Courses.{IsSetting, IsChosen, Led, stage_of}
+use Rattle.controller.proofs.Going.{reaches-more}
+use Rattle.controller.proofs.NextChunk.{chunk-some, turns-are}
+use Rattle.controller.proofs.Plainly.{ending-alone, ran-took, placed-on}
+
+one-step : (g : Setting) (from to : stages.Stage) (m after : Moment) (lines : List Line) → Leads g from m lines to after → Reaches g from m lines to after
+one-step g from to m after lines way = then [] lines from to m after begun way
+
+-- a way and then another
+pub led-more : {D : ℕ} (g : Setting) (from mid to : Stage D) (m there after : Moment) (before lines more : List Line)
+    → Led g from m before mid there lines → Led g mid there lines to after more → Led g from m before to after more
+led-more g from mid to m there after before lines more a b = record {
+  told = a.told ++ b.told;
+  are = b.are ∙ ap (λ (ls : List Line). ls ++ b.told) a.are ∙ append_assoc before a.told b.told;
+  reaches = reaches-more g (stage_of from) m (stage_of mid) there a.told b.told (stage_of to) after a.reaches b.reaches;
+  nearer = let first = a.nearer in let second = b.nearer in omega (arith, first, second);
+  due = b.due;
+  turn = b.turn;
+  placed = b.placed;
+}
+
+-- where a `for` has no turn left, the run has ended
+pub ended-led : {D : ℕ} (g : Setting) (m : Moment) (chosen : Chosen D) (before : List Line) → IsPlaced g m → has_turn m.outer.left ≡ false → Led g (Chunks chosen) m before (Over Ended) m before
+ended-led g m chosen before p off = record {
+  told = [];
+  are = sym (append-nil before);
+  reaches = one-step g (stages.Chunks chosen.pred chosen.number) (stages.Over Done) m m [] (no_chunk chosen.pred chosen.number m off);
+  nearer = omega arith;
+  due = tt;
+  turn = tt;
+  placed = p;
+}
+
+module _ {D : ℕ} (g : Setting) (m : Moment) (set : IsSetting D g) (p : IsPlaced g m) (on : has_turn m.outer.left ≡ true) (chosen : Chosen D) (before lines : List Line) where
+  abbrev here : stages.Stage
+  here = stages.Chunks chosen.pred chosen.number
+
+  abbrev plain_stage : stages.Stage
+  plain_stage = stages.Plainly (chunk_turns g m)
+
+  -- the turns of the chunk follow in original order
+  plainly-led : (line : Line) → lines ≡ before ++ line ∷ [] → ChunkLeads chosen.pred chosen.number g m (line ∷ []) plain_stage m → Led g (Chunks chosen) m before (Plainly (chunk_turns g m)) m lines
+  plainly-led line are leads = record {
+    told = line ∷ [];
+    are = are;
+    reaches = one-step g here plain_stage m m (line ∷ []) (chunk chosen.pred chosen.number m m (line ∷ []) plain_stage on leads);
+    nearer = omega arith;
+    due = chunk-some g m set p on;
+    turn = on;
+    placed = p;
+  }
+
+  -- a chunk is held
+  pub held-led : (at : Instance) (why : HeldWhy) → IsHeld chosen.pred (words_at m) (next_chunk g m) at why → lines ≡ before ++ held_line g m at why ∷ [] → Led g (Chunks chosen) m before (Plainly (chunk_turns g m)) m lines
+  held-led at why is are = plainly-led (held_line g m at why) are (held at why is)
+
+  -- a chunk is rolled back
+  pub rolled-led : (at : Instance) (how : How) (instances : ℕ) → IsLaunched chosen.pred (words_at m) (next_chunk g m) instances → DeviatesAt chosen.pred g m at how → lines ≡ before ++ rollback_line g m at how ∷ []
+      → Led g (Chunks chosen) m before (Plainly (chunk_turns g m)) m lines
+  rolled-led at how instances launched deviates are = plainly-led (rollback_line g m at how) are (rolled_back instances at how launched deviates)
+
+-- ---- committed
+
+no-locals : (s : Store) → s.locals ≡ [] → store_of s.memory s.scalars [] ≡ s
+no-locals s none = ap (λ (ls : List ℤ). store_of s.memory s.scalars ls) (sym none)
+
+abbrev extent_of : Table → Schedule → Chunk → Extent
+extent_of t s k = record { table = t; schedule = s; chunk = k }
+
+abbrev extent : Table → Schedule → Setting → Moment → Extent
+extent t s g m = extent_of t s (next_chunk g m)
+
+-- a committed chunk was run in original order
+committed-ran : (t : Table) (s : Schedule) (g : Setting) (m after : Moment) (instances phases tiles steps : ℕ) → m.store.locals ≡ [] → after.store.locals ≡ []
+    → IsCommitted (extent t s g m) g.loops m.outer (between_at m) (between_at after) instances phases tiles steps → after.outer ≡ turns_later m.outer (chunk_turns g m) → Ran g m (chunk_turns g m) (chunk_turns g m) Done after
+committed-ran t s g m after instances phases tiles steps none still h outer = record {
+  whole = λ k few. record {
+    within = omega arith;
+    done = sym (ending-alone (plain_turns g k m (chunk_turns g m) m.store) m.store m.left m.used) ∙ sym (ap (λ (c : Cut). c.ending) (ran k few));
+    most = λ i less most done. absurd (omega (arith, less, most));
+  };
+  cut = ran;
+  outer = outer;
+}
+  where
+    ran : (k : ℕ) → m.left < k → cut_of after.store after.left after.used Done ≡ cut (plain_turns g k m (chunk_turns g m) m.store) m.store m.left m.used
+    ran k few =
+        let led = h.plain k few in
+        subst (λ (u : Store). cut_of u after.left after.used Done ≡ cut (plain_turns g k m (chunk_turns g m) m.store) m.store m.left m.used) (no-locals after.store still)
+        (subst (λ (u : Store). cut_of (store_in (between_at after)) after.left after.used Done ≡ cut (plain_turns g k m (chunk_turns g m) u) u m.left m.used) (no-locals m.store none) (sym led))
+
+-- a state between two turns has no locals, so it is followed from the moment
+committed-follows : (t : Table) (s : Schedule) (g : Setting) (m after : Moment) (instances phases tiles steps : ℕ) → m.store.locals ≡ []
+    → IsCommitted (extent t s g m) g.loops m.outer (between_at m) (between_at after) instances phases tiles steps → FollowsIt t g m
+committed-follows t s g m after instances phases tiles steps none h =
+    let few : m.left < m.left + 1 = omega arith in
+    subst (λ (u : Store). FollowsPrediction (forecast_of t) (run_of_chunk t (next_chunk g m) (turns_trace plain (m.left + 1) g.loops m.outer (chunk_turns g m) u) u m.left)) (no-locals m.store none) (h.follows (m.left + 1) few)
+
+-- a chunk that was rolled back doesn't follow its prediction
+pub rolled-back_deviates : (t : Table) (s : Schedule) (g : Setting) (m : Moment) (x : Setting) (k : Chunk) → x ≡ g → k ≡ next_chunk g m → m.store.locals ≡ []
+    → IsRolledBack (extent_of t s k) x.loops m.outer (between_at m) (between_at m) → FollowsIt t g m → ⊥
+rolled-back_deviates t s g m x k here next none h follows =
+    let few : m.left < m.left + 1 = omega arith in
+    let back_here : IsRolledBack (extent t s g m) g.loops m.outer (between_at m) (between_at m) =
+    subst (λ (c : Chunk). IsRolledBack (extent_of t s c) g.loops m.outer (between_at m) (between_at m)) next (subst (λ (y : Setting). IsRolledBack (extent_of t s k) y.loops m.outer (between_at m) (between_at m)) here h) in
+    let chunk_run : Store → ChunkRun = λ (u : Store). run_of_chunk t (next_chunk g m) (turns_trace plain (m.left + 1) g.loops m.outer (chunk_turns g m) u) u m.left in
+    let back : FollowsPrediction (forecast_of t) (chunk_run (store_in (between_at m))) = subst (λ (u : Store). FollowsPrediction (forecast_of t) (chunk_run u)) (sym (no-locals m.store none)) follows in
+    let one = back_here.deviates (m.left + 1) few in
+    not-both (forecast_of t) (chunk_run (store_in (between_at m))) one.0 one.1 back
+
+position-in : (loops : List Loop) (o : Outer) (j : ℕ) → IsPositionIn loops o → IsPositionIn loops (turns_later o j)
+position-in [] o j p = absurd p
+position-in (l ∷ ls) o j p = position-later l.head o j p
+
+module _ {D : ℕ} (g : Setting) (m after : Moment) (set : IsSetting D g) (p : IsPlaced g m) (on : has_turn m.outer.left ≡ true) (chosen : Chosen D) (is : IsChosen g chosen.pred chosen.number) (before lines : List Line) where
+  -- a chunk is committed
+  committed-there : (s : Schedule) (instances phases tiles steps : ℕ) → slice_get g.candidates (chosen.number - 1) ≡ Some s → m.store.locals ≡ [] → after.store.locals ≡ []
+      → length after.store.scalars ≡ length m.store.scalars
+      → IsCommitted (extent chosen.pred s g m) g.loops m.outer (between_at m) (between_at after) instances phases tiles steps → after.outer ≡ turns_later m.outer (chunk_turns g m)
+      → lines ≡ before ++ said.Commit m.outer.next (pos (chunk_turns g m)) chosen.number instances phases tiles steps ∷ [] → Led g (Chunks chosen) m before (Chunks chosen) after lines
+  committed-there s instances phases tiles steps at none still count h outer are =
+      let t = chosen.pred in
+      let c = chunk_turns g m in
+      let ran = committed-ran t s g m after instances phases tiles steps none still h outer in
+      let taken : m.left ≡ steps + after.left = h.taken.left in
+      let same : steps ≡ m.left - after.left = omega (arith, taken) in
+      let line = commit_line g m after chosen.number instances phases tiles in
+      let leads = committed s instances phases tiles after at h.numbers (committed-follows t s g m after instances phases tiles steps none h) ran in
+      let stage = stages.Chunks t chosen.number in
+      let position = subst (λ (o : Outer). IsPositionIn g.loops o) (sym outer) (position-in g.loops m.outer c p.position) in
+      record {
+        told = line ∷ [];
+        are = are ∙ ap (λ (n : ℕ). before ++ said.Commit m.outer.next (pos c) chosen.number instances phases tiles n ∷ []) same;
+        reaches = one-step g stage stage m after (line ∷ []) (chunk t chosen.number m after (line ∷ []) stage on leads);
+        nearer = let some = chunk-some g m set p on in let fewer = (ran-took g m after p.turn c c Done p.keeps.loops_keep p.next ran).steps in omega (arith, some, fewer);
+        due = is;
+        turn = tt;
+        placed = placed-on g m after c c Done p.keeps.loops_keep p ran position count;
+      }
+
+  -- the same of a setting and a chunk that are these
+  pub committed-led : (x : Setting) (k : Chunk) (s : Schedule) (instances phases tiles steps : ℕ) → x ≡ g → k ≡ next_chunk g m → slice_get g.candidates (chosen.number - 1) ≡ Some s → m.store.locals ≡ [] → after.store.locals ≡ []
+      → length after.store.scalars ≡ length m.store.scalars → HasRun (extent_of chosen.pred s k) x.loops m after (Ok (Committed instances phases tiles steps))
+      → lines ≡ before ++ said.Commit k.first k.turns chosen.number instances phases tiles steps ∷ [] → Led g (Chunks chosen) m before (Chunks chosen) after lines
+  committed-led x k s instances phases tiles steps here next at none still count h are =
+      committed-there s instances phases tiles steps at none still count
+      (subst (λ (c : Chunk). IsCommitted (extent_of chosen.pred s c) g.loops m.outer (between_at m) (between_at after) instances phases tiles steps) next
+      (subst (λ (y : Setting). IsCommitted (extent_of chosen.pred s k) y.loops m.outer (between_at m) (between_at after) instances phases tiles steps) here h.0))
+      (h.1 ∙ ap (λ (c : Chunk). turns_later m.outer (unsigned_abs c.turns)) next)
+      (are ∙ ap (λ (c : Chunk). before ++ said.Commit c.first c.turns chosen.number instances phases tiles steps ∷ []) next)
+
+-- ---- the deviation of the turns in original order
+
+-- the turns of the next chunk ran in original order, watched by a comparison: what it gives is the deviation of the chunk
+pub watched-deviation : {D : ℕ} (t : Table) (g : Setting) (m after : Moment) (done : ℕ) (finish : Finish) (c : Comparison) (result : Option (code.Deviation D)) → Ran g m (chunk_turns g m) done finish after
+    → Chain MayCompare (fresh t (next_chunk g m)) (seen_in (next_turns g m (chunk_turns g m)) m.left) c → IsFirstDeviation c finish after.store.scalars result → IsDeviationOf t (next_chunk g m) (chunk_run_from t g m) result
+watched-deviation t g m after done finish c result ran shown first =
+    let few : m.left < m.left + 1 = omega arith in
+    first t (next_chunk g m) plain (m.left + 1) g.loops m.outer (moment m.store m.left m.used (fresh t (next_chunk g m))) (moment after.store after.left after.used c) (record {
+      begins = refl;
+      ends = refl;
+      closes = refl;
+      ran = record { cut = ran.cut (m.left + 1) few; shown = shown };
+    })
+
+-- the same from the chunk, the watch and the scalars as they are handed on
+pub told-deviation : {D : ℕ} (t : Table) (g : Setting) (m after : Moment) (k : Chunk) (start c : Comparison) (finish : Finish) (scalars : List ℤ) (result : Option (code.Deviation D)) → pos 1 ≤ℤ k.turns → k.turns ≤ℤ pos 1024 → k ≡ next_chunk g m
+    → start ≡ fresh t k → (done : ℕ) × Ran g m (unsigned_abs (to_z w64 (of_z w64 k.turns))) done finish after → Chain MayCompare start (seen_in (next_turns g m (unsigned_abs (to_z w64 (of_z w64 k.turns)))) m.left) c → scalars ≡ after.store.scalars
+    → IsFirstDeviation {D = D} c finish scalars result → IsDeviationOf t (next_chunk g m) (chunk_run_from t g m) result
+told-deviation {D} t g m after k start c finish scalars result some most next new ran shown values first =
+    let turns = turns-are g m k some most next in
+    watched-deviation t g m after ran.0 finish c result (subst (λ (n : ℕ). Ran g m n ran.0 finish after) turns ran.1)
+    (subst (λ (s : Comparison). Chain MayCompare s (seen_in (next_turns g m (chunk_turns g m)) m.left) c) (new ∙ ap (fresh t) next) (subst (λ (n : ℕ). Chain MayCompare start (seen_in (next_turns g m n) m.left) c) turns shown))
+    (subst (λ (vs : List ℤ). IsFirstDeviation {D = D} c finish vs result) values first)
