@@ -1,5 +1,5 @@
 -- A chunk, as a way from stage to stage.
-use Rattle.std.proofs.Common.{◌≡◌, refl, ap, ◌∙◌, sym, subst, ℕ, ◌+◌, ◌-◌, ◌<◌, ◌≤◌, ℤ, pos, List, [], ◌∷◌, ◌++◌, append_assoc, append-nil, length, true, false, Option, Some, Ok, unsigned_abs, ◌≤ℤ◌, w64, to_z, of_z, arith}
+use Rattle.std.proofs.Common.{◌≡◌, refl, ap, ◌∙◌, sym, subst, ℕ, ◌+◌, ◌-◌, ◌<◌, ℤ, pos, List, [], ◌∷◌, ◌++◌, append_assoc, append-nil, length, true, false, Option, Some, Ok, unsigned_abs, ◌≤ℤ◌, w64, to_z, of_z, arith}
 use Rattle.std.specs.Prelude.{slice_get}
 use Rattle.nest_lang.specs.declared.tree.Loop.{Loop}
 use Rattle.nest_lang.specs.declared.state.Outer.{Outer}

@@ -1,5 +1,5 @@
 -- Answers: which status has which cause, and that there is one.
-use Rattle.std.proofs.Common.{◌≡◌, refl, ap, ap₂, ◌∙◌, sym, subst, ℕ, ℤ, List, [], ◌++◌, Option, Some, None, Result, Ok, Err, IfOk, ◌≤◌, ◌≤ℤ◌, ◌^◌, arith, pos, inl, inr}
+use Rattle.std.proofs.Common.{◌≡◌, refl, ap, ap₂, ◌∙◌, sym, subst, ℕ, ℤ, List, [], ◌++◌, Option, Some, None, Result, Ok, Err, IfOk, ◌≤ℤ◌, arith, pos, inl, inr}
 use Rattle.std.proofs.lemmas.Int.{ints}
 use Rattle.nest_lang.specs.declared.tree.Trap.{Trap}
 use Rattle.nest_lang.specs.declared.budget.Ending.{Ending}
@@ -34,7 +34,6 @@ use Rattle.nest_top.specs.Answers.IsAnswer.{usage, invoked}
 use Rattle.nest_text.specs.Files.{IsOfText, scalar_names}
 use Rattle.report.specs.Lines.{line_text, listing_text}
 use Rattle.report.specs.declared.line.Line.{Line}
-use Rattle.journeys.specs.Journeys.{IsJourney}
 use Rattle.journeys.specs.Laws.{IsRunnable}
 use Rattle.journeys.proofs.OneJourney.{one-journey}
 use Rattle.journeys.proofs.SomeJourney.{some-journey}

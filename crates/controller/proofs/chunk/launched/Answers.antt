@@ -1,4 +1,4 @@
-use Rattle.std.proofs.Common.{◌≡◌, ◌∙◌, sym, ap, subst, ◌-◌, Ok, length, true, to_z-of_z, arith, rules}
+use Rattle.std.proofs.Common.{◌≡◌, ◌∙◌, sym, ap, subst, Ok, length, true, to_z-of_z, arith, rules}
 use Rattle.follow_chunk.specs.Tasks.{IsTask}
 use Rattle.chunk_run.specs.declared.run.ChunkEnd.{ChunkEnd}
 use Rattle.chunk_run.specs.declared.run.ChunkEnd.TheVariants.{Committed, RolledBack}
