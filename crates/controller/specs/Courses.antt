@@ -73,13 +73,14 @@ HasTurn (Chunks chosen) m = Unit {0}
 HasTurn (Plainly turns) m = has_turn m.outer.left ≡ true
 HasTurn (Over ending) m = Unit {0}
 
--- a stage that runs no turn is nearer to the end
+-- how near a stage is to the end, among those at one moment: a held chunk leads to turns in original order without a turn
 abbrev pub weight : {D : ℕ} → Stage D → ℕ
 weight Profiles = 2
 weight (Chunks chosen) = 2
 weight (Plainly turns) = 1
 weight (Over ending) = 0
 
+-- how far a run is from its end: each turn takes a step, which outweighs every stage
 abbrev pub rest_of : {D : ℕ} → Stage D → Moment → ℕ
 rest_of stage m = 3 * m.left + weight stage
 
