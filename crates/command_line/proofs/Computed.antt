@@ -1,34 +1,48 @@
 -- How the commands of words that are written out are computed.
-use Rattle.std.proofs.Common.{◌≡◌, ◌∙◌, ap, sym, true, false, true≢false, ℕ, ℤ, pos, List, Some, None, codes}
+use Rattle.std.proofs.Common.{◌≡◌, ◌∙◌, ap, refl, sym, subst, true, false, true≢false, ℕ, ℤ, pos, List, [], ◌∷◌, Option, Some, None, codes}
+use Rattle.std.specs.Str.{bytes_eq}
+use Rattle.std.proofs.lemmas.Slice.Eq.{bytes_eq-Decides}
 use Rattle.std.specs.Str.Parse.{digits_value}
 use Rattle.clap.specs.Words.{Row, Text, all_of, first_of, matches_of, takes}
 use Rattle.command_line.specs.declared.invocation.Mode.{Mode}
-use Rattle.command_line.specs.Invocations.{HasNumber, IsInvocation, IsNoInvocation}
+use Rattle.command_line.specs.declared.invocation.Mode.TheVariants.{Gen}
+use Rattle.command_line.specs.declared.recipe.Recipe.{Recipe}
+use Rattle.command_line.specs.declared.recipe.Shape.{Shape}
+use Rattle.command_line.specs.declared.recipe.Shape.TheVariants as shape
+use Rattle.command_line.specs.Numbers.{IsNumberIn}
+use Rattle.command_line.specs.Invocations.{HasNumber, IsFoundMode, IsInvocation, IsNoInvocation}
 use Rattle.command_line.specs.Examples.{command}
-use Rattle.command_line.specs.Modes.{word_of}
+use Rattle.command_line.specs.Modes.{HasArguments, IsRecipe, shape_word, word_of}
 use Rattle.command_line.specs.Syntax.{syntax}
 use Rattle.command_line.proofs.Digits.{IsNumberIn-from_test, is_number_in, test-from_IsNumberIn}
-use Rattle.command_line.proofs.Found.{mode_of, mode_of-word_of, number_there, same_text}
+use Rattle.command_line.proofs.Found.{has_recipe, mode_of, mode_of-word_of, number_there, same_text, texts-same}
 
 number_given : (rows : List Row) (option : Text) (least most : ℕ) (text : Text) → first_of option rows ≡ Some text → is_number_in least most text ≡ true
     → HasNumber rows option least most (pos (digits_value 10 text))
 number_given rows option least most text given test = record { text = text; value = given; is = IsNumberIn-from_test least most text test }
 
+-- the recipe of three texts
+abbrev pub recipe_of : Text → Shape → Text → Recipe
+recipe_of seed kind size = record { seed = digits_value 10 seed; shape = kind; size = digits_value 10 size }
+
+pub is_recipe : (seed size : Text) (kind : Shape) → is_number_in 0 4294967295 seed ≡ true → is_number_in 1 256 size ≡ true → IsRecipe (seed ∷ shape_word kind ∷ size ∷ []) (recipe_of seed kind size)
+is_recipe seed size kind seed-in size-in =
+    record { seed = seed; size = size; texts_are = refl; seed_is = IsNumberIn-from_test 0 4294967295 seed seed-in; size_is = IsNumberIn-from_test 1 256 size size-in }
+
 -- what was found in the words, where it is these texts
 pub is_command : (words : List Text) (mode : Mode) (workers chunk sample steps : Text) → takes syntax words ≡ true
-    → first_of (codes "MODE") (matches_of syntax words) ≡ Some (word_of mode) → all_of (codes "ARGS") (matches_of syntax words) ≡ None
+    → first_of (codes "MODE") (matches_of syntax words) ≡ Some (word_of mode) → HasArguments mode (all_of (codes "ARGS") (matches_of syntax words))
     → first_of (codes "workers") (matches_of syntax words) ≡ Some workers → is_number_in 1 64 workers ≡ true
     → first_of (codes "chunk") (matches_of syntax words) ≡ Some chunk → is_number_in 1 1024 chunk ≡ true
     → first_of (codes "sample") (matches_of syntax words) ≡ Some sample → is_number_in 2 64 sample ≡ true
     → first_of (codes "steps") (matches_of syntax words) ≡ Some steps → is_number_in 0 4294967296 steps ≡ true
     → IsInvocation words (command mode (digits_value 10 workers) (digits_value 10 chunk) (digits_value 10 sample) (digits_value 10 steps))
-is_command words mode workers chunk sample steps taken word none w w-in c c-in s s-in n n-in =
+is_command words mode workers chunk sample steps taken word arguments w w-in c c-in s s-in n n-in =
     let rows = matches_of syntax words in
     record {
       taken = taken;
       found = record {
-        mode = word;
-        args = none;
+        mode = record { word = word_of mode; value = word; is = record { word_is = refl; has = arguments } };
         options = record {
           workers = number_given rows (codes "workers") 1 64 workers w w-in;
           chunk = number_given rows (codes "chunk") 1 1024 chunk c c-in;
@@ -41,16 +55,40 @@ is_command words mode workers chunk sample steps taken word none w w-in c c-in s
 pub not_taken : (words : List Text) → takes syntax words ≡ false → IsNoInvocation words
 not_taken words fails c is = true≢false (sym is.taken ∙ fails)
 
-pub not_a_mode : (words : List Text) (word : Text) → first_of (codes "MODE") (matches_of syntax words) ≡ Some word → mode_of word ≡ None → IsNoInvocation words
+pub not_a_mode : (words : List Text) (word : Text) → first_of (codes "MODE") (matches_of syntax words) ≡ Some word → ((recipe : Recipe) → mode_of recipe word ≡ None) → IsNoInvocation words
 not_a_mode words word given fails c is =
-    let same = same_text word (word_of c.mode) (sym given ∙ is.found.mode) in
-    let bad : None ≡ Some c.mode = sym fails ∙ (ap mode_of same ∙ mode_of-word_of c.mode) in
+    let found = is.found.mode in
+    let any : Recipe = record { seed = 0; shape = shape.Copy; size = 1 } in
+    let same = same_text word found.word (sym given ∙ found.value) in
+    let bad = sym (fails any) ∙ (ap (mode_of any) (same ∙ found.is.word_is) ∙ mode_of-word_of any c.mode) in
     cc
 
-pub with_arguments : (words given : List Text) → all_of (codes "ARGS") (matches_of syntax words) ≡ Some given → IsNoInvocation words
-with_arguments words given some c is =
-    let bad : None ≡ Some given = sym is.found.args ∙ some in
+-- a mode with arguments is mode `gen`, and they are its recipe
+recipe_found : (words given : List Text) → all_of (codes "ARGS") (matches_of syntax words) ≡ Some given → (mode : Mode) → IsFoundMode (matches_of syntax words) mode
+    → (recipe : Recipe) × (mode ≡ Gen recipe) × IsRecipe given recipe
+recipe_found words given some mode found =
+    has_recipe given mode (subst (λ (a : Option (List Text)). HasArguments mode a) some found.is.has)
+
+pub with_arguments : (words given : List Text) (word : Text) → all_of (codes "ARGS") (matches_of syntax words) ≡ Some given → first_of (codes "MODE") (matches_of syntax words) ≡ Some word
+    → bytes_eq word (codes "gen") ≡ false → IsNoInvocation words
+with_arguments words given word some named other c is =
+    let found = is.found.mode in
+    let (recipe, gen, read) = recipe_found words given some c.mode found in
+    let same : word ≡ codes "gen" = same_text word found.word (sym named ∙ found.value) ∙ (found.is.word_is ∙ ap word_of gen) in
+    true≢false (sym ((bytes_eq-Decides word (codes "gen")).1 same) ∙ other)
+
+pub too_few_arguments : (words : List Text) (one two : Text) → all_of (codes "ARGS") (matches_of syntax words) ≡ Some (one ∷ two ∷ []) → IsNoInvocation words
+too_few_arguments words one two some c is =
+    let (recipe, gen, read) = recipe_found words (one ∷ two ∷ []) some c.mode is.found.mode in
+    let bad : one ∷ two ∷ [] ≡ read.seed ∷ shape_word recipe.shape ∷ read.size ∷ [] = read.texts_are in
     cc
+
+pub not_a_size : (words : List Text) (seed kind size : Text) → all_of (codes "ARGS") (matches_of syntax words) ≡ Some (seed ∷ kind ∷ size ∷ []) → is_number_in 1 256 size ≡ false → IsNoInvocation words
+not_a_size words seed kind size some fails c is =
+    let (recipe, gen, read) = recipe_found words (seed ∷ kind ∷ size ∷ []) some c.mode is.found.mode in
+    let (seeds, kinds, sizes) = texts-same seed kind size read.seed (shape_word recipe.shape) read.size read.texts_are in
+    let there = subst (λ (t : Text). IsNumberIn 1 256 t (pos recipe.size)) (sym sizes) read.size_is in
+    true≢false (sym (test-from_IsNumberIn 1 256 size (pos recipe.size) there) ∙ fails)
 
 not_a_number : (rows : List Row) (option : Text) (least most : ℕ) (text : Text) → first_of option rows ≡ Some text → is_number_in least most text ≡ false
     → (number : ℤ) → HasNumber rows option least most number → ⊥

@@ -7,15 +7,18 @@ use Rattle.std.proofs.lemmas.Bool.{ltb-true, ltb-false, leb-true, leb-false}
 use Rattle.std.proofs.lemmas.Slice.Eq.{bytes_eq-Decides}
 use Rattle.clap.specs.Words.{Row, Text, all_of, first_of, matches_of, takes}
 use Rattle.command_line.specs.Numbers.{IsNumberIn}
-use Rattle.command_line.specs.Invocations.{HasNumber, HasOptions, IsFoundInvocation, IsInvocation, IsNoInvocation}
+use Rattle.command_line.specs.Invocations.{HasNumber, HasOptions, IsFoundInvocation, IsFoundMode, IsInvocation, IsNoInvocation}
 use Rattle.command_line.specs.Laws.{InvocationOrNone}
-use Rattle.command_line.specs.Modes.{word_of}
+use Rattle.command_line.specs.Modes.{HasArguments, IsModeOf, IsRecipe, shape_word, word_of}
 use Rattle.command_line.specs.Syntax.{syntax}
 use Rattle.command_line.specs.declared.invocation.Invocation.{Invocation}
 use Rattle.command_line.specs.declared.invocation.Options.{Options}
 use Rattle.command_line.specs.declared.invocation.Mode.{Mode}
-use Rattle.command_line.specs.declared.invocation.Mode.TheVariants.{Plain, Run, Check, Deps}
-use Rattle.command_line.proofs.Found.{no_number, number_there, no_number_below, same_text}
+use Rattle.command_line.specs.declared.invocation.Mode.TheVariants.{Plain, Run, Check, Deps, Gen}
+use Rattle.command_line.specs.declared.recipe.Recipe.{Recipe}
+use Rattle.command_line.specs.declared.recipe.Shape.{Shape}
+use Rattle.command_line.specs.declared.recipe.Shape.TheVariants as shape
+use Rattle.command_line.proofs.Found.{has_recipe, no_number, number_there, no_number_below, same_text, texts-same}
 
 -- something is so, or nothing is
 abbrev Decided : {X : Type 0} → (X → Type 0) → Type 0
@@ -77,42 +80,92 @@ options rows = elim (has_number rows (codes "workers") 1 64) [
   ]
 ]
 
--- the mode of a word
-mode : (word : Text) → Decided (λ m. word ≡ word_of m)
-mode word = at (bytes_eq word (codes "plain")) (bytes_eq word (codes "run")) (bytes_eq word (codes "check")) (bytes_eq word (codes "deps")) refl refl refl refl
+-- the shape of a word
+shape_named : (word : Text) → Decided (λ kind. word ≡ shape_word kind)
+shape_named word = at (bytes_eq word (codes "copy")) (bytes_eq word (codes "list")) (bytes_eq word (codes "grid")) refl refl refl
   where
-    at : (plain run check deps : Bool) → bytes_eq word (codes "plain") ≡ plain → bytes_eq word (codes "run") ≡ run → bytes_eq word (codes "check") ≡ check → bytes_eq word (codes "deps") ≡ deps → Decided (λ m. word ≡ word_of m)
-    at true run check deps e r k l = inl (Plain, (bytes_eq-Decides word (codes "plain")).0 e)
-    at false true check deps e r k l = inl (Run, (bytes_eq-Decides word (codes "run")).0 r)
-    at false false true deps e r k l = inl (Check, (bytes_eq-Decides word (codes "check")).0 k)
-    at false false false true e r k l = inl (Deps, (bytes_eq-Decides word (codes "deps")).0 l)
-    at false false false false e r k l = inr none
+    at : (copy linked grid : Bool) → bytes_eq word (codes "copy") ≡ copy → bytes_eq word (codes "list") ≡ linked → bytes_eq word (codes "grid") ≡ grid → Decided (λ kind. word ≡ shape_word kind)
+    at true linked grid c l g = inl (shape.Copy, (bytes_eq-Decides word (codes "copy")).0 c)
+    at false true grid c l g = inl (shape.List, (bytes_eq-Decides word (codes "list")).0 l)
+    at false false true c l g = inl (shape.Grid, (bytes_eq-Decides word (codes "grid")).0 g)
+    at false false false c l g = inr none
       where
-        none : (m : Mode) → word ≡ word_of m → ⊥
-        none Plain h = let t : bytes_eq word (codes "plain") ≡ true = (bytes_eq-Decides word (codes "plain")).1 h in let bad : true ≡ false = sym t ∙ e in cc
-        none Run h = let t : bytes_eq word (codes "run") ≡ true = (bytes_eq-Decides word (codes "run")).1 h in let bad : true ≡ false = sym t ∙ r in cc
-        none Check h = let t : bytes_eq word (codes "check") ≡ true = (bytes_eq-Decides word (codes "check")).1 h in let bad : true ≡ false = sym t ∙ k in cc
-        none Deps h = let t : bytes_eq word (codes "deps") ≡ true = (bytes_eq-Decides word (codes "deps")).1 h in let bad : true ≡ false = sym t ∙ l in cc
+        none : (kind : Shape) → word ≡ shape_word kind → ⊥
+        none shape.Copy h = let t : bytes_eq word (codes "copy") ≡ true = (bytes_eq-Decides word (codes "copy")).1 h in let bad : true ≡ false = sym t ∙ c in cc
+        none shape.List h = let t : bytes_eq word (codes "list") ≡ true = (bytes_eq-Decides word (codes "list")).1 h in let bad : true ≡ false = sym t ∙ l in cc
+        none shape.Grid h = let t : bytes_eq word (codes "grid") ≡ true = (bytes_eq-Decides word (codes "grid")).1 h in let bad : true ≡ false = sym t ∙ g in cc
 
-found_mode : (rows : List Row) → Decided (λ m. first_of (codes "MODE") rows ≡ Some (word_of m))
-found_mode rows = elim (first_of (codes "MODE") rows) as (λ o. Decided (λ m. o ≡ Some (word_of m))) [
-  | None ↦ inr (λ m h. (let bad : None ≡ Some (word_of m) = h in cc))
-  | Some word ↦ elim (mode word) [ inl is ↦ inl (is.0, ap (λ (t : Text). Some t) is.1) | inr never ↦ inr (λ m h. never m (same_text word (word_of m) h)) ]
+-- the recipe of three texts
+recipe_of : (seed kind size : Text) → Decided (IsRecipe (seed ∷ kind ∷ size ∷ []))
+recipe_of seed kind size = elim (number_in 0 4294967295 seed) [
+  | inr never ↦ inr (λ r h. (let same = texts-same _ _ _ _ _ _ h.texts_are in never r.seed (subst (λ (t : Text). IsNumberIn 0 4294967295 t (pos r.seed)) (sym same.0) h.seed_is)))
+  | inl s ↦ elim (shape_named kind) [
+    | inr never ↦ inr (λ r h. (let same = texts-same _ _ _ _ _ _ h.texts_are in never r.shape same.1))
+    | inl k ↦ elim (number_in 1 256 size) [
+      | inr never ↦ inr (λ r h. (let same = texts-same _ _ _ _ _ _ h.texts_are in never r.size (subst (λ (t : Text). IsNumberIn 1 256 t (pos r.size)) (sym same.2) h.size_is)))
+      | inl n ↦ inl (record { seed = s.0; shape = k.0; size = n.0 }, record { seed = seed; size = size; texts_are = ap (λ (t : Text). seed ∷ t ∷ size ∷ []) k.1; seed_is = s.1; size_is = n.1 })
+    ]
+  ]
 ]
 
-no_arguments : (o : Option (List Text)) → (o ≡ None) ⊎ (o ≡ None → ⊥)
-no_arguments None = inl refl
-no_arguments (Some texts) = inr (λ h. (let bad : Some texts ≡ None = h in cc))
+recipe : (texts : List Text) → Decided (IsRecipe texts)
+recipe [] = inr (λ r h. (let bad : [] ≡ h.seed ∷ shape_word r.shape ∷ h.size ∷ [] = h.texts_are in cc))
+recipe (a ∷ []) = inr (λ r h. (let bad : a ∷ [] ≡ h.seed ∷ shape_word r.shape ∷ h.size ∷ [] = h.texts_are in cc))
+recipe (a ∷ b ∷ []) = inr (λ r h. (let bad : a ∷ b ∷ [] ≡ h.seed ∷ shape_word r.shape ∷ h.size ∷ [] = h.texts_are in cc))
+recipe (a ∷ b ∷ c ∷ []) = recipe_of a b c
+recipe (a ∷ b ∷ c ∷ d ∷ more) = inr (λ r h. (let bad : a ∷ b ∷ c ∷ d ∷ more ≡ h.seed ∷ shape_word r.shape ∷ h.size ∷ [] = h.texts_are in cc))
+
+-- the mode of a word without arguments
+mode_alone : (word : Text) → Decided (IsModeOf word None)
+mode_alone word = at (bytes_eq word (codes "plain")) (bytes_eq word (codes "run")) (bytes_eq word (codes "check")) (bytes_eq word (codes "deps")) refl refl refl refl
+  where
+    at : (plain run check deps : Bool) → bytes_eq word (codes "plain") ≡ plain → bytes_eq word (codes "run") ≡ run → bytes_eq word (codes "check") ≡ check → bytes_eq word (codes "deps") ≡ deps → Decided (IsModeOf word None)
+    at true run check deps e r k l = inl (Plain, record { word_is = (bytes_eq-Decides word (codes "plain")).0 e; has = refl })
+    at false true check deps e r k l = inl (Run, record { word_is = (bytes_eq-Decides word (codes "run")).0 r; has = refl })
+    at false false true deps e r k l = inl (Check, record { word_is = (bytes_eq-Decides word (codes "check")).0 k; has = refl })
+    at false false false true e r k l = inl (Deps, record { word_is = (bytes_eq-Decides word (codes "deps")).0 l; has = refl })
+    at false false false false e r k l = inr (λ m h. none m h.word_is h.has)
+      where
+        none : (m : Mode) → word ≡ word_of m → HasArguments m None → ⊥
+        none Plain h a = let t : bytes_eq word (codes "plain") ≡ true = (bytes_eq-Decides word (codes "plain")).1 h in let bad : true ≡ false = sym t ∙ e in cc
+        none Run h a = let t : bytes_eq word (codes "run") ≡ true = (bytes_eq-Decides word (codes "run")).1 h in let bad : true ≡ false = sym t ∙ r in cc
+        none Check h a = let t : bytes_eq word (codes "check") ≡ true = (bytes_eq-Decides word (codes "check")).1 h in let bad : true ≡ false = sym t ∙ k in cc
+        none Deps h a = let t : bytes_eq word (codes "deps") ≡ true = (bytes_eq-Decides word (codes "deps")).1 h in let bad : true ≡ false = sym t ∙ l in cc
+        none (Gen r) h (texts, bad, is) = cc
+
+-- the mode of a word with arguments
+mode_with : (word : Text) (texts : List Text) → Decided (IsModeOf word (Some texts))
+mode_with word texts = elim (bytes_eq word (codes "gen")) as (λ b. bytes_eq word (codes "gen") ≡ b → Decided (IsModeOf word (Some texts))) [
+  | true ↦ λ e. elim (recipe texts) [
+    | inl is ↦ inl (Gen is.0, record { word_is = (bytes_eq-Decides word (codes "gen")).0 e; has = (texts, refl, is.1) })
+    | inr never ↦ inr (λ m h. (let r = has_recipe texts m h.has in never r.0 r.2))
+  ]
+  | false ↦ λ e. inr (λ m h. (
+      let r = has_recipe texts m h.has in
+      let t : bytes_eq word (codes "gen") ≡ true = (bytes_eq-Decides word (codes "gen")).1 (h.word_is ∙ ap word_of r.1) in
+      let bad : true ≡ false = sym t ∙ e in
+      cc))
+] refl
+
+mode : (word : Text) (arguments : Option (List Text)) → Decided (IsModeOf word arguments)
+mode word None = mode_alone word
+mode word (Some texts) = mode_with word texts
+
+found_mode : (rows : List Row) → Decided (IsFoundMode rows)
+found_mode rows = elim (first_of (codes "MODE") rows) as (λ o. first_of (codes "MODE") rows ≡ o → Decided (IsFoundMode rows)) [
+  | None ↦ λ e. inr (λ m h. (let bad : None ≡ Some h.word = sym e ∙ h.value in cc))
+  | Some word ↦ λ e. elim (mode word (all_of (codes "ARGS") rows)) [
+    | inl is ↦ inl (is.0, record { word = word; value = e; is = is.1 })
+    | inr never ↦ inr (λ m h. never m (subst (λ (w : Text). IsModeOf w (all_of (codes "ARGS") rows) m) (same_text h.word word (sym h.value ∙ e)) h.is))
+  ]
+] refl
 
 found : (rows : List Row) → Decided (IsFoundInvocation rows)
 found rows = elim (found_mode rows) [
   | inr never ↦ inr (λ i h. never i.mode h.mode)
-  | inl m ↦ elim (no_arguments (all_of (codes "ARGS") rows)) [
-    | inr never ↦ inr (λ i h. never h.args)
-    | inl a ↦ elim (options rows) [
-      | inr never ↦ inr (λ i h. never i.options h.options)
-      | inl o ↦ inl (record { mode = m.0; options = o.0 }, record { mode = m.1; args = a; options = o.1 })
-    ]
+  | inl m ↦ elim (options rows) [
+    | inr never ↦ inr (λ i h. never i.options h.options)
+    | inl o ↦ inl (record { mode = m.0; options = o.0 }, record { mode = m.1; options = o.1 })
   ]
 ]
 

@@ -1,5 +1,5 @@
 -- What was found in the words, and what of it is there only once.
-use Rattle.std.proofs.Common.{◌≡◌, ◌∙◌, ℕ, ℤ, pos, sym, ap, subst, refl, List, Option, Some, None, option_map, is_some, true, false, codes}
+use Rattle.std.proofs.Common.{◌≡◌, ◌∙◌, ℕ, ℤ, pos, sym, ap, subst, refl, List, [], ◌∷◌, Option, Some, None, option_map, is_some, true, false, codes}
 use Rattle.std.specs.Prelude.{IsSomeAnd, if◌then◌else◌}
 use Rattle.std.specs.Str.{bytes_eq}
 use Rattle.std.specs.Borrow.{Bor}
@@ -9,12 +9,15 @@ use Rattle.clap.proofs.WalkLemmas.{first_value-rows}
 use Rattle.command_line.specs.Numbers.{IsNumberIn}
 use Rattle.std.specs.Str.Parse.{digits_value}
 use Rattle.clap.specs.Words.{matches_of}
-use Rattle.command_line.specs.Invocations.{Finds, HasNumber, IsInvocation}
-use Rattle.command_line.specs.Modes.{word_of}
+use Rattle.command_line.specs.Invocations.{Finds, HasNumber, IsFoundMode, IsInvocation}
+use Rattle.command_line.specs.Modes.{HasArguments, IsModeOf, IsRecipe, shape_word, word_of}
 use Rattle.command_line.specs.Syntax.{syntax}
 use Rattle.command_line.specs.declared.invocation.Invocation.{Invocation}
 use Rattle.command_line.specs.declared.invocation.Mode.{Mode}
-use Rattle.command_line.specs.declared.invocation.Mode.TheVariants.{Plain, Run, Check, Deps}
+use Rattle.command_line.specs.declared.invocation.Mode.TheVariants.{Plain, Run, Check, Deps, Gen}
+use Rattle.command_line.specs.declared.recipe.Recipe.{Recipe}
+use Rattle.command_line.specs.declared.recipe.Shape.{Shape}
+use Rattle.command_line.specs.declared.recipe.Shape.TheVariants as shape
 
 pub nothing : {T : Type 0} (found : Option T) (P : T → Type 0) → found ≡ None → ((x : T) → P x → ⊥) → Finds found P
 nothing found P none h = subst (λ o. Finds o P) (sym none) h
@@ -65,38 +68,105 @@ some_that (Some y) x h = ap (λ z. Some z) h
 
 -- ---- words are at most one command
 
--- the mode of a word
-unfoldable pub mode_of : Text → Option Mode
-mode_of word = if bytes_eq word (codes "plain") then Some Plain
+one_natural : (m n : ℕ) → pos m ≡ pos n → m ≡ n
+one_natural m n e = cc
+
+-- the mode of a word, with this recipe where it has one
+unfoldable pub mode_of : Recipe → Text → Option Mode
+mode_of recipe word = if bytes_eq word (codes "plain") then Some Plain
     else if bytes_eq word (codes "run") then Some Run
     else if bytes_eq word (codes "check") then Some Check
     else if bytes_eq word (codes "deps") then Some Deps
+    else if bytes_eq word (codes "gen") then Some (Gen recipe)
     else None
 
-pub mode_of-word_of : (mode : Mode) → mode_of (word_of mode) ≡ Some mode
-unfolding mode_of
-mode_of-word_of Plain = refl
-mode_of-word_of Run = refl
-mode_of-word_of Check = refl
-mode_of-word_of Deps = refl
+-- a mode, with this recipe where it has one
+abbrev with_recipe : Recipe → Mode → Mode
+with_recipe recipe (Gen other) = Gen recipe
+with_recipe recipe mode = mode
 
-one_mode : (one other : Mode) → word_of one ≡ word_of other → one ≡ other
-one_mode one other e = same_text one other (sym (mode_of-word_of one) ∙ (ap mode_of e ∙ mode_of-word_of other))
+pub mode_of-word_of : (recipe : Recipe) (mode : Mode) → mode_of recipe (word_of mode) ≡ Some (with_recipe recipe mode)
+unfolding mode_of
+mode_of-word_of recipe Plain = refl
+mode_of-word_of recipe Run = refl
+mode_of-word_of recipe Check = refl
+mode_of-word_of recipe Deps = refl
+mode_of-word_of recipe (Gen other) = refl
+
+-- a mode without arguments has no recipe
+has_no_recipe : (recipe : Recipe) (mode : Mode) → HasArguments mode None → with_recipe recipe mode ≡ mode
+has_no_recipe recipe Plain h = refl
+has_no_recipe recipe Run h = refl
+has_no_recipe recipe Check h = refl
+has_no_recipe recipe Deps h = refl
+has_no_recipe recipe (Gen other) (texts, bad, is) = absurd (cc)
+
+-- a mode with arguments is that of their recipe
+pub has_recipe : (texts : List Text) (mode : Mode) → HasArguments mode (Some texts) → (recipe : Recipe) × (mode ≡ Gen recipe) × IsRecipe texts recipe
+has_recipe texts Plain bad = absurd (cc)
+has_recipe texts Run bad = absurd (cc)
+has_recipe texts Check bad = absurd (cc)
+has_recipe texts Deps bad = absurd (cc)
+has_recipe texts (Gen recipe) (given, same, is) = (recipe, refl, subst (λ (ts : List Text). IsRecipe ts recipe) (same_text given texts (sym same)) is)
+
+-- the shape of a word
+unfoldable pub shape_of : Text → Option Shape
+shape_of word = if bytes_eq word (codes "copy") then Some shape.Copy
+    else if bytes_eq word (codes "list") then Some shape.List
+    else if bytes_eq word (codes "grid") then Some shape.Grid
+    else None
+
+pub shape_of-shape_word : (kind : Shape) → shape_of (shape_word kind) ≡ Some kind
+unfolding shape_of
+shape_of-shape_word shape.Copy = refl
+shape_of-shape_word shape.List = refl
+shape_of-shape_word shape.Grid = refl
+
+-- the three texts of a recipe
+pub texts-same : (a b c d e f : Text) → ◌≡◌ {A = List Text} (a ∷ b ∷ c ∷ []) (d ∷ e ∷ f ∷ []) → (a ≡ d) × (b ≡ e) × (c ≡ f)
+texts-same a b c d e f h = (cc, cc, cc)
+
+same_number : (least most : ℕ) (text other : Text) (m n : ℕ) → text ≡ other → IsNumberIn least most text (pos m) → IsNumberIn least most other (pos n) → m ≡ n
+same_number least most text other m n same one two =
+    one_natural _ _ (one.value ∙ (ap (λ t. pos (digits_value 10 t)) same ∙ sym two.value))
+
+one_recipe : (texts : List Text) (one other : Recipe) → IsRecipe texts one → IsRecipe texts other → one ≡ other
+one_recipe texts one other h k =
+    let (seeds, shapes, sizes) = texts-same h.seed (shape_word one.shape) h.size k.seed (shape_word other.shape) k.size (sym h.texts_are ∙ k.texts_are) in
+    let seed : one.seed ≡ other.seed = same_number 0 4294967295 h.seed k.seed one.seed other.seed seeds h.seed_is k.seed_is in
+    let size : one.size ≡ other.size = same_number 1 256 h.size k.size one.size other.size sizes h.size_is k.size_is in
+    let kind : one.shape ≡ other.shape = same_text one.shape other.shape (sym (shape_of-shape_word one.shape) ∙ (ap shape_of shapes ∙ shape_of-shape_word other.shape)) in
+    λ i. record { seed = seed i; shape = kind i; size = size i }
+
+-- a word and its arguments are those of one mode
+one_mode : (word : Text) (arguments : Option (List Text)) (one other : Mode) → IsModeOf word arguments one → IsModeOf word arguments other → one ≡ other
+one_mode word None one other h k =
+    let any : Recipe = record { seed = 0; shape = shape.Copy; size = 1 } in
+    let same : with_recipe any one ≡ with_recipe any other =
+    same_text _ _ (sym (mode_of-word_of any one) ∙ (ap (mode_of any) (sym h.word_is ∙ k.word_is) ∙ mode_of-word_of any other)) in
+    sym (has_no_recipe any one h.has) ∙ (same ∙ has_no_recipe any other k.has)
+one_mode word (Some texts) one other h k =
+    let (recipe, is, read) = has_recipe texts one h.has in
+    let (another, is', read') = has_recipe texts other k.has in
+    is ∙ (ap (λ (r : Recipe). Gen r) (one_recipe texts recipe another read read') ∙ sym is')
+
+-- the mode that was found is one
+one_found_mode : (rows : List Row) (one other : Mode) → IsFoundMode rows one → IsFoundMode rows other → one ≡ other
+one_found_mode rows one other h k =
+    let same = same_text k.word h.word (sym k.value ∙ h.value) in
+    one_mode h.word _ one other h.is (subst (λ (word : Text). IsModeOf word _ other) same k.is)
 
 one_number : (rows : List Row) (option : Text) (least most : ℕ) (one other : ℤ) → HasNumber rows option least most one → HasNumber rows option least most other → one ≡ other
 one_number rows option least most one other h k =
     let same = same_text h.text k.text (sym h.value ∙ k.value) in
     h.is.value ∙ (ap (λ t. pos (digits_value 10 t)) same ∙ sym k.is.value)
 
-one_natural : (m n : ℕ) → pos m ≡ pos n → m ≡ n
-one_natural m n e = cc
-
 pub one_invocation : (words : List Text) (one other : Invocation) → IsInvocation words one → IsInvocation words other → one ≡ other
 one_invocation words one other h k =
     let rows = matches_of syntax words in
     let options = h.found.options in
     let others = k.found.options in
-    let mode : one.mode ≡ other.mode = one_mode one.mode other.mode (same_text _ _ (sym h.found.mode ∙ k.found.mode)) in
+    let mode : one.mode ≡ other.mode = one_found_mode rows one.mode other.mode h.found.mode k.found.mode in
     let workers : one.options.workers ≡ other.options.workers = one_natural _ _ (one_number rows _ _ _ _ _ options.workers others.workers) in
     let chunk : one.options.chunk ≡ other.options.chunk = one_number rows _ _ _ _ _ options.chunk others.chunk in
     let sample : one.options.sample ≡ other.options.sample = one_number rows _ _ _ _ _ options.sample others.sample in

@@ -2,7 +2,8 @@
 use Rattle.std.specs.Prelude.{ℕ, pos, [], ◌∷◌, codes}
 use Rattle.command_line.specs.declared.invocation.Invocation.{Invocation}
 use Rattle.command_line.specs.declared.invocation.Mode.{Mode}
-use Rattle.command_line.specs.declared.invocation.Mode.TheVariants.{Plain, Run, Check, Deps}
+use Rattle.command_line.specs.declared.invocation.Mode.TheVariants.{Plain, Run, Check, Deps, Gen}
+use Rattle.command_line.specs.declared.recipe.Shape.TheVariants.{List as Linked}
 use Rattle.command_line.specs.Invocations.{IsInvocation, IsNoInvocation}
 
 -- a command of these numbers: workers, chunk, sample, steps
@@ -19,6 +20,7 @@ pub record AreInvocations : Type 0 where
   pub run : IsInvocation (codes "--sample" ∷ codes "8" ∷ codes "run" ∷ codes "--chunk=64" ∷ []) (command Run 4 64 8 1000000)
   pub check : IsInvocation (codes "check" ∷ []) (command Check 4 32 4 1000000)
   pub deps : IsInvocation (codes "deps" ∷ codes "--chunk=8" ∷ []) (command Deps 4 8 4 1000000)
+  pub gen : IsInvocation (codes "gen" ∷ codes "007" ∷ codes "--chunk" ∷ codes "8" ∷ codes "list" ∷ codes "2" ∷ []) (command (Gen (record { seed = 7; shape = Linked; size = 2 })) 4 8 4 1000000)
   pub steps : IsInvocation (codes "plain" ∷ codes "--steps" ∷ codes "10" ∷ []) (command Plain 4 32 4 10)
   pub joined_and_first : IsInvocation (codes "--steps=10" ∷ codes "plain" ∷ []) (command Plain 4 32 4 10)
   pub all_options : IsInvocation (codes "--workers" ∷ codes "64" ∷ codes "plain" ∷ codes "--chunk=1" ∷ codes "--sample" ∷ codes "0000000008" ∷ codes "--steps=4294967296" ∷ []) (command Plain 64 1 8 4294967296)
@@ -30,6 +32,8 @@ pub record AreNone : Type 0 where
   pub no_mode : IsNoInvocation (codes "--steps" ∷ codes "10" ∷ [])
   pub another_mode : IsNoInvocation (codes "runs" ∷ [])
   pub an_argument : IsNoInvocation (codes "plain" ∷ codes "x" ∷ [])
+  pub no_size : IsNoInvocation (codes "gen" ∷ codes "0" ∷ codes "copy" ∷ [])
+  pub a_size_too_large : IsNoInvocation (codes "gen" ∷ codes "0" ∷ codes "copy" ∷ codes "257" ∷ [])
   pub given_twice : IsNoInvocation (codes "plain" ∷ codes "--steps" ∷ codes "10" ∷ codes "--steps" ∷ codes "11" ∷ [])
   pub no_value : IsNoInvocation (codes "plain" ∷ codes "--steps" ∷ [])
   pub empty_value : IsNoInvocation (codes "plain" ∷ codes "--steps=" ∷ [])

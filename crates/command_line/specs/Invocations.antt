@@ -3,7 +3,8 @@ use Rattle.std.specs.Prelude.{◌≡◌, ℕ, ℤ, pos, List, Option, Some, None
 use Rattle.clap.specs.Words.{Row, Text, all_of, first_of, matches_of, takes}
 use Rattle.command_line.specs.declared.invocation.Invocation.{Invocation}
 use Rattle.command_line.specs.declared.invocation.Options.{Options}
-use Rattle.command_line.specs.Modes.{word_of}
+use Rattle.command_line.specs.declared.invocation.Mode.{Mode}
+use Rattle.command_line.specs.Modes.{IsModeOf}
 use Rattle.command_line.specs.Numbers.{IsNumberIn}
 use Rattle.command_line.specs.Syntax.{syntax}
 
@@ -25,11 +26,15 @@ pub record HasOptions (rows : List Row) (options : Options) : Type 0 where
   pub sample : HasNumber rows (codes "sample") 2 64 options.sample
   pub steps : HasNumber rows (codes "steps") 0 4294967296 (pos options.steps)
 
--- what was found in the words is the invocation: MODE is its mode's word, there are no ARGS, which no
--- mode that is built has, and the options are its options
+-- the mode that was found: MODE is its word, and ARGS are its arguments
+pub record IsFoundMode (rows : List Row) (mode : Mode) : Type 0 where
+  pub word : Text
+  pub value : first_of (codes "MODE") rows ≡ Some word
+  pub is : IsModeOf word (all_of (codes "ARGS") rows) mode
+
+-- what was found in the words is the invocation: its mode, and its options
 pub record IsFoundInvocation (rows : List Row) (invocation : Invocation) : Type 0 where
-  pub mode : first_of (codes "MODE") rows ≡ Some (word_of invocation.mode)
-  pub args : all_of (codes "ARGS") rows ≡ None
+  pub mode : IsFoundMode rows invocation.mode
   pub options : HasOptions rows invocation.options
 
 -- the words are this invocation: `clap` takes them, and what it finds in them is the invocation

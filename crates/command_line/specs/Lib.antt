@@ -1,5 +1,5 @@
-pub mod Modes
 pub mod Numbers
+pub mod Modes
 pub mod Syntax
 pub mod Invocations
 pub mod Laws

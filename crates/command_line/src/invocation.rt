@@ -1,8 +1,10 @@
 //! What the words ask for.
 
+ghost use Rattle.std.specs.Prelude.{map, option_map};
 ghost use Rattle.command_line.specs.Invocations.{Finds};
-ghost use Rattle.command_line.specs.Modes.{word_of};
-ghost use Rattle.std.specs.Prelude.{◌≡◌};
+ghost use Rattle.command_line.specs.Modes.{IsModeOf};
+
+use crate::recipe::Recipe;
 
 /// What the program is to do. A mode stands here once it is built.
 #[derive(Clone, Copy, Debug, PartialEq, Eq)]
@@ -15,18 +17,21 @@ pub enum Mode {
     Check,
     /// Write the dependence listing of the file.
     Deps,
+    /// Run a generated file speculatively, and write a summary.
+    Gen(Recipe),
 }
 
 impl Mode {
-    /// The mode of a word, if one that is built has it.
-    pub(crate) fn of_word(word: &str) -> Option<Mode>
-        ensures { Finds result (λ mode. word.now ≡ word_of mode) }
+    /// The mode of a word and the arguments behind it, if one that is built has them.
+    pub(crate) fn of_words(word: &str, arguments: Option<&[&str]>) -> Option<Mode>
+        ensures { Finds result (IsModeOf word.now (option_map (λ texts. map (λ text. text.now) texts.now) arguments.entry)) }
     {
-        match word {
-            "plain" => Some(Mode::Plain),
-            "run" => Some(Mode::Run),
-            "check" => Some(Mode::Check),
-            "deps" => Some(Mode::Deps),
+        match (word, arguments) {
+            ("plain", None) => Some(Mode::Plain),
+            ("run", None) => Some(Mode::Run),
+            ("check", None) => Some(Mode::Check),
+            ("deps", None) => Some(Mode::Deps),
+            ("gen", Some(texts)) => Some(Mode::Gen(Recipe::of_words(texts)?)),
             _ => None,
         }
     }

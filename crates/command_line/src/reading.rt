@@ -2,7 +2,7 @@
 
 ghost use Rattle.std.specs.Prelude.{◌≡◌, IfOk, map, pos, string_bytes};
 ghost use Rattle.clap.specs.Words.{found_of, rows_of, kind_of};
-ghost use Rattle.command_line.specs.Invocations.{Finds, IsInvocation, IsFoundInvocation, HasOptions, HasNumber, usage_line};
+ghost use Rattle.command_line.specs.Invocations.{Finds, IsInvocation, IsFoundInvocation, IsFoundMode, HasOptions, HasNumber, usage_line};
 
 use crate::invocation::{Invocation, Mode, Options};
 use crate::number::number_in;
@@ -39,12 +39,17 @@ pub fn usage_text() -> &'static str
 fn invocation_in(matches: &ArgMatches<'_>) -> Option<Invocation>
     ensures { Finds result (IsFoundInvocation (rows_of (found_of matches.now))) }
 {
-    let mode = Mode::of_word(matches.get_str("MODE")?)?;
-    if matches.get_raw("ARGS").is_some() {
-        return None;
-    }
-    let options = options_in(matches)?;
-    Some(Invocation { mode, options })
+    Some(Invocation {
+        mode: mode_in(matches)?,
+        options: options_in(matches)?,
+    })
+}
+
+/// The mode, with its arguments.
+fn mode_in(matches: &ArgMatches<'_>) -> Option<Mode>
+    ensures { Finds result (IsFoundMode (rows_of (found_of matches.now))) }
+{
+    Mode::of_words(matches.get_str("MODE")?, matches.get_strs("ARGS"))
 }
 
 /// The options, each with its number in its range.

@@ -12,8 +12,17 @@ fn read(alloc: Global, words: &[&str]) -> Result<Option<Invocation>, Fail> {
 }
 
 // Words, their mode, and their workers, chunk, sample and steps. More words stand in cases/words.jsonl.
-static INVOCATIONS: [(&[&str], Mode, (u32, i64, i64, u64)); 3] = [
+static INVOCATIONS: [(&[&str], Mode, (u32, i64, i64, u64)); 4] = [
     (&["plain"], Mode::Plain, (4, 32, 4, 1_000_000)),
+    (
+        &["gen", "7", "list", "2"],
+        Mode::Gen(Recipe {
+            seed: 7,
+            shape: Shape::List,
+            size: 2,
+        }),
+        (4, 32, 4, 1_000_000),
+    ),
     (
         &["--workers=64", "--", "check"],
         Mode::Check,

@@ -65,18 +65,18 @@ unfolding statement_trace
 statement-rolled h y = fold-roll-Stmt (Store → Trace) (λ z s. traced (statement_level h z s) s) y
 
 module _ (at : Occurrence) (values : List ℤ) (x y : Expectation) (verify : x.verifies ≡ y.verifies) where
-  abbrev f : Frame
+  abbrev pub f : Frame
   f = frame_with at values x
 
-  abbrev g : Frame
+  abbrev pub g : Frame
   g = frame_with at values y
 
   -- the same is expected of an access, and of these accesses
-  abbrev SameBy : AccessKind → ℕ → Type 0
+  abbrev pub SameBy : AccessKind → ℕ → Type 0
   SameBy kind.Load n = x.loads n ≡ y.loads n
   SameBy kind.Store n = x.stores n ≡ y.stores n
 
-  abbrev Same : List Access → Type 0
+  abbrev pub Same : List Access → Type 0
   Same accesses = (a : Access) → Has accesses a → SameBy a.kind a.number
 
   look-same : (a b : Option Interval) (memory : List ℤ) (z : ℤ) → a ≡ b → look x.verifies a memory z ≡ look y.verifies b memory z
@@ -165,12 +165,12 @@ module _ (at : Occurrence) (values : List ℤ) (x y : Expectation) (verify : x.v
   unfolding announced
   announced-same s = refl
 
-  instance-same : (block : List Stmt) (s : Store) → Same (block_accesses block) → instance_trace f block s ≡ instance_trace g block s
+  pub instance-same : (block : List Stmt) (s : Store) → Same (block_accesses block) → instance_trace f block s ≡ instance_trace g block s
   unfolding instance_trace block_trace
   instance-same block s h =
       ap₂ (λ (ts : List (Store → Trace)) (os : List Observation). record (in_turn ts (started s)) { entries = shown_before os (in_turn ts (started s)).entries }) (every-same block h) (announced-same s)
 
-  head-same : (head : Head) (s : Store) → Same (head_accesses head) → head_of f head s ≡ head_of g head s
+  pub head-same : (head : Head) (s : Store) → Same (head_accesses head) → head_of f head s ≡ head_of g head s
   unfolding head_of
   head-same (For lower upper stride) s h =
       ap₂ (λ (p q : Told). then_head p.seen p.value (λ from. then_head q.seen q.value (λ to. heading (shown f Lower from ∷ shown f Trip (pos (trip_count from to stride)) ∷ []) (Ok (Bounds from (trip_count from to stride))))))

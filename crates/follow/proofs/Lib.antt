@@ -19,6 +19,7 @@ pub mod Accessing
 pub mod Lawful
 pub mod Reordering
 pub mod VerifyLaws
+pub mod VerifiedLaws
 pub mod Showing
 pub mod Comparing
 pub mod Differing

@@ -1,6 +1,7 @@
 -- What a port that verifies answers, over a port that does not.
-use Rattle.std.proofs.Common.{◌≡◌, refl, ap, ◌∙◌, sym, ℤ, Bool, true, false, not, List, Option, Some, None, Err}
-use Rattle.std.specs.Prelude.{if◌then◌else◌, ◌&&◌}
+use Rattle.std.proofs.Common.{◌≡◌, refl, ap, ◌∙◌, sym, ℤ, ◌+ℤ◌, ◌-ℤ◌, Bool, true, false, not, List, Option, Some, None, Err, arith}
+use Rattle.std.specs.Prelude.{if◌then◌else◌, ◌&&◌, int_le}
+use Rattle.std.proofs.lemmas.Int.{ints}
 use Rattle.nest_lang.specs.declared.observe.Stop.TheVariants.{Unexpected}
 use Rattle.nest_lang.specs.Stores.{word_at}
 use Rattle.block_exec.specs.Ports.{without_word}
@@ -31,5 +32,15 @@ look-passed i j m a v plain e = ap (λ (z : Bool). if z && not (lies_in j a) the
 
 pub store-refused : (i : Option Interval) (m : List ℤ) (a : ℤ) (line : Option ℤ) → refused_by i a ≡ Some line → Err (Unexpected a line) ≡ without_word (look true i m a)
 store-refused i m a line e = ap without_word (look-refused i m a line e)
+
+-- an address lies in an interval where its distance from the line lies between the ends
+near-end : (line high z d : ℤ) → d ≡ z -ℤ line → (b : Bool) → int_le d high ≡ b → b ≡ int_le z (line +ℤ high)
+near-end line high z d e true f = sym (grind (arith, ints))
+near-end line high z d e false f = sym (grind (arith, ints))
+
+pub near-lies : (line low high z d : ℤ) → d ≡ z -ℤ line → int_le low d ≡ true → int_le d high ≡ (int_le (line +ℤ low) z && int_le z (line +ℤ high))
+near-lies line low high z d e f =
+    let reaches : int_le (line +ℤ low) z ≡ true = grind (arith, ints) in
+    near-end line high z d e (int_le d high) refl ∙ ap (λ (b : Bool). b && int_le z (line +ℤ high)) (sym reaches)
 
 pub ruleset verifying = (look-passed)

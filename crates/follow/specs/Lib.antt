@@ -12,6 +12,7 @@ pub mod PlannedLaws
 pub mod Footprints
 pub mod ReorderLaws
 pub mod Intervals
+pub mod Verifies
 pub mod Hows
 pub mod Turnings
 pub mod Followed

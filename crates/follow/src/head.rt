@@ -55,7 +55,7 @@ fn turns_of<P: Port, W: Watch>(
 }
 
 /// Evaluates an instance of a head over a port.
-fn head_over<P: Port>(
+pub(crate) fn head_over<P: Port>(
     site: &Site<'_>,
     head: &Head,
     scalars: &mut [i64],

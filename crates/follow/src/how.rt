@@ -106,3 +106,12 @@ impl How {
         None
     }
 }
+
+/// A run that was cut short differs. Out of line, so that one which isn't makes no room for how.
+#[cold]
+#[inline(never)]
+pub(crate) fn cut_short(cut: Cut, halt: Halt) -> Result<u64, How>
+    ensures { result ≡ Err (how_of_finish (finish_of (Err cut) halt)) }
+{
+    Err(How::of_cut(cut, halt))
+}

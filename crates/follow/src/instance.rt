@@ -27,7 +27,7 @@ pub(crate) struct Ended {
 }
 
 /// Runs an instance of a block over a port.
-fn block_over<P: Port>(
+pub(crate) fn block_over<P: Port>(
     site: &Site<'_>,
     block: &[Stmt],
     scalars: &mut [i64],

@@ -1,6 +1,6 @@
 //! A port that verifies addresses, over any port that does not.
 
-ghost use Rattle.std.specs.Prelude.{◌≡◌, ◌+ℤ◌, int_le, false, Some, None, if◌then◌else◌};
+ghost use Rattle.std.specs.Prelude.{◌≡◌, false, Some, None, if◌then◌else◌};
 ghost use Rattle.std.specs.Borrow.{GName};
 ghost use Rattle.nest_lang.specs.Lookups.{Expectation, lies_in, line_of};
 ghost use Rattle.follow.specs.Intervals.{interval_by, verified_by};
@@ -69,29 +69,16 @@ impl<P: Port, E: Expected> Port for VerifyingPort<'_, '_, P, E> {
 }
 
 impl Interval {
-    /// Whether the address lies in the interval.
-    fn has(self, address: i64) -> bool
+    /// Whether the address lies in the interval. Its distance from the line is compared, since an end of the interval may be
+    /// no i128; where the distance is none, it is farther than an end is.
+    pub fn has(self, address: i64) -> bool
         ensures { result ≡ lies_in (interval_by (Some self)) address }
     {
-        reaches(self.line, self.low, address) && stays_within(self.line, self.high, address)
+        match i128::from(address).checked_sub(self.line) {
+            Some(distance) => i128::from(self.low) <= distance && distance <= i128::from(self.high),
+            None => false,
+        }
     }
-}
-
-/// Whether the address is line + low or above. Its distance is compared with the line, since line + low may be
-/// no i128.
-fn reaches(line: i128, low: i64, address: i64) -> bool
-    ensures { result ≡ int_le (line +ℤ low) address }
-{
-    let distance = i128::from(address) - i128::from(low);
-    line <= distance
-}
-
-/// Whether the address is line + high or below.
-fn stays_within(line: i128, high: i64, address: i64) -> bool
-    ensures { result ≡ int_le address (line +ℤ high) }
-{
-    let distance = i128::from(address) - i128::from(high);
-    distance <= line
 }
 
 /// The line of what is expected of that access, or that nothing is, where the address isn't expected.

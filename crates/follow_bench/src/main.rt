@@ -5,8 +5,9 @@
 
 ghost use Rattle.std.specs.Prelude.{◌≡◌, pos, Some, [], ◌∷◌, IfOk, length};
 ghost use Rattle.domain.specs.Examples.{row};
-ghost use Rattle.domain.specs.Instances.{instance};
+ghost use Rattle.domain.specs.Instances.{instance, Predicted};
 ghost use Rattle.follow_chunk.specs.Laws.{one_row, one_turn};
+ghost use Rattle.follow_chunk.specs.Tasks.{IsTask};
 
 use affine::Form;
 use block_exec::{Blind, Halt, MemoryPort, Places, Run};
@@ -90,23 +91,23 @@ fn alone(nest: &Nest, pred: &Prediction<1>, times: u32) -> u64
     requires nest { nest.now.loops ≡ one_row }
     requires pred { pred.now ≡ row }
 {
+    let task = task(nest, pred);
     let mut words = [0; 40];
     let mut steps: u64 = 0;
     for _ in 0..times {
-        steps = steps.wrapping_add(alone_once(nest, pred, &mut words));
+        steps = steps.wrapping_add(alone_once(&task, &mut words));
     }
     steps
 }
 
 /// The steps of one.
-fn alone_once(nest: &Nest, pred: &Prediction<1>, words: &mut [i64]) -> u64
-    requires nest { nest.now.loops ≡ one_row }
-    requires pred { pred.now ≡ row }
+fn alone_once(task: &Task<'_, 1>, words: &mut [i64]) -> u64
+    requires task { IsTask 1 task.now.scalars task.now.nest.now.loops task.now.pred.now task.now.outer task.now.chunk (pos 40) }
+    requires first { Predicted task.now.pred.now task.now.chunk (instance 0 (pos 0 ∷ [])) }
     requires words { length words.old ≡ 40 }
 {
-    let task = task(nest, pred);
     let mut port = MemoryPort::new(words);
-    steps_of(follow_instance(&task, &first(), &mut port))
+    steps_of(follow_instance(task, &first(), &mut port))
 }
 
 /// The steps of so many lists of eight.
@@ -114,25 +115,25 @@ fn listed(nest: &Nest, pred: &Prediction<1>, times: u32) -> u64
     requires nest { nest.now.loops ≡ one_row }
     requires pred { pred.now ≡ row }
 {
+    let task = task(nest, pred);
     let mut words = [0; 40];
     let mut steps: u64 = 0;
     for _ in 0..times {
-        steps = steps.wrapping_add(listed_once(nest, pred, &mut words));
+        steps = steps.wrapping_add(listed_once(&task, &mut words));
     }
     steps
 }
 
 /// The steps of one.
-fn listed_once(nest: &Nest, pred: &Prediction<1>, words: &mut [i64]) -> u64
-    requires nest { nest.now.loops ≡ one_row }
-    requires pred { pred.now ≡ row }
+fn listed_once(task: &Task<'_, 1>, words: &mut [i64]) -> u64
+    requires task { IsTask 1 task.now.scalars task.now.nest.now.loops task.now.pred.now task.now.outer task.now.chunk (pos 40) }
+    requires first { Predicted task.now.pred.now task.now.chunk (instance 0 (pos 0 ∷ [])) }
     requires words { length words.old ≡ 40 }
 {
-    let task = task(nest, pred);
     let mut port = MemoryPort::new(words);
     let inst = first();
     let list = [inst, inst, inst, inst, inst, inst, inst, inst];
-    steps_of(follow_list(&task, &list, &mut port))
+    steps_of(follow_list(task, &list, &mut port))
 }
 
 /// The first turn of the nest, with what is predicted of it.

@@ -62,10 +62,10 @@ true-le (negsuc m) (pos n) h = refl
 true-le (negsuc m) (negsuc n) h = let l : n ≤ m = omega (arith, ints) in grind (arith, nat_tests)
 
 -- the interval of an access of the table
-abbrev about : Option Access → List ℤ → Option Interval
+abbrev pub about : Option Access → List ℤ → Option Interval
 about found at = interval_about (option_map (λ (form : Affine). value_at form at) (line_of found)) (tube_by found (line_of found))
 
-lies-expects : (f : Option Affine) (low high : ℤ) (stores : Bool) (at : List ℤ) (a : ℤ) → lies_in (about (Some (record { stores = stores; line = f; low = low; high = high })) at) a ≡ true → LiesAbout f low high at a
+pub lies-expects : (f : Option Affine) (low high : ℤ) (stores : Bool) (at : List ℤ) (a : ℤ) → lies_in (about (Some (record { stores = stores; line = f; low = low; high = high })) at) a ≡ true → LiesAbout f low high at a
 lies-expects None low high stores at a h = absurd (cc)
 lies-expects (Some form) low high stores at a h = let parts = and_parts (int_le (value_at form at +ℤ low) a) (int_le a (value_at form at +ℤ high)) h in (le-true _ _ parts.0, le-true _ _ parts.1)
 
@@ -75,7 +75,7 @@ expects-lies (Some form) low high stores at a h = ap₂ (λ (u v : Bool). u && v
 
 -- ---- places in lists
 
-has-place : {X : Type 0} (xs : List X) (x : X) → Has xs x → (k : ℕ) × (slice_get xs k ≡ Some x)
+pub has-place : {X : Type 0} (xs : List X) (x : X) → Has xs x → (k : ℕ) × (slice_get xs k ≡ Some x)
 has-place [] x h = absurd h
 has-place (y ∷ ys) x (inl e) = (0, ap (λ (z : _). Some z) (sym e))
 has-place (y ∷ ys) x (inr h) = let (k, e) = has-place ys x h in (suc k, e)
@@ -90,16 +90,16 @@ any-at p (y ∷ ys) (suc k) x e h = or-right (p y) (list_any p ys) (any-at p ys 
     or-right false b g = g
 
 -- numbers from a number on
-number-at : (xs : List NestAccess) (n k : ℕ) (x : NestAccess) → map (λ (a : NestAccess). a.number) xs ≡ range_with_len n (length xs) → slice_get xs k ≡ Some x → x.number ≡ n + k
+pub number-at : (xs : List NestAccess) (n k : ℕ) (x : NestAccess) → map (λ (a : NestAccess). a.number) xs ≡ range_with_len n (length xs) → slice_get xs k ≡ Some x → x.number ≡ n + k
 number-at [] n k x e f = absurd (cc)
 number-at (y ∷ ys) n zero x e f = let g : y ≡ x = cc in sym (ap (λ (a : NestAccess). a.number) g) ∙ ap (λ (ns : List ℕ). get_or ns 0 0) e ∙ (let z : n ≡ n + 0 = omega arith in z)
 number-at (y ∷ ys) n (suc k) x e f = number-at ys (n + 1) k x (ap (λ (ns : List ℕ). drop 1 ns) e) f ∙ (let z : n + 1 + k ≡ n + suc k = omega arith in z)
 
-some-same : {X : Type 0} (a b : X) → Some a ≡ Some b → a ≡ b
+pub some-same : {X : Type 0} (a b : X) → Some a ≡ Some b → a ≡ b
 some-same a b e = cc
 
 -- an access of the nest and the one of the table at its place
-stores-at : (xs : List Access) (ys : List NestAccess) (k : ℕ) → map (λ (a : Access). a.stores) xs ≡ map (λ (a : NestAccess). is_store a.kind) ys
+pub stores-at : (xs : List Access) (ys : List NestAccess) (k : ℕ) → map (λ (a : Access). a.stores) xs ≡ map (λ (a : NestAccess). is_store a.kind) ys
     → option_map (λ (a : Access). a.stores) (slice_get xs k) ≡ option_map (λ (a : NestAccess). is_store a.kind) (slice_get ys k)
 stores-at xs ys k e = sym (slice_get-map (λ (a : Access). a.stores) xs k) ∙ ap (λ (bs : List Bool). slice_get bs k) e ∙ slice_get-map (λ (a : NestAccess). is_store a.kind) ys k
 
@@ -136,7 +136,7 @@ module _ (D scalars : ℕ) (words : ℤ) (loops : List Loop) (t : Table) (o : Ou
   work-is : work_accesses (item_at t loops o x).work ≡ accesses
   work-is = standing.item-accesses D scalars loops t o chunk words task x p
 
-  interval-is : (n : ℕ) → interval_at t x n ≡ about (access_at (block_of t x) n) x.at
+  pub interval-is : (n : ℕ) → interval_at t x n ≡ about (access_at (block_of t x) n) x.at
   unfolding interval_at expected_of form_of tube_of
   interval-is n = refl
 

@@ -9,5 +9,6 @@ pub mod Running
 pub mod Whole
 pub mod Listing
 pub mod Conflicts
+pub mod OwnAccesses
 pub mod Premises
 pub mod Keeping

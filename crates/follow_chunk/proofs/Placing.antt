@@ -20,7 +20,6 @@ use Rattle.nest_lang.specs.Values.{turn_value}
 use Rattle.nest_lang.specs.Turns.{IsPosition, IsPositionIn, number_left}
 use Rattle.nest_lang.specs.Loops.{Around, inward, outside}
 use Rattle.nest_lang.specs.Blocks.{block_ref, head_at}
-use Rattle.nest_lang.specs.Blocks as blocks
 use Rattle.domain.specs.declared.chunk.Chunk.{Chunk}
 use Rattle.domain.specs.declared.prediction.What.TheVariants.{Lower}
 use Rattle.domain.specs.declared.table.LoopKind.{LoopKind}
@@ -39,7 +38,7 @@ use Rattle.follow_chunk.specs.Predicted as predicted
 use Rattle.follow_chunk.specs.Items.{value_by, name_value, inside_of, around_of}
 use Rattle.follow_chunk.specs.Tasks.{IsTask}
 use Rattle.follow_chunk.proofs.Points.{padded-take_of}
-use Rattle.follow_chunk.proofs.Ranks.{rank-same, depth-same}
+use Rattle.follow_chunk.proofs.Ranks.{depth-same}
 use Rattle.follow_chunk.proofs.Arounds.{inside-none, inside-more, inside-counters}
 use Rattle.follow_chunk.proofs.Launched.{name-fits}
 
@@ -117,24 +116,22 @@ module _ (D scalars : ℕ) (loops : List Loop) (t : Table) (o : Outer) (chunk : 
   pub head-stands : (k : ℕ) → 1 ≤ k → k < D → (rank : ℕ) × (rank_of t Head (suc k) ≡ Some rank)
   head-stands k some l = has_rank t Head (suc k) ((task.shape).heads (suc k) (omega arith) (omega arith))
 
-  pub head-rank : (k : ℕ) (r : Option ℕ) → 1 ≤ k → k < D → r ≡ blocks.rank_of loops (block_ref Head (k + 1)) → rank_of t Head (k + 1) ≡ r
-  head-rank k r some l e = rank-same scalars loops t task.table (block_ref Head (k + 1)) ∙ sym e
-
-  pub head-is : (k : ℕ) → 1 ≤ k → k < D → rank_of t Head (k + 1) ≡ None → ⊥
-  head-is k some l e =
-      let found = head-stands k some l in
-      let suc_is : k + 1 ≡ suc k = omega arith in
-      let f : None ≡ Some found.0 = sym e ∙ ap (rank_of t Head) suc_is ∙ found.1 in cc
-
   -- ---- lower bounds and values of names
 
-  pub lower-inner : (at : List ℤ) (k rank : ℕ) → length at ≡ depth t → 1 ≤ k → rank_of t Head (k + 1) ≡ Some rank
+  lower-inner : (at : List ℤ) (k rank : ℕ) → length at ≡ depth t → 1 ≤ k → rank_of t Head (k + 1) ≡ Some rank
       → plan.lower_at (forecast_of t) o (k + 1) (take k at) ≡ unwrap_or (expected_of t (instance rank (cut k at)) Lower) (pos 0)
   unfolding predicted.lower_at instance_of
   lower-inner at k rank size some e =
       let test : nat_le (k + 1) 1 ≡ false = grind (arith, nat_tests) in
       ap (λ (b : Bool). if b then o.lower else (forecast_of t).lower (record { block = block_ref Head (k + 1); counters = take k at })) test
       ∙ ap₂ (λ (r : Option ℕ) (point : List ℤ). unwrap_or (expected_of t (instance (unwrap_or r (length t.blocks)) point) Lower) (pos 0)) e (padded-take_of (depth t) k at size)
+
+  -- the same by the form of the loop
+  pub lower-level : (at : List ℤ) (k : ℕ) → length at ≡ depth t → 1 ≤ k → k < D → plan.lower_at (forecast_of t) o (k + 1) (take k at) ≡ value_or_zero (level_at t k).lower (cut k at)
+  lower-level at k size some inside =
+      let (rank, e) = head-stands k some inside in
+      let next : suc k ≡ k + 1 = omega arith in
+      lower-inner at k rank size some (ap (rank_of t Head) (sym next) ∙ e) ∙ lower-value t k rank (cut k at) (stands t Head (suc k) rank e)
 
   pub loop-kind : (k : ℕ) (h : tree.Head) → head_at loops (suc k) ≡ Some h → (level_at t k).kind ≡ kind_of h
   loop-kind k h e = let (l, is, head_is) = head-loop (slice_get loops k) h e in kinds t.levels loops k l (task.table).levels is ∙ ap kind_of head_is
@@ -191,8 +188,7 @@ module _ (D scalars : ℕ) (loops : List Loop) (t : Table) (o : Outer) (chunk : 
         let below = (p.turn.inner k some turning_is).1 in
         let least = up k in
         let fit = name-fits D scalars loops t o chunk words task x k rank stride (unsigned_abs (counter x.at k)) p some turning_is there kind (omega (arith, ints)) in
-        let next : suc k ≡ k + 1 = omega arith in
-        let low = lower-inner x.at k rank p.is.size some (ap (rank_of t Head) (sym next) ∙ e) ∙ lower-value t k rank (cut k x.at) there in
+        let low = lower-level x.at k p.is.size some deep in
         (subst (FitsSigned w64) (sym low) fit.0, subst (λ (z : ℤ). FitsSigned w64 (turn_value z stride (unsigned_abs (counter x.at k)))) (sym low) fit.1)
 
     pub lower-fits : (k : ℕ) (lower upper : Expr) (stride : ℤ) → k < counters t (block_of t x) → k < D → head_at loops (k + 1) ≡ Some (head.For lower upper stride) → 1 ≤ k → FitsSigned w64 (plan.lower_at (forecast_of t) o (k + 1) (take k x.at))
@@ -227,6 +223,14 @@ module _ (D scalars : ℕ) (loops : List Loop) (t : Table) (o : Outer) (chunk : 
       where
         same : (z : ℤ) → pos 0 ≤ℤ z → pos (unsigned_abs z) ≡ z
         same z h = omega (arith, ints)
+
+    -- the turn numbers of the loops around it are its own
+    pub around-counters : (k : ℕ) → k ≤ D → (around_of t loops o (take k x.at)).counters ≡ take k x.at
+    unfolding around_of
+    around-counters k l = inside-counters (forecast_of t) o 1 loops outside (take k x.at) (let d = depth-same scalars loops t task.table in let e = (task.shape).deep in omega (arith, front)) (fronts-up k x.at up)
+      where
+        front : length (take k x.at) ≡ k
+        front = length-take-le k x.at (let s = p.is.size in let d = (task.shape).deep in omega arith)
 
     -- the next loop inwards
     pub around-next : (k : ℕ) → k < D → (h : Option tree.Head) → head_at loops (k + 1) ≡ h

@@ -3,11 +3,12 @@ use Rattle.std.proofs.Common.{◌≡◌, refl, sym, ap, ◌∙◌, ℕ, zero, su
 use Rattle.std.specs.Prelude.{option_map, unwrap_or}
 use Rattle.std.proofs.lemmas.List.{length-map, take_more, take_more_set}
 use Rattle.affine.specs.Forms.{Affine, value_at}
+use Rattle.nest_lang.specs.Lookups.{Interval}
 use Rattle.domain.specs.declared.prediction.What.TheVariants.{Scalar}
-use Rattle.domain.specs.Tables.{Table, scalar_at}
+use Rattle.domain.specs.Tables.{Table, Access, scalar_at, access_at, line_of, tube_by}
 use Rattle.domain.specs.Instances.{Instance, block_of}
-use Rattle.domain.specs.Expected.{form_of, expected_of}
-use Rattle.follow_chunk.specs.Predicted.{value_or_zero, scalars_at}
+use Rattle.domain.specs.Expected.{form_of, expected_of, tube_of}
+use Rattle.follow_chunk.specs.Predicted.{value_or_zero, scalars_at, interval_about, interval_at}
 
 value-is : (f : Option Affine) (at : List ℤ) → unwrap_or (option_map (λ (form : Affine). value_at form at) f) (pos 0) ≡ value_or_zero f at
 value-is None at = refl
@@ -22,6 +23,22 @@ in-list (f ∷ fs) at (suc number) = in-list fs at number
 pub scalar_expected : (t : Table) (x : Instance) (number : ℕ) → unwrap_or (expected_of t x (Scalar number)) (pos 0) ≡ get_or (scalars_at t x) number (pos 0)
 unfolding expected_of form_of scalars_at
 scalar_expected t x number = value-is (scalar_at (block_of t x) number) x.at ∙ in-list (block_of t x).scalars x.at number
+
+-- the expected interval of an access, as it stands in the block of the instance
+by-access : Option Access → List ℤ → Option Interval
+by-access found at = interval_about (option_map (λ (form : Affine). value_at form at) (line_of found)) (tube_by found (line_of found))
+
+pub interval-none : (t : Table) (x : Instance) (n : ℕ) → None ≡ access_at (block_of t x) n → None ≡ interval_at t x n
+unfolding interval_at expected_of form_of tube_of by-access
+interval-none t x n e = ap (λ (found : Option Access). by-access found x.at) e
+
+pub interval-some : (t : Table) (x : Instance) (n : ℕ) (a : Access) → Some a ≡ access_at (block_of t x) n → interval_about (option_map (λ (form : Affine). value_at form x.at) a.line) (Some (a.low, a.high)) ≡ interval_at t x n
+unfolding interval_at expected_of form_of tube_of by-access
+interval-some t x n a e = by a.line ∙ ap (λ (found : Option Access). by-access found x.at) e
+  where
+    by : (line : Option Affine) → interval_about (option_map (λ (form : Affine). value_at form x.at) line) (Some (a.low, a.high)) ≡ interval_about (option_map (λ (form : Affine). value_at form x.at) line) (tube_by (Some a) line)
+    by None = refl
+    by (Some form) = refl
 
 pub length-scalars : (t : Table) (x : Instance) → length (scalars_at t x) ≡ length (block_of t x).scalars
 unfolding scalars_at

@@ -104,10 +104,14 @@ module _ (D scalars : ℕ) (loops : List Loop) (t : Table) (o : Outer) (chunk : 
   pub count-next : length (block_of t (next t x)).scalars ≡ scalars
   count-next = forms-of (next t x).block (standing.next-instance D scalars loops t o chunk words task x p).block
 
-  -- without scalars every instance begins with those of the successor
+  -- without scalars an instance begins with none
+  pub none-here : scalars ≡ 0 → [] ≡ scalars_at t x
+  none-here e = sym (nothing (scalars_at t x) (length-scalars t x ∙ count-here ∙ e))
+
+  -- and every instance with those of the successor
   pub none-behind : scalars ≡ 0 → scalars_at t x ≡ scalars_at t (next t x)
   none-behind e =
-      nothing (scalars_at t x) (length-scalars t x ∙ count-here ∙ e) ∙ sym (nothing (scalars_at t (next t x)) (length-scalars t (next t x) ∙ count-next ∙ e))
+      sym (none-here e) ∙ sym (nothing (scalars_at t (next t x)) (length-scalars t (next t x) ∙ count-next ∙ e))
 
   foretold : (intervals : Intervals) → ((access : ℕ) → interval_at t x access ≡ intervals access) → Foretold q (occurrence_of t x) (occurrence_of t (next t x)) (scalars_at t x) intervals (scalars_at t (next t x))
   foretold intervals each = record {

@@ -147,11 +147,11 @@ module _ (D scalars : ℕ) (loops : List Loop) (t : Table) (o : Outer) (chunk : 
   q = forecast_of t
 
   -- what it runs, in how many steps at most
-  works : (w : Work) × (item_at t loops o x ≡ item (block_of t x).part (block_of t x).level (standing.A D scalars loops t o chunk words task x p) w) × ((f : Frame) (s : Store) → length (work_trace f w s).entries ≤ 2 ^ 32)
+  works : (w : Work) × (item_at t loops o x ≡ item (block_of t x).part (block_of t x).level (standing.A D scalars loops t o chunk words task x p) w) × ((f : Frame) (s : Store) → length (work_trace f w s).entries ≤ 2 ^ 20)
   works = by (blocks.statements_of loops (block_ref (block_of t x).part (block_of t x).level)) refl
     where
       by : (ss : Option (List Stmt)) → blocks.statements_of loops (block_ref (block_of t x).part (block_of t x).level) ≡ ss
-          → (w : Work) × (item_at t loops o x ≡ item (block_of t x).part (block_of t x).level (standing.A D scalars loops t o chunk words task x p) w) × ((f : Frame) (s : Store) → length (work_trace f w s).entries ≤ 2 ^ 32)
+          → (w : Work) × (item_at t loops o x ≡ item (block_of t x).part (block_of t x).level (standing.A D scalars loops t o chunk words task x p) w) × ((f : Frame) (s : Store) → length (work_trace f w s).entries ≤ 2 ^ 20)
       by None e = (
         Evaluates (standing.loop-here D scalars loops t o chunk words task x p).0.head,
         standing.item-head D scalars loops t o chunk words task x p (standing.none-head D scalars loops t o chunk words task x p e),
@@ -168,8 +168,11 @@ module _ (D scalars : ℕ) (loops : List Loop) (t : Table) (o : Outer) (chunk : 
   pub item-at : (item_at t loops o x).at ≡ occurrence_of t x
   item-at = ap (λ (i : Item). i.at) works.1 ∙ standing.occurrence-here D scalars loops t o chunk words task x p
 
+  pub few-entries : (s : Store) → length (item_trace q (item_at t loops o x) s).entries ≤ 2 ^ 20
+  few-entries s = subst (λ (i : Item). length (item_trace q i s).entries ≤ 2 ^ 20) (sym works.1) (works.2 _ s)
+
   pub few-steps : (s : Store) → length (item_trace q (item_at t loops o x) s).entries ≤ 2 ^ 32
-  few-steps s = subst (λ (i : Item). length (item_trace q i s).entries ≤ 2 ^ 32) (sym works.1) (works.2 _ s)
+  few-steps s = let few = few-entries s in omega arith
 
   -- the follow run of one instance, in the terms of its run
   one-is : (m : List ℤ) → follow_one q (scalars_after t) (item_at t loops o x) m
@@ -193,13 +196,17 @@ module _ (D scalars : ℕ) (loops : List Loop) (t : Table) (o : Outer) (chunk : 
       by true f = sym (ap (λ (y : Outcome). y.steps) (let g : record { memory = w.store.memory; steps = w.steps } ≡ z = cc in g))
       by false f = absurd (cc)
 
-  pub follows-few : (m after : List ℤ) (steps : ℕ) → Follows t loops o x steps m after → steps ≤ 2 ^ 32
+  -- and takes few steps
+  pub run-few : (m after : List ℤ) (steps : ℕ) → IsRun t loops o x m (Ok steps) after → steps ≤ 2 ^ 20
   unfolding reach
-  follows-few m after steps f =
-      let (w, is, same) = ended-steps (q.scalars (occurrence_of t (next t x))) (reach q (item_trace q (item_at t loops o x) (store_at t x m)) (store_at t x m)) (record { memory = after; steps = steps }) f.run.1 in
+  run-few m after steps run =
+      let (w, is, same) = ended-steps (q.scalars (occurrence_of t (next t x))) (reach q (item_trace q (item_at t loops o x) (store_at t x m)) (store_at t x m)) (record { memory = after; steps = steps }) run.1 in
       let are = steps-are q (item_trace q (item_at t loops o x) (store_at t x m)).entries (item_trace q (item_at t loops o x) (store_at t x m)).halt (store_at t x m) w is in
-      let few = few-steps (store_at t x m) in
+      let few = few-entries (store_at t x m) in
       omega arith
+
+  pub follows-few : (m after : List ℤ) (steps : ℕ) → Follows t loops o x steps m after → steps ≤ 2 ^ 32
+  follows-few m after steps f = let few = run-few m after steps f.run in omega arith
 
   pub follows-by : (m after : List ℤ) (steps : ℕ) → IsRun t loops o x m (Ok steps) after → Follows t loops o x steps m after
   follows-by m after steps run = record { run = run; one = one-is m ∙ run.1 }

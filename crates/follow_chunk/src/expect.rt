@@ -1,13 +1,14 @@
 //! What is expected of an instance.
 
-ghost use Rattle.std.specs.Prelude.{◌≡◌, ◌<◌, ◌≤◌, ℕ, pos, length, slice_index_or, FitsSigned};
+ghost use Rattle.std.specs.Prelude.{◌≡◌, ◌<◌, ◌≤◌, ℕ, pos, length, slice_index_or, Some, option_map, FitsSigned};
 ghost use Rattle.std.specs.Int.{w64};
+ghost use Rattle.affine.specs.Forms.{value_at};
 ghost use Rattle.domain.specs.Instances.{block_of};
 ghost use Rattle.follow.specs.Intervals.{interval_by};
-ghost use Rattle.follow_chunk.specs.Predicted.{scalars_at, interval_at};
+ghost use Rattle.follow_chunk.specs.Predicted.{scalars_at, interval_about, interval_at};
 
 use arrayvec::ArrayVec;
-use domain::{Instance, Prediction, What, expected};
+use domain::{AccessForm, BlockForms, Instance, Prediction, What, expected};
 use follow::{Expected, Interval};
 
 /// A scalar expected as an instance begins, by number; 0 where there is no form of it.
@@ -78,14 +79,31 @@ pub(crate) fn begin<const D: usize>(pred: &Prediction<D>, inst: &Instance<D>, sc
     }
 }
 
-/// What a prediction expects of one instance, after which the scalars are those that `next` begins with. A form is found by
-/// its index and evaluated where its value is asked for.
+/// The interval of an access at turn numbers; None where there is no form of its line.
+fn interval_of<const D: usize>(access: &AccessForm<D>, at: &[i64; D]) -> Option<Interval>
+    requires { D < 7 }
+    ensures { interval_by result ≡ interval_about (option_map (λ form. value_at form at.now) access.now.line) (Some (access.now.low, access.now.high)) }
+{
+    match &access.line {
+        Some(form) => Some(Interval {
+            line: form.at(at),
+            low: access.low,
+            high: access.high,
+        }),
+        None => None,
+    }
+}
+
+/// What a prediction expects of one instance, after which the scalars are those that `next` begins with. The forms of the
+/// instance's block are found once; each is evaluated where its value is asked for.
 #[derive(Drop)]
-pub(crate) struct Foreseen<'a, const D: usize> {
+pub struct Foreseen<'a, const D: usize> {
     pub pred: &'a Prediction<D>,
     pub inst: &'a Instance<D>,
     pub next: Instance<D>,
+    pub forms: &'a BlockForms<D>,
     ghost few: { D < 7 },
+    ghost block: { forms.now ≡ block_of pred.now inst.now },
 }
 
 impl<const D: usize> Expected for Foreseen<'_, D> {
@@ -94,7 +112,11 @@ impl<const D: usize> Expected for Foreseen<'_, D> {
     ghost after = { λ e. scalars_at e.pred.now e.next };
 
     fn interval(&self, access: u8) -> Option<Interval> {
-        expected_interval(self.pred, self.inst, access)
+        let inst = self.inst;
+        match self.forms.access(access) {
+            Some(form) => interval_of(form, &inst.at),
+            None => None,
+        }
     }
 
     fn scalar_after(&self, number: u8) -> i128 {

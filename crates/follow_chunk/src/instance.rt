@@ -6,24 +6,22 @@ ghost use Rattle.nest_lang.specs.Blocks.{block_ref, head_at};
 ghost use Rattle.domain.specs.Instances.{block_of, Predicted};
 ghost use Rattle.domain.specs.Steps.{next};
 ghost use Rattle.follow.specs.Turnings.{IsTurning};
+ghost use Rattle.follow_chunk.specs.declared.task.Followed.TheVariants.{Differs};
 ghost use Rattle.follow_chunk.specs.Predicted.{occurrence_of, scalars_at, forecast_of};
 ghost use Rattle.follow_chunk.specs.Tasks.{IsTask, IsSomeTask};
 ghost use Rattle.follow_chunk.specs.Followed.{IsRun, IsInstanceFollowed, ChangesWrites, ClosesSmall, IsClosedSmall};
 
-use crate::expect::{Foreseen, begin};
+use crate::expect::Foreseen;
 use crate::place::cut;
 use crate::task::{Deviation, Followed, Task};
 use block_exec::Port;
 use domain::{Instance, What, expected, successor};
-use follow::{How, Turning, follow_block, follow_head};
+use follow::{How, Turning, VerifyingPort};
 use nest_lang::{BlockRef, Head};
-
-/// More steps than an instance has: its block has fewer than 2^20 statements.
-const MOST_STEPS: u64 = 1 << 32;
 
 impl<const D: usize> Task<'_, D> {
     /// The block of an instance.
-    fn block(&self, inst: &Instance<D>) -> BlockRef
+    pub(crate) fn block(&self, inst: &Instance<D>) -> BlockRef
         requires task { IsSomeTask D self.now.scalars self.now.nest.now.loops self.now.pred.now self.now.outer self.now.chunk }
         requires predicted { Predicted self.now.pred.now self.now.chunk inst.now }
         ensures { result ≡ block_ref (block_of self.now.pred.now inst.now).part (block_of self.now.pred.now inst.now).level }
@@ -47,11 +45,22 @@ impl<const D: usize> Task<'_, D> {
         if count == 0 {
             return *inst;
         }
+        self.successor(inst)
+    }
+
+    /// The successor of an instance. Out of line, so that where none is looked for there is no room made for it.
+    #[inline(never)]
+    fn successor(&self, inst: &Instance<D>) -> Instance<D>
+        requires few { D < 7 }
+        requires task { IsSomeTask D self.now.scalars self.now.nest.now.loops self.now.pred.now self.now.outer self.now.chunk }
+        requires predicted { Predicted self.now.pred.now self.now.chunk inst.now }
+        ensures { result ≡ next self.now.pred.now inst.now }
+    {
         successor(self.pred, inst)
     }
 
-    /// What is expected of an instance.
-    fn foreseen<'i>(&'i self, inst: &'i Instance<D>) -> Foreseen<'i, D>
+    /// What is expected of an instance, which is predicted in the task's chunk.
+    pub fn foreseen<'i>(&'i self, inst: &'i Instance<D>) -> Foreseen<'i, D>
         requires few { D < 7 }
         requires task { IsSomeTask D self.now.scalars self.now.nest.now.loops self.now.pred.now self.now.outer self.now.chunk }
         requires predicted { Predicted self.now.pred.now self.now.chunk inst.now }
@@ -63,11 +72,12 @@ impl<const D: usize> Task<'_, D> {
             pred: self.pred,
             inst,
             next: self.behind(inst),
+            forms: self.pred.block(inst.block),
         }
     }
 
     /// What is expected of the head of that block, of which this is an instance.
-    fn turning(&self, inst: &Instance<D>, block: BlockRef, head: &Head) -> Turning
+    pub(crate) fn turning(&self, inst: &Instance<D>, block: BlockRef, head: &Head) -> Turning
         requires few { D < 7 }
         requires task { IsSomeTask D self.now.scalars self.now.nest.now.loops self.now.pred.now self.now.outer self.now.chunk }
         requires predicted { Predicted self.now.pred.now self.now.chunk inst.now }
@@ -104,24 +114,9 @@ impl<const D: usize> Task<'_, D> {
         ensures expects { P.expects port.new ≡ P.expects port.old }
         ensures basis { P.basis port.new ≡ P.basis port.old }
     {
-        let block = self.block(inst);
-        let Some(loops) = self.nest.counters(block) else {
-            unreachable!()
-        };
-        let places = self.places(inst, loops as usize);
-        let site = places.site(block, loops as usize);
-        let mut room = [0; 16];
-        let scalars = &mut room[..self.scalars as usize];
-        begin(self.pred, inst, scalars);
         let foreseen = self.foreseen(inst);
-        if let Some(statements) = self.nest.statements(block) {
-            return follow_block(&site, statements, &foreseen, scalars, port, MOST_STEPS);
-        }
-        let Some(head) = self.nest.head(block.level) else {
-            unreachable!()
-        };
-        let turning = self.turning(inst, block, head);
-        follow_head(&site, head, &foreseen, turning, scalars, port, MOST_STEPS)
+        let mut verified = VerifyingPort::new(port, &foreseen);
+        self.follow_own(&foreseen, &mut verified)
     }
 }
 
@@ -146,6 +141,15 @@ pub fn follow_instance<P: Port, const D: usize>(
 {
     match task.follow(inst, port) {
         Ok(steps) => Followed::Same { steps },
-        Err(how) => Followed::Differs(Deviation { at: *inst, how }),
+        Err(how) => differs(inst, how),
     }
+}
+
+/// An instance differs so. Out of line, so that one which follows makes no room for it.
+#[cold]
+#[inline(never)]
+pub(crate) fn differs<const D: usize>(inst: &Instance<D>, how: How) -> Followed<D>
+    ensures { result ≡ Differs (record { at = inst.now; how = how }) }
+{
+    Followed::Differs(Deviation { at: *inst, how })
 }

@@ -18,8 +18,10 @@ pub mod laws;
 mod list;
 mod place;
 mod task;
+mod verified;
 
-pub use expect::{expected_interval, expected_scalar, narrowed, scalars_at};
+pub use expect::{Foreseen, expected_interval, expected_scalar, narrowed, scalars_at};
 pub use instance::follow_instance;
 pub use list::follow_list;
 pub use task::{Deviation, Followed, Task};
+pub use verified::follow_verified;

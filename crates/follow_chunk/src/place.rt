@@ -1,10 +1,11 @@
 //! Where an instance runs: the turn numbers of the loops around it, and the values of their names.
 
-ghost use Rattle.std.specs.Prelude.{◌≡◌, ◌<◌, ◌≤◌, ◌+◌, Some, take, FitsSigned};
+ghost use Rattle.std.specs.Prelude.{◌≡◌, ◌<◌, ◌≤◌, ◌+◌, take, FitsSigned};
 ghost use Rattle.std.specs.Int.{w64};
-ghost use Rattle.nest_lang.specs.declared.tree.Part.TheVariants.{Head as HeadPart};
-ghost use Rattle.block_exec.specs.Sites.{around_at};
-ghost use Rattle.domain.specs.Tables.{cut, counters, rank_of};
+ghost use Rattle.nest_lang.specs.Lookups.{Expectation};
+ghost use Rattle.nest_lang.specs.Loops.{frame_of};
+ghost use Rattle.block_exec.specs.Sites.{frame_at};
+ghost use Rattle.domain.specs.Tables.{cut, counters};
 ghost use Rattle.domain.specs.Instances.{block_of, Predicted};
 ghost use Rattle.follow.specs.Instances.{lower_at};
 ghost use Rattle.follow_chunk.specs.Predicted.{forecast_of};
@@ -12,9 +13,9 @@ ghost use Rattle.follow_chunk.specs.Items.{around_of, name_value};
 ghost use Rattle.follow_chunk.specs.Tasks.{IsSomeTask};
 
 use crate::task::Task;
-use block_exec::{Places, value_of_turn};
-use domain::{Instance, What, expected};
-use nest_lang::{BlockRef, Head, Part};
+use block_exec::{Site, value_of_turn};
+use domain::Instance;
+use nest_lang::{BlockRef, Head};
 
 /// The first counters, and zeros in place of the others.
 pub fn cut<const D: usize>(at: &[i64; D], places: usize) -> [i64; D]
@@ -29,23 +30,6 @@ pub fn cut<const D: usize>(at: &[i64; D], places: usize) -> [i64; D]
 }
 
 impl<const D: usize> Task<'_, D> {
-    /// The rank of the head of the loop inside so many others (at least one).
-    fn head_rank(&self, depth: usize) -> u8
-        requires task { IsSomeTask D self.now.scalars self.now.nest.now.loops self.now.pred.now self.now.outer self.now.chunk }
-        requires inner { 1 ≤ depth }
-        requires inside { depth < D }
-        ensures { rank_of self.now.pred.now HeadPart (depth + 1) ≡ Some result }
-    {
-        let head = BlockRef {
-            part: Part::Head,
-            level: depth as u8 + 1,
-        };
-        let Some(rank) = self.nest.rank(head) else {
-            unreachable!()
-        };
-        rank
-    }
-
     /// The lower bound of the `for` inside so many others that are around an instance: that of the position for the
     /// outermost loop, and the expected one for an inner loop.
     fn lower(&self, inst: &Instance<D>, depth: usize) -> i64
@@ -59,11 +43,10 @@ impl<const D: usize> Task<'_, D> {
         if depth == 0 {
             return self.outer.lower;
         }
-        let head = Instance {
-            block: self.head_rank(depth),
-            at: cut(&inst.at, depth),
-        };
-        expected(self.pred, &head, What::Lower).unwrap_or(0) as i64
+        match &self.pred.level(depth).lower {
+            Some(form) => form.at(&cut(&inst.at, depth)) as i64,
+            None => 0,
+        }
     }
 
     /// The value of the name of the loop inside so many others, in its turn at an instance; of a `while` the turn number.
@@ -84,20 +67,41 @@ impl<const D: usize> Task<'_, D> {
         }
     }
 
-    /// The turn numbers of the loops around an instance, of so many, and the values of their names.
-    pub(crate) fn places(&self, inst: &Instance<D>, loops: usize) -> Places
+    /// The values of the names of the loops around an instance, of so many, and then zeros.
+    pub(crate) fn values(&self, inst: &Instance<D>, loops: usize) -> [i64; D]
         requires few { D < 7 }
         requires task { IsSomeTask D self.now.scalars self.now.nest.now.loops self.now.pred.now self.now.outer self.now.chunk }
         requires predicted { Predicted self.now.pred.now self.now.chunk inst.now }
         requires around { loops ≡ counters self.now.pred.now (block_of self.now.pred.now inst.now) }
-        ensures { around_at loops result ≡ around_of self.now.pred.now self.now.nest.now.loops self.now.outer (take loops inst.now.at) }
+        ensures { take loops result ≡ (around_of self.now.pred.now self.now.nest.now.loops self.now.outer (take loops inst.now.at)).values }
     {
-        let mut places = Places::new();
+        let mut values = [0; D];
         for depth in 0..loops {
-            let turn = inst.at[depth] as u64;
-            let value = self.value(inst, depth);
-            places.begin(depth, turn, value);
+            values[depth] = self.value(inst, depth);
         }
-        places
+        values
+    }
+
+    /// Where an instance of that block runs, inside of so many loops: at its own turn numbers, with these values of the
+    /// loops' names.
+    pub(crate) fn site<'i>(
+        &self,
+        block: BlockRef,
+        inst: &'i Instance<D>,
+        values: &'i [i64; D],
+        loops: usize,
+    ) -> Site<'i>
+        requires few { D < 7 }
+        requires task { IsSomeTask D self.now.scalars self.now.nest.now.loops self.now.pred.now self.now.outer self.now.chunk }
+        requires predicted { Predicted self.now.pred.now self.now.chunk inst.now }
+        requires around { loops ≡ counters self.now.pred.now (block_of self.now.pred.now inst.now) }
+        requires values { take loops values.now ≡ (around_of self.now.pred.now self.now.nest.now.loops self.now.outer (take loops inst.now.at)).values }
+        ensures { (x : Expectation) → frame_at result x ≡ frame_of x block.part block.level (around_of self.now.pred.now self.now.nest.now.loops self.now.outer (take loops inst.now.at)) }
+    {
+        Site {
+            block,
+            counters: &inst.at[..loops],
+            values: &values[..loops],
+        }
     }
 }

@@ -22,7 +22,7 @@ use Rattle.fourier_motzkin.specs.Laws.{LevelsReach, PointsLieInRanges}
 use Rattle.fourier_motzkin.specs.Verdicts.{bounds_of, levels, next, standing}
 use Rattle.plain_lemmas.proofs.MembershipLaws.{All_from, All_has}
 use Rattle.fourier_motzkin.proofs.Points.{OverSaid, judged_cases, judged_met, judged_over, next_met, next_over, projected_from, tidied_met, tidied_over, told_from}
-use Rattle.fourier_motzkin.proofs.Runs.{length-levels}
+use Rattle.fourier_motzkin.proofs.EliminationRunLaws.{length-levels}
 use Rattle.fourier_motzkin.proofs.Sets.{least_tidied}
 
 -- a coefficient that is 0 stays so, and that of the variable becomes 0

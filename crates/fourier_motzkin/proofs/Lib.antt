@@ -2,10 +2,10 @@ pub mod Combinations
 pub mod Entries
 pub mod Sets
 pub mod Sizes
-pub mod Steps
+pub mod EliminationLaws
 pub mod Points
 pub mod Orders
-pub mod Runs
+pub mod EliminationRunLaws
 pub mod Ends
 pub mod Ranges
 pub mod Levels

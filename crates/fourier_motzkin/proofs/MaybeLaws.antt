@@ -28,7 +28,7 @@ use Rattle.fourier_motzkin.specs.declared.verdicts.Ruling.TheVariants.{Empty, Ma
 use Rattle.plain_lemmas.proofs.MembershipLaws.{Has, All_has, has_filter, has_from_contains, has_left}
 use Rattle.fourier_motzkin.proofs.Levels.{below_or_last}
 use Rattle.fourier_motzkin.proofs.Points.{has_told, judged_cases, met_tidied}
-use Rattle.fourier_motzkin.proofs.Runs.{length-levels}
+use Rattle.fourier_motzkin.proofs.EliminationRunLaws.{length-levels}
 use Rattle.fourier_motzkin.proofs.Sets.{least_tidied, tied_coefficients}
 
 -- the normal form over its divisor

@@ -31,7 +31,7 @@ use Rattle.nest_grammar.specs.Grammar as grammar
 use Rattle.nest_grammar.proofs.Many.{many-stop}
 use Rattle.nest_grammar.proofs.Productions.{parts-item, parts-next_unit}
 use Rattle.nest_grammar.proofs.Chains.{parts-scalar, parts-value}
-use Rattle.grammar_laws.proofs.Steps.{need-sees, obeys-true, fewer-room, fresh-sees, number-sees, signed-is, end-is, given, need-then, obeys-then, fewer-then, fresh-then, number-then, number-ok, signed-then, signed-ok, end-then}
+use Rattle.grammar_laws.proofs.ReadingLaws.{need-sees, obeys-true, fewer-room, fresh-sees, number-sees, signed-is, end-is, given, need-then, obeys-then, fewer-then, fresh-then, number-then, number-ok, signed-then, signed-ok, end-then}
 use Rattle.grammar_laws.proofs.Parts.{many-sound, many-reads}
 use Rattle.grammar_laws.proofs.Tests.{not-equal, equal-not, mark-begins, mark-sees}
 use Rattle.grammar_laws.proofs.Loops.{loops-complete, loops-front, loops-sound}

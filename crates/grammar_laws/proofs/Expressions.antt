@@ -18,7 +18,7 @@ use Rattle.nest_grammar.specs.Expressions.{start_of, product_of, addition_of, co
 use Rattle.nest_grammar.specs.Grammar.{Room, SeesName, Precedence, Unary, Term, Sum, Whole, Is, number, variable, minus, parens, load, factor, product, summand, addition, side, comparison, IsExpression}
 use Rattle.nest_grammar.proofs.Many.{many-stop}
 use Rattle.nest_grammar.proofs.Chains.{parts-term, parts-sum}
-use Rattle.grammar_laws.proofs.Steps.{taken-room, closed-sees, access-room, given, taken-then, closed-then, access-then}
+use Rattle.grammar_laws.proofs.ReadingLaws.{taken-room, closed-sees, access-room, given, taken-then, closed-then, access-then}
 use Rattle.grammar_laws.proofs.Parts.{many-sound, many-reads}
 use Rattle.nest_grammar.proofs.Many.{bind_ok}
 

@@ -1,4 +1,4 @@
-pub mod Steps
+pub mod ReadingLaws
 pub mod Parts
 pub mod Tests
 pub mod Expressions

@@ -23,7 +23,7 @@ use Rattle.nest_grammar.specs.Expressions.{product_of, addition_of, comparison_o
 use Rattle.nest_grammar.specs.Statements.{opening_of, block}
 use Rattle.nest_grammar.specs.Loops.{loop_keyword, Loops, not_zero, stride_at, stride, heading, inside, Rest, rest_at, rest_of, has_any, body_end, around, loop_of, loop_at, loops}
 use Rattle.nest_grammar.specs.Grammar.{IsStride, unwritten, written, IsHeading, counting, asking, IsLoops, innermost, outer}
-use Rattle.grammar_laws.proofs.Steps.{sees-is, need-sees, obeys-true, fresh-sees, signed-is, given, need-then, fresh-then, signed-ok}
+use Rattle.grammar_laws.proofs.ReadingLaws.{sees-is, need-sees, obeys-true, fresh-sees, signed-is, given, need-then, fresh-then, signed-ok}
 use Rattle.grammar_laws.proofs.Expressions.{Ends, expression-complete, expression-sound}
 use Rattle.grammar_laws.proofs.Statements.{Follows, opens-follow, close-follows, close-begins, block-complete, block-sound}
 use Rattle.nest_grammar.proofs.Many.{bind_ok}

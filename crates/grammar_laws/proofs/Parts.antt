@@ -4,7 +4,7 @@ use Rattle.nest_tokens.specs.declared.token.Token.{Token}
 use Rattle.nest_grammar.specs.Sights.{Sight, stands}
 use Rattle.nest_grammar.specs.Readings.{Reading, many, more, more_at}
 use Rattle.nest_grammar.proofs.Many.{Parts, many-next}
-use Rattle.grammar_laws.proofs.Steps.{given}
+use Rattle.grammar_laws.proofs.ReadingLaws.{given}
 use Rattle.nest_grammar.proofs.Many.{bind_ok}
 
 more-sound : {A B : Type 0} (P : A → Sight → Type 0) (begins : Token → Option B) (part : B → A → Reading A) → ((a : A) (t : Sight) (b : B) (x : A × Sight) → P a t → begins (stands t) ≡ Some b → part b a t ≡ Ok x → P x.0 x.1) → (n : ℕ) (a : A) (t : Sight) (x : A × Sight) → P a t → more n begins part a t ≡ Ok x → P x.0 x.1

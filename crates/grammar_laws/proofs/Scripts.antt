@@ -22,7 +22,7 @@ use Rattle.nest_grammar.specs.Grammar as grammar
 use Rattle.nest_grammar.proofs.Many.{many-stop}
 use Rattle.nest_grammar.proofs.Productions.{parts-next_row}
 use Rattle.nest_grammar.proofs.Chains.{parts-command, parts-candidate}
-use Rattle.grammar_laws.proofs.Steps.{sees-is, need-sees, obeys-true, fewer-room, number-sees, signed-is, given, need-then, obeys-then, fewer-then, number-then, signed-then}
+use Rattle.grammar_laws.proofs.ReadingLaws.{sees-is, need-sees, obeys-true, fewer-room, number-sees, signed-is, given, need-then, obeys-then, fewer-then, number-then, signed-then}
 use Rattle.grammar_laws.proofs.Parts.{many-sound, many-reads}
 use Rattle.grammar_laws.proofs.Tests.{not-equal, equal-not, mark-begins, mark-sees}
 use Rattle.std.proofs.lemmas.Bool.{and_parts}

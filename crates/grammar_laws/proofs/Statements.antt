@@ -24,7 +24,7 @@ use Rattle.nest_grammar.specs.Grammar.{AccessRoom, SeesName, IsExpression, IsStm
 use Rattle.nest_grammar.specs.Grammar as grammar
 use Rattle.nest_grammar.proofs.Many.{Parts, many-stop}
 use Rattle.nest_grammar.proofs.Productions.{IsPart, part-refused, part-skipped, starts, local-branches, local-statements, parts-another}
-use Rattle.grammar_laws.proofs.Steps.{sees-is, need-sees, fewer-room, access-room, fresh-sees, target-is, given, need-then, fewer-then, access-then, fresh-then, target-then}
+use Rattle.grammar_laws.proofs.ReadingLaws.{sees-is, need-sees, fewer-room, access-room, fresh-sees, target-is, given, need-then, fewer-then, access-then, fresh-then, target-then}
 use Rattle.grammar_laws.proofs.Parts.{many-sound, many-reads}
 use Rattle.grammar_laws.proofs.Expressions.{Ends, expression-complete, expression-sound}
 use Rattle.nest_grammar.proofs.Many.{bind_ok}

@@ -7,7 +7,7 @@ use Rattle.nest_tokens.specs.Tokens.{is_mark}
 use Rattle.nest_tokens.proofs.Marks.{is_mark-true}
 use Rattle.nest_grammar.specs.Sights.{Sight, stands, Sees}
 use Rattle.nest_grammar.specs.Readings.{at_mark}
-use Rattle.grammar_laws.proofs.Steps.{sees-is}
+use Rattle.grammar_laws.proofs.ReadingLaws.{sees-is}
 
 pub not-equal : (a b : ℕ) → a ≢ b → not (a == b) ≡ true
 not-equal a b h = elim (a == b) as (λ c. (a == b) ≡ c → not c ≡ true) [ true ↦ λ e. absurd (h (eqb-true a b e)) | false ↦ λ e. refl ] refl

@@ -7,7 +7,7 @@ use Rattle.orders.specs.Orders.{Has}
 use Rattle.level_walk.specs.Spaces.{Space, IsPoint, MissesNone, HasNone, points, span, spread}
 use Rattle.level_walk.specs.Fronts.{IsExact, fronts, is_some, of_fronts, run}
 use Rattle.level_walk.proofs.Points.{points_from}
-use Rattle.level_walk.proofs.Steps.{range_entered, range_none}
+use Rattle.level_walk.proofs.WalkStepLaws.{range_entered, range_none}
 use Rattle.level_walk.proofs.Spreads.{spread_first, span_inside}
 
 append_nil : {A : Type 0} (l : List A) → l ++ [] ≡ l

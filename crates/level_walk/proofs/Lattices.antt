@@ -14,7 +14,7 @@ use Rattle.fourier_motzkin.specs.Verdicts.{Bounds, bounds_of, levels, next, stan
 use Rattle.fourier_motzkin.proofs.Levels.{points_lie_in_ranges}
 use Rattle.plain_lemmas.proofs.MembershipLaws.{All_from, All_has, all_has, list_all_from, list_all_has}
 use Rattle.fourier_motzkin.proofs.Points.{judged_cases, met_tidied}
-use Rattle.fourier_motzkin.proofs.Runs.{length-levels}
+use Rattle.fourier_motzkin.proofs.EliminationRunLaws.{length-levels}
 use Rattle.level_walk.specs.Lattices.{FitsCell, HIGHEST, LOWEST, meets_all}
 use Rattle.level_walk.specs.Spaces.{IsWithin}
 

@@ -1,5 +1,5 @@
 pub mod Spreads
-pub mod Steps
+pub mod WalkStepLaws
 pub mod Moves
 pub mod Points
 pub mod Fronts

@@ -7,7 +7,7 @@ use crate::cells::cell_runs;
 use crate::cursor::Point;
 use crate::listings::{moved_listing, started_listing};
 use crate::runs::Run;
-use crate::states::{State, moved, started};
+use crate::states::{State, started, step};
 use crate::stretches::listed_runs;
 use affine::Row;
 use fourier_motzkin::Scan;
@@ -75,20 +75,20 @@ impl BlockScan {
         }
     }
 
-    /// The walk once its first point is taken off.
-    pub fn moved(&self, variables: usize, lows: &[i64], highs: &[i64], state: &State) -> State
+    /// Takes the first point off the walk.
+    pub fn step(&self, variables: usize, lows: &[i64], highs: &[i64], state: &mut State)
         requires block { IsBlock variables self.now }
         requires cell { IsBox variables lows.now highs.now }
-        requires stands { StandsIn lows.now highs.now self.now state.now }
-        ensures stands { StandsIn lows.now highs.now self.now result }
-        ensures left { left_in lows.now highs.now self.now result ≡ drop 1 (left_in lows.now highs.now self.now state.now) }
+        requires stands { StandsIn lows.now highs.now self.now state.old }
+        ensures stands { StandsIn lows.now highs.now self.now state.new }
+        ensures left { left_in lows.now highs.now self.now state.new ≡ drop 1 (left_in lows.now highs.now self.now state.old) }
     {
         match self {
             BlockScan::Scanned(block) => {
-                moved(&block.scan, block.rows.as_slice(), lows, highs, state)
+                step(&block.scan, block.rows.as_slice(), lows, highs, state);
             },
             BlockScan::Listed(block) => {
-                moved_listing(variables, block.points.as_slice(), lows, highs, state)
+                *state = moved_listing(variables, block.points.as_slice(), lows, highs, state);
             },
         }
     }

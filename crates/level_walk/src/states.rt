@@ -1,6 +1,6 @@
 //! The walk of a block in plain numbers, which can be copied.
 
-ghost use Rattle.std.specs.Prelude.{◌≡◌, ◌<◌, ◌≤◌, ◌++◌, ◌+◌, true, IfSome, IsTrue, ℕ, ℤ, List, [], ◌∷◌, drop, length, take, MatchOption, Some, None};
+ghost use Rattle.std.specs.Prelude.{◌≡◌, ◌<◌, ◌≤◌, ◌++◌, ◌+◌, true, false, IfSome, IsTrue, ℕ, ℤ, List, [], ◌∷◌, drop, length, take, MatchOption, Some, None};
 ghost use Rattle.level_walk.specs.Spaces.{Space, points};
 ghost use Rattle.level_walk.specs.Lattices.{FitsCell, in_cell};
 ghost use Rattle.level_walk.specs.States.{StateStands, head_of, place_of, run_of, state_left};
@@ -214,31 +214,29 @@ pub fn started(scan: &Scan, rows: &[Row], lows: &[i64], highs: &[i64]) -> State
     packed(walk.cursor(), walk.run())
 }
 
-/// The state once the first point is taken off the run, where another one follows.
-fn advanced(state: &State) -> Option<State>
-    ensures some { IfSome result (λ next. (s : Space) → StateStands s state.now → StateStands s next) }
-    ensures left { IfSome result (λ next. (s : Space) → StateStands s state.now → state_left s next ≡ drop 1 (state_left s state.now)) }
+/// Takes the first point off the run, where another one follows; else it is false, and the state stays.
+fn advance(state: &mut State) -> bool
+    ensures stands { IsTrue result → (s : Space) → StateStands s state.old → StateStands s state.new }
+    ensures left { IsTrue result → (s : Space) → StateStands s state.old → state_left s state.new ≡ drop 1 (state_left s state.old) }
+    ensures stays { result ≡ false → state.new ≡ state.old }
 {
     if state.begun && state.low < state.high {
-        Some(State {
-            low: state.low + 1,
-            ..*state
-        })
+        state.low += 1;
+        true
     } else {
-        None
+        false
     }
 }
 
-/// The walk once its first point is taken off.
-pub fn moved(scan: &Scan, rows: &[Row], lows: &[i64], highs: &[i64], state: &State) -> State
+/// Takes the first point off the walk.
+pub fn step(scan: &Scan, rows: &[Row], lows: &[i64], highs: &[i64], state: &mut State)
     requires fits { FitsCell scan.now rows.now lows.now highs.now }
-    requires stands { StateStands (in_cell (length scan.now.levels) rows.now lows.now highs.now) state.now }
-    ensures stands { StateStands (in_cell (length scan.now.levels) rows.now lows.now highs.now) result }
-    ensures left { let space = in_cell (length scan.now.levels) rows.now lows.now highs.now in state_left space result ≡ drop 1 (state_left space state.now) }
+    requires stands { StateStands (in_cell (length scan.now.levels) rows.now lows.now highs.now) state.old }
+    ensures stands { StateStands (in_cell (length scan.now.levels) rows.now lows.now highs.now) state.new }
+    ensures left { let space = in_cell (length scan.now.levels) rows.now lows.now highs.now in state_left space state.new ≡ drop 1 (state_left space state.old) }
 {
-    match advanced(state) {
-        Some(next) => next,
-        None => refilled(scan, rows, lows, highs, state),
+    if !advance(state) {
+        *state = refilled(scan, rows, lows, highs, state);
     }
 }
 

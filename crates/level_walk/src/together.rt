@@ -46,9 +46,7 @@ fn step(
     ensures stand { AllStand lows.now highs.now blocks.now states.new }
     ensures left { all_left lows.now highs.now blocks.now states.new ≡ stepped rank (all_left lows.now highs.now blocks.now states.old) }
 {
-    let block = &blocks[rank];
-    let state = states[rank];
-    states[rank] = block.moved(variables, lows, highs, &state);
+    blocks[rank].step(variables, lows, highs, &mut states[rank]);
 }
 
 /// The least of the first points.

@@ -1,6 +1,6 @@
-pub mod Steps
+pub mod ProductionLaws
 pub mod Listing
 pub mod Marked
 pub mod Levels
-pub mod Names
+pub mod ScalarNameLaws
 pub mod Stored

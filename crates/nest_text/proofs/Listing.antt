@@ -12,7 +12,7 @@ use Rattle.nest_grammar.proofs.Many.{many-stop}
 use Rattle.nest_grammar.proofs.Productions.{IsPart, starts, part-skipped, part-refused, local-branches, local-statements}
 use Rattle.nest_grammar.proofs.Chains.{statement-goes, statement-fails, statement-shorter}
 use Rattle.nest_text.specs.Parts.{choice}
-use Rattle.nest_text.proofs.Steps.{statements-are}
+use Rattle.nest_text.proofs.ProductionLaws.{statements-are}
 use Rattle.std.proofs.Math.Seq.{take-append_seam}
 
 -- the statements behind these, where d choices may stand within one another

@@ -31,7 +31,7 @@ fn version_of(number: u64) -> Option<Version>
 
 impl<'a> Reader<'a> {
     /// Reads `nest` and the version.
-    #[tactic(auto, using(crate::proofs::Steps::versions), unfolding(nest_grammar::specs::Contents::version, nest_grammar::specs::Readings::refused))]
+    #[tactic(auto, using(crate::proofs::ProductionLaws::versions), unfolding(nest_grammar::specs::Contents::version, nest_grammar::specs::Readings::refused))]
     fn version(&mut self) -> Result<Version, ReadRefusal>
         ensures { Gives result self.new (version self.old) }
     {

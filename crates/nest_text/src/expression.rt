@@ -158,7 +158,7 @@ impl<'a> Reader<'a> {
 
     /// Reads a load.
     #[cycle(expression)]
-    #[tactic(auto, using(crate::proofs::Steps::load_room))]
+    #[tactic(auto, using(crate::proofs::ProductionLaws::load_room))]
     fn load(&mut self, names: &[Declared], depth: usize) -> Result<Expr, ReadRefusal>
         ensures { Gives result self.new (load names.now depth self.old) }
     {
@@ -173,7 +173,7 @@ impl<'a> Reader<'a> {
     /// Reads a number, a name, or what begins with a `-`, a parenthesis or a bracket, where so many more
     /// of these may be open.
     #[cycle(expression)]
-    #[tactic(auto, using(crate::proofs::Steps::units), unfolding(nest_grammar::specs::Readings::refused))]
+    #[tactic(auto, using(crate::proofs::ProductionLaws::units), unfolding(nest_grammar::specs::Readings::refused))]
     fn unary(&mut self, names: &[Declared], depth: usize) -> Result<Expr, ReadRefusal>
         ensures { Gives result self.new (unary names.now depth self.old) }
     {

@@ -85,7 +85,7 @@ fn ramp_fits(words: u64, first: u64, count: u64, stride: u64, start: i64, growth
 
 impl<'a> Reader<'a> {
     /// Reads `memory` and its number of words.
-    #[tactic(auto, using(crate::proofs::Steps::numbers), unfolding(nest_grammar::specs::Contents::memory, nest_grammar::specs::Readings::obeys))]
+    #[tactic(auto, using(crate::proofs::ProductionLaws::numbers), unfolding(nest_grammar::specs::Contents::memory, nest_grammar::specs::Readings::obeys))]
     pub fn memory(&mut self) -> Result<usize, ReadRefusal>
         ensures { Gives result self.new (memory self.old) }
     {
@@ -137,7 +137,7 @@ impl<'a> Reader<'a> {
     }
 
     /// Goes past the growth of a ramp that stays within so many words, with its values within i64.
-    #[tactic(auto, using(crate::proofs::Steps::growths))]
+    #[tactic(auto, using(crate::proofs::ProductionLaws::growths))]
     fn growth(
         &mut self,
         words: u64,
@@ -158,7 +158,7 @@ impl<'a> Reader<'a> {
     }
 
     /// Reads what stands behind `ramp`.
-    #[tactic(auto, using(crate::proofs::Steps::ramps), unfolding(nest_grammar::specs::Contents::item_of))]
+    #[tactic(auto, using(crate::proofs::ProductionLaws::ramps), unfolding(nest_grammar::specs::Contents::item_of))]
     fn ramp(&mut self, words: usize) -> Result<Item, ReadRefusal>
         ensures { Gives result self.new (item_of words RampWord self.old) }
     {

@@ -75,7 +75,7 @@ fn declare(
 
 impl<'a> Reader<'a> {
     /// Reads the step of a `for`, which is 1 where none is written.
-    #[tactic(auto, using(crate::proofs::Steps::steps))]
+    #[tactic(auto, using(crate::proofs::ProductionLaws::steps))]
     fn stride(&mut self) -> Result<i64, ReadRefusal>
         ensures { Gives result self.new (stride self.old) }
     {

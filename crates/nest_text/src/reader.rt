@@ -192,7 +192,7 @@ impl<'a> Reader<'a> {
     }
 
     /// Goes past a number.
-    #[tactic(auto, using(crate::proofs::Steps::any_number))]
+    #[tactic(auto, using(crate::proofs::ProductionLaws::any_number))]
     pub fn number(&mut self) -> Result<u64, ReadRefusal>
         ensures read { Gives result self.new (number self.old) }
         ensures fits { IfOk result (λ n. n < 2 ^ 63) }

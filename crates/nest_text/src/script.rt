@@ -114,7 +114,7 @@ fn row_begins(token: Token) -> Option<()>
 
 impl<'a> Reader<'a> {
     /// Goes past the number of a row.
-    #[tactic(auto, using(crate::proofs::Steps::numbers))]
+    #[tactic(auto, using(crate::proofs::ProductionLaws::numbers))]
     fn row(&mut self, depth: u8) -> Result<u8, ReadRefusal>
         ensures { Gives result self.new (row depth self.old) }
     {
@@ -124,7 +124,7 @@ impl<'a> Reader<'a> {
     }
 
     /// Goes past the number of another row than this one.
-    #[tactic(auto, using(crate::proofs::Steps::numbers))]
+    #[tactic(auto, using(crate::proofs::ProductionLaws::numbers))]
     fn row_but(&mut self, depth: u8, other: u8) -> Result<u8, ReadRefusal>
         ensures { Gives result self.new (row_but depth other self.old) }
     {
@@ -135,7 +135,7 @@ impl<'a> Reader<'a> {
     }
 
     /// Goes past the number of leading rows.
-    #[tactic(auto, using(crate::proofs::Steps::numbers))]
+    #[tactic(auto, using(crate::proofs::ProductionLaws::numbers))]
     fn leading(&mut self, depth: u8) -> Result<u8, ReadRefusal>
         ensures { Gives result self.new (ruled (λ n. nat_le n depth) self.old) }
     {
@@ -145,7 +145,7 @@ impl<'a> Reader<'a> {
     }
 
     /// Goes past the factor of a `skew`.
-    #[tactic(auto, using(crate::proofs::Steps::factors))]
+    #[tactic(auto, using(crate::proofs::ProductionLaws::factors))]
     fn factor(&mut self) -> Result<i64, ReadRefusal>
         ensures { Gives result self.new (signed_where is_factor ScriptKind self.old) }
     {
@@ -156,7 +156,7 @@ impl<'a> Reader<'a> {
     }
 
     /// Goes past the size of a tile.
-    #[tactic(auto, using(crate::proofs::Steps::numbers))]
+    #[tactic(auto, using(crate::proofs::ProductionLaws::numbers))]
     fn size(&mut self) -> Result<i64, ReadRefusal>
         ensures { Gives result self.new (tile_size self.old) }
     {

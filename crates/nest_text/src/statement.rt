@@ -30,7 +30,7 @@ fn opening_of(token: Token) -> Option<Opening>
 
 impl<'a> Reader<'a> {
     /// Reads a `let`. Its name is visible from behind it on.
-    #[tactic(auto, using(crate::proofs::Steps::lets, crate::proofs::Listing::keeping), unfolding(nest_grammar::specs::Readings::obeys, nest_grammar::specs::Sights::skip))]
+    #[tactic(auto, using(crate::proofs::ProductionLaws::lets, crate::proofs::Listing::keeping), unfolding(nest_grammar::specs::Readings::obeys, nest_grammar::specs::Sights::skip))]
     fn let_statement(&mut self, names: &mut Vec<Declared>) -> Result<Stmt, ReadRefusal>
         ensures read { GivesAs (λ st. (st, names.new.items)) result self.new (simple names.old.items Letting self.old) }
         ensures kept { OnOk result (take (length names.old.items) names.new.items ≡ names.old.items) }
@@ -61,7 +61,7 @@ impl<'a> Reader<'a> {
     }
 
     /// Reads a store. It is numbered behind the loads of its address and its value.
-    #[tactic(auto, using(crate::proofs::Steps::store_room))]
+    #[tactic(auto, using(crate::proofs::ProductionLaws::store_room))]
     fn store(&mut self, names: &[Declared]) -> Result<Stmt, ReadRefusal>
         ensures { GivesAs (λ st. (st, names.now)) result self.new (simple names.now Storing self.old) }
     {
@@ -90,7 +90,7 @@ impl<'a> Reader<'a> {
 
     /// Reads a choice, where so many may stand within one another.
     #[cycle(statement)]
-    #[tactic(auto, using(crate::proofs::Steps::choices))]
+    #[tactic(auto, using(crate::proofs::ProductionLaws::choices))]
     fn choice(&mut self, names: &mut Vec<Declared>, depth: usize) -> Result<Stmt, ReadRefusal>
         ensures read { Gives result self.new (choice depth names.old.items self.old) }
         ensures kept { OnOk result (names.new.items ≡ names.old.items) }

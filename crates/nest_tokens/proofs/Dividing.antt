@@ -9,7 +9,7 @@ use Rattle.nest_tokens.specs.Lexing.{is_letter, is_digit, is_name_byte, is_blank
 use Rattle.nest_tokens.specs.Division.{Gap, none, blank, opens, inside, closes, Begins, Stops, AllPass, StandsAt, Spells, name, number, sign, bad_byte, Divides, ends, goes_on, TokensDivide}
 use Rattle.nest_tokens.proofs.Places.{gap-stays, letter-named, lexed-moves, gap-no_longer, spelling-moves}
 use Rattle.nest_tokens.proofs.SignLaws.{found_len, sign_at-sign, sign_at-longest}
-use Rattle.nest_tokens.proofs.Names.{sign-begins}
+use Rattle.nest_tokens.proofs.NameLaws.{sign-begins}
 
 -- a text is a gap and what is left behind it
 record Parted (c : Bool) (bs : List ℕ) : Type 0 where

@@ -1,7 +1,7 @@
 pub mod Marks
 pub mod Numbers
 pub mod Gaps
-pub mod Names
+pub mod NameLaws
 pub mod FitLaws
 pub mod Places
 pub mod Computed

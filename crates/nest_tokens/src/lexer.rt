@@ -120,7 +120,7 @@ fn name(spelled: &[u8]) -> Token
 }
 
 /// The token that a text begins with, and its number of bytes.
-#[tactic(auto, unfolding(crate::specs::Lexing::lexed), using(crate::proofs::Names::within))]
+#[tactic(auto, unfolding(crate::specs::Lexing::lexed), using(crate::proofs::NameLaws::within))]
 pub fn lex(text: &[u8]) -> (Token, usize)
     ensures token { result.0 ≡ (lexed text.now).token }
     ensures len { result.1 ≡ (lexed text.now).len }

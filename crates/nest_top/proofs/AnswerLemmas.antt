@@ -1,5 +1,5 @@
 -- Answers: which status has which cause, and that there is one.
-use Rattle.std.proofs.Common.{◌≡◌, refl, ap, ap₂, ◌∙◌, sym, subst, ℕ, ℤ, List, [], ◌++◌, Option, Some, None, Result, Ok, Err, IfOk, ◌≤ℤ◌, arith, pos, inl, inr}
+use Rattle.std.proofs.Common.{◌≡◌, refl, ap, ap₂, ◌∙◌, sym, subst, ℕ, ℤ, List, [], ◌++◌, Option, Some, None, Result, Ok, Err, IfOk, ◌≤ℤ◌, arith, pos, inl, inr, true}
 use Rattle.std.proofs.lemmas.Int.{ints}
 use Rattle.nest_lang.specs.declared.tree.Trap.{Trap}
 use Rattle.nest_lang.specs.declared.budget.Ending.{Ending}
@@ -15,12 +15,14 @@ use Rattle.canonical.specs.Contents.{canonical}
 use Rattle.report.specs.declared.runs.WordRun.{WordRun}
 use Rattle.report.specs.Outcomes.{outcome_lines}
 use Rattle.report.specs.Faults.{refusal_line}
+use Rattle.report.specs.Summaries.{summary}
 use Rattle.report.proofs.RunLemmas.{longest_runs}
 use Rattle.report.proofs.OneList.{same_runs}
 use Rattle.command_line.specs.declared.invocation.Invocation.{Invocation}
 use Rattle.command_line.specs.declared.invocation.Mode.{Mode}
-use Rattle.command_line.specs.declared.invocation.Mode.TheVariants.{Plain, Run, Check, Deps}
+use Rattle.command_line.specs.declared.invocation.Mode.TheVariants.{Plain, Run, Check, Deps, Gen}
 use Rattle.command_line.specs.declared.invocation.Options.{Options}
+use Rattle.command_line.specs.declared.recipe.Recipe.{Recipe}
 use Rattle.command_line.specs.Invocations.{IsInvocation, IsNoInvocation, usage_line}
 use Rattle.command_line.proofs.Found.{one_invocation}
 use Rattle.command_line.proofs.Decided.{invocation_or_none}
@@ -29,7 +31,7 @@ use Rattle.command_line.specs.Numbers.{IsNumberIn}
 use Rattle.nest_top.specs.declared.status.Status.{Status}
 use Rattle.nest_top.specs.declared.status.Status.TheVariants.{Ended, Trapped, Limited, Refused, Usage, SourceFault, SinkFault, NoMemory}
 use Rattle.nest_top.specs.Texts.{IsTextOf, text_taken}
-use Rattle.nest_top.specs.Answers.{AnswersFile, AnswersReading, AreInRange, Causes, Finishes, IsAnswer, IsListingOf, IsOutcomeOf, IsReportOf, Prepared, finish_of, journey_options, run_of_file, status_of}
+use Rattle.nest_top.specs.Answers.{AnswersFile, AnswersReading, AreInRange, Causes, Finishes, IsAnswer, IsListingOf, IsOutcomeOf, IsReportOf, IsSummaryOf, Prepared, finish_of, has_journey, heading, journey_options, run_of_file, status_of, text_for, text_made}
 use Rattle.nest_top.specs.Answers.IsAnswer.{usage, invoked}
 use Rattle.nest_text.specs.Files.{IsOfText, scalar_names}
 use Rattle.report.specs.Lines.{line_text, listing_text}
@@ -109,6 +111,7 @@ ended-so Plain options file bytes status is = record { ending = is.ending; finis
 ended-so Run options file bytes status is = record { ending = is.is.ending; finished = is.is.ended; answered = is.is.answered }
 ended-so Check options file bytes status is = record { ending = ending.Ended; finished = refl; answered = is.1 }
 ended-so Deps options file bytes status is = record { ending = ending.Ended; finished = refl; answered = is.1 }
+ended-so (Gen recipe) options file bytes status is = record { ending = is.ending; finished = is.ended; answered = is.answered }
 
 -- ---- causes
 
@@ -121,19 +124,23 @@ no-fault r f b one other = let e = sym one ∙ other in cc
 
 module _ (words : List (List ℕ)) (text : List ℕ) (c : Invocation) (is : IsInvocation words c) where
   -- the invocation and the file of a run are these
-  finishes-here : (file : File) → reading text ≡ Ok file → (finish : Finish) → Finishes words text finish → finish_of c.mode c.options file ≡ finish
+  finishes-here : (file : File) → reading (text_for c.mode text) ≡ Ok file → (finish : Finish) → Finishes words text finish → finish_of c.mode c.options file ≡ finish
   finishes-here file reads finish f =
       let same = one_invocation words c f.invocation is f.is in
-      let alike = same-file (reading text) file f.file reads f.reads in
+      let alike = same-file (reading (text_for c.mode text)) file f.file reads (ap (λ (d : Invocation). reading (text_for d.mode text)) same ∙ f.reads) in
       ap (λ (d : Invocation). finish_of d.mode d.options file) same ∙ (ap (finish_of f.invocation.mode f.invocation.options) alike ∙ f.finished)
 
+  -- what the text of another invocation of these words reads as
+  read-here : (d : Invocation) → IsInvocation words d → reading (text_for c.mode text) ≡ reading (text_for d.mode text)
+  read-here d is' = ap (λ (e : Invocation). reading (text_for e.mode text)) (one_invocation words c d is is')
+
   -- the causes of the answer to a file
-  file-causes : (file : File) → reading text ≡ Ok file → (status : Status) → EndedSo c.mode c.options file status → Causes words text status
+  file-causes : (file : File) → reading (text_for c.mode text) ≡ Ok file → (status : Status) → EndedSo c.mode c.options file status → Causes words text status
   file-causes file reads status e = record {
     usage = (λ u. absurd (subst IsOfFile (sym e.answered ∙ u) (of-ending e.ending)), λ none. absurd (none c is));
     refused = (
       λ r. absurd (subst IsOfFile (sym e.answered ∙ r) (of-ending e.ending)),
-      λ r. absurd (no-fault (reading text) file r.fault reads r.reads),
+      λ r. absurd (no-fault (reading (text_for c.mode text)) file r.fault reads (read-here r.invocation r.is ∙ r.reads)),
     );
     ended = (
       λ s. record { invocation = c; is = is; file = file; reads = reads; finished = sym e.finished ∙ is-ended e.ending (sym e.answered ∙ s) },
@@ -150,16 +157,16 @@ module _ (words : List (List ℕ)) (text : List ℕ) (c : Invocation) (is : IsIn
     );
   }
 
-  refused-causes : (fault : TextFault) → reading text ≡ Err fault → (status : Status) → status ≡ Refused → Causes words text status
+  refused-causes : (fault : TextFault) → reading (text_for c.mode text) ≡ Err fault → (status : Status) → status ≡ Refused → Causes words text status
   refused-causes fault reads status r = record {
     usage = (λ u. let bad : Refused ≡ Usage = sym r ∙ u in absurd (cc), λ none. absurd (none c is));
     refused = (λ s. record { invocation = c; is = is; fault = fault; reads = reads }, λ s. r);
-    ended = (λ s. let bad : Refused ≡ Ended = sym r ∙ s in absurd (cc), λ f. absurd (no-fault (reading text) f.file fault f.reads reads));
-    trapped = (λ s. let bad : Refused ≡ Trapped = sym r ∙ s in absurd (cc), λ f. absurd (no-fault (reading text) f.1.file fault f.1.reads reads));
-    limited = (λ s. let bad : Refused ≡ Limited = sym r ∙ s in absurd (cc), λ f. absurd (no-fault (reading text) f.file fault f.reads reads));
+    ended = (λ s. let bad : Refused ≡ Ended = sym r ∙ s in absurd (cc), λ f. absurd (no-fault (reading (text_for c.mode text)) f.file fault (read-here f.invocation f.is ∙ f.reads) reads));
+    trapped = (λ s. let bad : Refused ≡ Trapped = sym r ∙ s in absurd (cc), λ f. absurd (no-fault (reading (text_for c.mode text)) f.1.file fault (read-here f.1.invocation f.1.is ∙ f.1.reads) reads));
+    limited = (λ s. let bad : Refused ≡ Limited = sym r ∙ s in absurd (cc), λ f. absurd (no-fault (reading (text_for c.mode text)) f.file fault (read-here f.invocation f.is ∙ f.reads) reads));
   }
 
-  invocation-causes : (bytes : List ℕ) (status : Status) (r : Result File TextFault) → reading text ≡ r → AnswersReading c r bytes status → Causes words text status
+  invocation-causes : (bytes : List ℕ) (status : Status) (r : Result File TextFault) → reading (text_for c.mode text) ≡ r → AnswersReading c.mode c.options r bytes status → Causes words text status
   invocation-causes bytes status (Ok file) reads answers = file-causes file reads status (ended-so c.mode c.options file bytes status answers)
   invocation-causes bytes status (Err fault) reads answers = refused-causes fault reads status answers.1
 
@@ -175,7 +182,7 @@ usage-causes words text none = record {
 -- each status of an answer has its cause
 pub causes : EachHasItsCause
 causes words text bytes status (usage none) = usage-causes words text none
-causes words text bytes status (invoked c is b s answers) = invocation-causes words text c is b s (reading text) refl answers
+causes words text bytes status (invoked c is b s answers) = invocation-causes words text c is b s (reading (text_for c.mode text)) refl answers
 
 -- ---- options
 
@@ -226,6 +233,16 @@ one-report options file bytes bytes' status status' a b =
       outcome.1,
     )
 
+-- a file has at most one summary
+one-summary : (recipe : Recipe) (options : Options) (file : File) (bytes bytes' : List ℕ) (status status' : Status) → IsSummaryOf recipe options file bytes status → IsSummaryOf recipe options file bytes' status' → Same bytes bytes' status status'
+one-summary recipe options file bytes bytes' status status' a b =
+    let run = run_of_file file options.steps in
+    let e : a.ending ≡ b.ending = same-ending a.ending b.ending (a.ended ∙ sym b.ended) in
+    let told = (one-journey (journey_options options) file a.lines b.lines a.end b.end a.journey b.journey).told in (
+      a.written ∙ ap₂ (λ (x : Ending) (lines : List Line). heading recipe ++ summary x run.steps lines run.store.memory) e told ∙ sym b.written,
+      a.answered ∙ ap status_of e ∙ sym b.answered,
+    )
+
 -- a file has one listing
 one-deps : (options : Options) (file : File) → IsOfText file → (bytes bytes' : List ℕ) → IsListingOf options file bytes → IsListingOf options file bytes' → bytes ≡ bytes'
 one-deps options file of bytes bytes' a b =
@@ -238,10 +255,11 @@ one-file_answer Plain options file of bytes bytes' status status' a b = one-outc
 one-file_answer Run options file of bytes bytes' status status' a b = one-report options file bytes bytes' status status' a b
 one-file_answer Check options file of bytes bytes' status status' a b = (a.0 ∙ sym b.0, a.1 ∙ sym b.1)
 one-file_answer Deps options file of bytes bytes' status status' a b = (one-deps options file of bytes bytes' a.0 b.0, a.1 ∙ sym b.1)
+one-file_answer (Gen recipe) options file of bytes bytes' status status' a b = one-summary recipe options file bytes bytes' status status' a b
 
-one-reading_answer : (c : Invocation) (text : List ℕ) (r : Result File TextFault) → reading text ≡ r → (bytes bytes' : List ℕ) (status status' : Status) → AnswersReading c r bytes status → AnswersReading c r bytes' status' → Same bytes bytes' status status'
-one-reading_answer c text (Ok file) reads bytes bytes' status status' a b = one-file_answer c.mode c.options file (text, reads) bytes bytes' status status' a b
-one-reading_answer c text (Err fault) reads bytes bytes' status status' a b = (a.0 ∙ sym b.0, a.1 ∙ sym b.1)
+one-reading_answer : (mode : Mode) (options : Options) (text : List ℕ) (r : Result File TextFault) → reading text ≡ r → (bytes bytes' : List ℕ) (status status' : Status) → AnswersReading mode options r bytes status → AnswersReading mode options r bytes' status' → Same bytes bytes' status status'
+one-reading_answer mode options text (Ok file) reads bytes bytes' status status' a b = one-file_answer mode options file (text, reads) bytes bytes' status status' a b
+one-reading_answer mode options text (Err fault) reads bytes bytes' status status' a b = (a.0 ∙ sym b.0, a.1 ∙ sym b.1)
 
 -- words and a text have at most one answer
 pub one-answer : OneAnswer
@@ -249,7 +267,8 @@ one-answer words text bytes bytes' status status' (usage n) (usage m) = (refl, r
 one-answer words text bytes bytes' status status' (usage n) (invoked d is b s a) = absurd (n d is)
 one-answer words text bytes bytes' status status' (invoked c is b s a) (usage n) = absurd (n c is)
 one-answer words text bytes bytes' status status' (invoked c is b s a) (invoked d is' b' s' a') =
-    one-reading_answer c text (reading text) refl b b' s s' a (subst (λ (x : Invocation). AnswersReading x (reading text) b' s') (sym (one_invocation words c d is is')) a')
+    let own = text_for c.mode text in
+    one-reading_answer c.mode c.options own (reading own) refl b b' s s' a (subst (λ (x : Invocation). AnswersReading x.mode x.options (reading (text_for x.mode text)) b' s') (sym (one_invocation words c d is is')) a')
 
 -- ---- and one at least
 
@@ -273,7 +292,7 @@ runnable options file of range i64s =
       steps = range.steps;
     }
 
-some-file_answer : (mode : Mode) (options : Options) (file : File) → IsOfText file → AreInRange options → (mode ≡ Run → AreI64s file) → (bytes : List ℕ) × (status : Status) × AnswersFile mode options file bytes status
+some-file_answer : (mode : Mode) (options : Options) (file : File) → IsOfText file → AreInRange options → (has_journey mode ≡ true → AreI64s file) → (bytes : List ℕ) × (status : Status) × AnswersFile mode options file bytes status
 some-file_answer Plain options file of range i64s = some-outcome file options.steps
 some-file_answer Run options file of range i64s =
     let o = some-outcome file options.steps in
@@ -283,15 +302,23 @@ some-file_answer Check options file of range i64s = (canonical file, Ended, (ref
 some-file_answer Deps options file of range i64s =
     let one = one-listing (journey_options options) file of in
     (flat_map (listing_text (scalar_names file)) one.0, Ended, ((one.0, one.1, refl), refl))
+some-file_answer (Gen recipe) options file of range i64s =
+    let run = run_of_file file options.steps in
+    let e = plain_run-finishes (nests_of file) (first_store file) options.steps in
+    let j = some-journey (journey_options options) file (runnable options file of range (i64s refl)) in
+    (heading recipe ++ summary e.0 run.steps j.0 run.store.memory, status_of e.0, record { ending = e.0; ended = e.1; lines = j.0; end = j.1; journey = j.2; written = refl; answered = refl })
 
-some-reading_answer : (c : Invocation) (text : List ℕ) (r : Result File TextFault) → reading text ≡ r → AreInRange c.options → ((file : File) → c.mode ≡ Run → r ≡ Ok file → AreI64s file)
-    → (bytes : List ℕ) × (status : Status) × AnswersReading c r bytes status
-some-reading_answer c text (Ok file) reads range i64s = some-file_answer c.mode c.options file (text, reads) range (λ mode. i64s file mode refl)
-some-reading_answer c text (Err fault) reads range i64s = (refusal_line fault, Refused, (refl, refl))
+some-reading_answer : (mode : Mode) (options : Options) (text : List ℕ) (r : Result File TextFault) → reading text ≡ r → AreInRange options → ((file : File) → has_journey mode ≡ true → r ≡ Ok file → AreI64s file)
+    → (bytes : List ℕ) × (status : Status) × AnswersReading mode options r bytes status
+some-reading_answer mode options text (Ok file) reads range i64s = some-file_answer mode options file (text, reads) range (λ has. i64s file has refl)
+some-reading_answer mode options text (Err fault) reads range i64s = (refusal_line fault, Refused, (refl, refl))
 
 pub some-answer : SomeAnswer
 some-answer words text i64s = elim (invocation_or_none words) [
-  | inl i ↦ (let a = some-reading_answer i.0 text (reading text) refl (options-in_range words i.0 i.1) (λ file mode reads. i64s i.0 file i.1 mode reads) in (a.0, a.1, invoked i.0 i.1 a.0 a.1 a.2))
+  | inl i ↦ (
+      let own = text_for i.0.mode text in
+      let a = some-reading_answer i.0.mode i.0.options own (reading own) refl (options-in_range words i.0 i.1) (λ file has reads. i64s i.0 file i.1 has reads) in
+      (a.0, a.1, invoked i.0 i.1 a.0 a.1 a.2))
   | inr none ↦ (usage_line, Usage, usage none)
 ]
 
@@ -309,13 +336,13 @@ of-an-ending ending.Ended = tt
 of-an-ending (ending.Trapped trap) = tt
 of-an-ending ending.Limited = tt
 
-of-reading : (c : Invocation) (r : Result File TextFault) (bytes : List ℕ) (status : Status) → AnswersReading c r bytes status → IsOfAnswer status
-of-reading c (Ok file) bytes status a = let e = ended-so c.mode c.options file bytes status a in subst IsOfAnswer (sym e.answered) (of-an-ending e.ending)
-of-reading c (Err fault) bytes status a = subst IsOfAnswer (sym a.1) tt
+of-reading : (mode : Mode) (options : Options) (r : Result File TextFault) (bytes : List ℕ) (status : Status) → AnswersReading mode options r bytes status → IsOfAnswer status
+of-reading mode options (Ok file) bytes status a = let e = ended-so mode options file bytes status a in subst IsOfAnswer (sym e.answered) (of-an-ending e.ending)
+of-reading mode options (Err fault) bytes status a = subst IsOfAnswer (sym a.1) tt
 
 of-answer : (words : List (List ℕ)) (text bytes : List ℕ) (status : Status) → IsAnswer words text bytes status → IsOfAnswer status
 of-answer words text bytes status (usage n) = tt
-of-answer words text bytes status (invoked c is b s a) = of-reading c (reading text) b s a
+of-answer words text bytes status (invoked c is b s a) = of-reading c.mode c.options (reading (text_for c.mode text)) b s a
 
 -- no answer has the status of a fault
 pub answer-no_sink_fault : (words : List (List ℕ)) (text bytes : List ℕ) (status : Status) → IsAnswer words text bytes status → status ≡ SinkFault → ⊥
@@ -348,6 +375,14 @@ pub ok-map : {A E : Type 0} (P Q : A → Type 0) → ((a : A) → P a → Q a) �
 ok-map P Q go (Ok a) p = go a p
 ok-map P Q go (Err e) p = tt
 
--- an invocation has its answer to the text
-pub invocation-prepared : (words : List (List ℕ)) (left : Option (List ℕ)) (c : Invocation) (text bytes : List ℕ) (status : Status) → IsInvocation words c → IsTextOf left text → AnswersReading c (reading text) bytes status → Prepared words left bytes status
+-- an invocation has its answer to its text
+pub invocation-prepared : (words : List (List ℕ)) (left : Option (List ℕ)) (c : Invocation) (text bytes : List ℕ) (status : Status) → IsInvocation words c → IsTextOf left text → AnswersReading c.mode c.options (reading (text_for c.mode text)) bytes status → Prepared words left bytes status
 invocation-prepared words left c text bytes status is taken answers = record { text = text; taken = taken; answer = invoked c is bytes status answers }
+
+-- so has one that makes its text itself
+pub generated-prepared : (words : List (List ℕ)) (left : Option (List ℕ)) (c : Invocation) (recipe : Recipe) (bytes : List ℕ) (status : Status) → IsInvocation words c → c.mode ≡ Gen recipe
+    → (file : File) → reading (text_made recipe) ≡ Ok file → IsSummaryOf recipe c.options file bytes status → Prepared words left bytes status
+generated-prepared words left c recipe bytes status is gen file reads summed =
+    let t = text-of left in
+    let here : AnswersReading (Gen recipe) c.options (reading (text_made recipe)) bytes status = subst (λ (r : Result File TextFault). AnswersReading (Gen recipe) c.options r bytes status) (sym reads) summed in
+    record { text = t.0; taken = t.1; answer = invoked c is bytes status (subst (λ (m : Mode). AnswersReading m c.options (reading (text_for m t.0)) bytes status) (sym gen) here) }

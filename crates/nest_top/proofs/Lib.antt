@@ -1,3 +1,4 @@
 pub mod TrapsOnly
 pub mod AnswerLemmas
 pub mod PlainLemmas
+pub mod RunLemmas

@@ -1,5 +1,6 @@
 -- Answers: what words and a text give, as bytes and a status.
-use Rattle.std.specs.Prelude.{◌≡◌, ◌↔◌, ◌≤◌, ◌^◌, ◌≤ℤ◌, ◌++◌, ℕ, pos, List, Option, Result, Ok, Err, flat_map}
+use Rattle.std.specs.Prelude.{◌≡◌, ◌↔◌, ◌≤◌, ◌^◌, ◌≤ℤ◌, ◌++◌, ℕ, pos, List, [], ◌∷◌, Bool, true, false, Option, Result, Ok, Err, codes, decimal, flat_map}
+use Rattle.std.specs.List.{concat}
 use Rattle.nest_lang.specs.declared.budget.Ending.{Ending}
 use Rattle.nest_lang.specs.declared.budget.Ending.TheVariants as ending
 use Rattle.nest_lang.specs.declared.tree.Trap.{Trap}
@@ -14,7 +15,8 @@ use Rattle.nest_grammar.specs.Contents.{reading}
 use Rattle.canonical.specs.Contents.{canonical}
 use Rattle.nest_text.specs.Files.{scalar_names}
 use Rattle.report.specs.Faults.{refusal_line}
-use Rattle.report.specs.Outcomes.{IsOutcome}
+use Rattle.report.specs.Outcomes.{IsOutcome, line}
+use Rattle.report.specs.Summaries.{summary}
 use Rattle.report.specs.Lines.{line_text, listing_text}
 use Rattle.report.specs.declared.journey.Options.{Options as JourneyOptions}
 use Rattle.report.specs.declared.line.Line.{Line}
@@ -23,8 +25,15 @@ use Rattle.journeys.specs.Journeys.{IsJourney}
 use Rattle.listing.specs.Listings.{IsListing}
 use Rattle.command_line.specs.declared.invocation.Invocation.{Invocation}
 use Rattle.command_line.specs.declared.invocation.Mode.{Mode}
-use Rattle.command_line.specs.declared.invocation.Mode.TheVariants.{Plain, Run, Check, Deps}
+use Rattle.command_line.specs.declared.invocation.Mode.TheVariants.{Plain, Run, Check, Deps, Gen}
 use Rattle.command_line.specs.declared.invocation.Options.{Options}
+use Rattle.command_line.specs.declared.recipe.Recipe.{Recipe}
+use Rattle.command_line.specs.declared.recipe.Shape.{Shape}
+use Rattle.command_line.specs.declared.recipe.Shape.TheVariants as shape
+use Rattle.command_line.specs.Modes.{shape_word}
+use Rattle.nest_gen.specs.declared.shapes.Shape.{Shape as Generated}
+use Rattle.nest_gen.specs.declared.shapes.Shape.TheVariants as generated
+use Rattle.nest_gen.specs.Generated.{text_of}
 use Rattle.command_line.specs.Invocations.{IsInvocation, IsNoInvocation, usage_line}
 use Rattle.nest_top.specs.declared.status.Status.{Status}
 use Rattle.nest_top.specs.declared.status.Status.TheVariants.{Ended, Trapped, Limited, Refused, Usage, SourceFault, SinkFault, NoMemory}
@@ -72,30 +81,62 @@ pub record IsReportOf (options : Options) (file : File) (bytes : List ℕ) (stat
   pub journey : IsJourney (journey_options options) file lines end
   pub written : bytes ≡ outcome ++ flat_map (line_text (scalar_names file)) lines
 
+-- the line that names a generated file
+abbrev pub heading : Recipe → List ℕ
+heading recipe = line (concat (codes "gen " ∷ decimal recipe.seed ∷ codes " " ∷ shape_word recipe.shape ∷ codes " " ∷ decimal recipe.size ∷ []))
+
+-- bytes and a status are those of the summary of a file's journey, behind the line that names the file: how its plain
+-- run ends and after how many steps, how many lines of each kind the journey has, and the sum of the words that are left
+pub record IsSummaryOf (recipe : Recipe) (options : Options) (file : File) (bytes : List ℕ) (status : Status) : Type 0 where
+  pub ending : Ending
+  pub ended : finish_of_ending ending ≡ (run_of_file file options.steps).ending
+  pub lines : List Line
+  pub end : Cut
+  pub journey : IsJourney (journey_options options) file lines end
+  pub written : bytes ≡ heading recipe ++ summary ending (run_of_file file options.steps).steps lines (run_of_file file options.steps).store.memory
+  pub answered : status ≡ status_of ending
+
 -- bytes are those of the lines of a file's dependence listing, in their order
 abbrev pub IsListingOf : Options → File → List ℕ → Type 0
 IsListingOf options file bytes =
     (lines : List ListingLine) × IsListing (journey_options options) file lines × (bytes ≡ flat_map (listing_text (scalar_names file)) lines)
 
 -- bytes and a status are the answer to a file: in mode `plain` those of its plain run, in mode `run` those and the lines of
--- its journey, in mode `check` its canonical text, in mode `deps` its dependence listing
+-- its journey, in mode `check` its canonical text, in mode `deps` its dependence listing, in mode `gen` a summary of its
+-- journey
 abbrev pub AnswersFile : Mode → Options → File → List ℕ → Status → Type 0
 AnswersFile Plain options file bytes status = IsOutcomeOf file options.steps bytes status
 AnswersFile Run options file bytes status = IsReportOf options file bytes status
 AnswersFile Check options file bytes status = (bytes ≡ canonical file) × (status ≡ Ended)
 AnswersFile Deps options file bytes status = IsListingOf options file bytes × (status ≡ Ended)
+AnswersFile (Gen recipe) options file bytes status = IsSummaryOf recipe options file bytes status
 
--- bytes and a status are the answer of an invocation to what a text reads as: the line of its first fault, or
--- the answer to its file
-abbrev pub AnswersReading : Invocation → Result File TextFault → List ℕ → Status → Type 0
-AnswersReading invocation (Err fault) bytes status = (bytes ≡ refusal_line fault) × (status ≡ Refused)
-AnswersReading invocation (Ok file) bytes status = AnswersFile invocation.mode invocation.options file bytes status
+-- the shape of a generated text
+abbrev pub shape_of : Shape → Generated
+shape_of shape.Copy = generated.Copy
+shape_of shape.List = generated.List
+shape_of shape.Grid = generated.Grid
 
--- The answer of words and a text: words that are no invocation give the usage line, and an invocation what it
--- answers to what the text reads as.
+-- the text that is made by a recipe
+abbrev pub text_made : Recipe → List ℕ
+text_made recipe = text_of (shape_of recipe.shape) recipe.seed recipe.size
+
+-- the text of which a mode gives an answer: mode `gen` makes one itself, every other mode takes that of the source
+abbrev pub text_for : Mode → List ℕ → List ℕ
+text_for (Gen recipe) text = text_made recipe
+text_for mode text = text
+
+-- bytes and a status are the answer of a mode to what a text reads as: the line of its first fault, or the answer to its
+-- file
+abbrev pub AnswersReading : Mode → Options → Result File TextFault → List ℕ → Status → Type 0
+AnswersReading mode options (Err fault) bytes status = (bytes ≡ refusal_line fault) × (status ≡ Refused)
+AnswersReading mode options (Ok file) bytes status = AnswersFile mode options file bytes status
+
+-- The answer of words and a text: words that are no invocation give the usage line, and an invocation what its mode
+-- answers to what its text reads as.
 pub data IsAnswer (words : List (List ℕ)) (text : List ℕ) : List ℕ → Status → Type 0 where
   usage : IsNoInvocation words → IsAnswer words text usage_line Usage
-  invoked : (c : Invocation) → IsInvocation words c → (bytes : List ℕ) (status : Status) → AnswersReading c (reading text) bytes status → IsAnswer words text bytes status
+  invoked : (c : Invocation) → IsInvocation words c → (bytes : List ℕ) (status : Status) → AnswersReading c.mode c.options (reading (text_for c.mode text)) bytes status → IsAnswer words text bytes status
 
 -- the call answered: no fault and no want of memory stands in place of the answer
 abbrev pub Answered : Status → Type 0
@@ -104,28 +145,50 @@ Answered SinkFault = ⊥
 Answered NoMemory = ⊥
 Answered status = Unit {0}
 
--- how the run of an invocation on a file finishes: in the modes `plain` and `run` the plain run; in the modes `check` and
--- `deps` it is done
+-- the modes that run a journey
+abbrev pub has_journey : Mode → Bool
+has_journey Run = true
+has_journey (Gen recipe) = true
+has_journey mode = false
+
+-- the words ask for a journey
+pub record AsksForJourney (words : List (List ℕ)) : Type 0 where
+  pub invocation : Invocation
+  pub is : IsInvocation words invocation
+  pub has : has_journey invocation.mode ≡ true
+
+-- the modes that take the text of the source
+abbrev pub TakesText : Mode → Type 0
+TakesText (Gen recipe) = ⊥
+TakesText mode = Unit {0}
+
+-- the words take no text: they are no invocation, or one that makes its text itself
+abbrev pub TakesNothing : List (List ℕ) → Type 0
+TakesNothing words = (invocation : Invocation) → IsInvocation words invocation → TakesText invocation.mode → ⊥
+
+-- how the run of an invocation on a file finishes: in the modes `plain`, `run` and `gen` the plain run; in the modes
+-- `check` and `deps` it is done
 abbrev pub finish_of : Mode → Options → File → Finish
 finish_of Plain options file = (run_of_file file options.steps).ending
 finish_of Run options file = (run_of_file file options.steps).ending
 finish_of Check options file = traces.Done
 finish_of Deps options file = traces.Done
+finish_of (Gen recipe) options file = (run_of_file file options.steps).ending
 
--- the words are an invocation, the text reads as a file, and the invocation's run on it finishes so
+-- the words are an invocation, its text reads as a file, and the invocation's run on it finishes so
 pub record Finishes (words : List (List ℕ)) (text : List ℕ) (finish : Finish) : Type 0 where
   pub invocation : Invocation
   pub is : IsInvocation words invocation
   pub file : File
-  pub reads : reading text ≡ Ok file
+  pub reads : reading (text_for invocation.mode text) ≡ Ok file
   pub finished : finish_of invocation.mode invocation.options file ≡ finish
 
--- the words are an invocation, and the text has a fault
+-- the words are an invocation, and its text has a fault
 pub record IsRefused (words : List (List ℕ)) (text : List ℕ) : Type 0 where
   pub invocation : Invocation
   pub is : IsInvocation words invocation
   pub fault : TextFault
-  pub reads : reading text ≡ Err fault
+  pub reads : reading (text_for invocation.mode text) ≡ Err fault
 
 -- when each status is the answer's
 pub record Causes (words : List (List ℕ)) (text : List ℕ) (status : Status) : Type 0 where
@@ -145,6 +208,11 @@ Reading status = Unit {0}
 abbrev pub unanswered_by : ReadEnd → Unanswered
 unanswered_by end.Fault = unanswered.SourceFault
 unanswered_by end.NoMemory = unanswered.NoMemory
+
+-- the status where there is no answer
+abbrev pub status_of_unanswered : Unanswered → Status
+status_of_unanswered unanswered.SourceFault = SourceFault
+status_of_unanswered unanswered.NoMemory = NoMemory
 
 -- an answer that was made, and not yet written
 pub record Prepared (words : List (List ℕ)) (left : Option (List ℕ)) (bytes : List ℕ) (status : Status) : Type 0 where

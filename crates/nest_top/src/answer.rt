@@ -1,18 +1,14 @@
-//! Answers, made before anything is written.
+//! Answers: made before anything is written, and then written.
 
 ghost use Rattle.std.specs.Prelude.{◌≡◌, IfOk};
-ghost use Rattle.nest_grammar.specs.Contents.{reading};
 ghost use Rattle.report.specs.Faults.{refusal_line};
 ghost use Rattle.command_line.specs.Invocations.{usage_line};
-ghost use Rattle.nest_top.specs.Answers.{AnswersFile, AnswersReading, AreInRange};
+ghost use Rattle.nest_top.specs.Runs.{IsPut};
 
-use crate::check::check;
-use crate::deps::deps;
-use crate::plain::plain;
-use crate::speculative::speculative;
 use crate::status::Status;
-use command_line::{Invocation, Mode, usage_text};
-use nest_text::{NestFile, ReadRefusal, TextFault, read_nest};
+use command_line::usage_text;
+use nest_io::{Sink, write_all};
+use nest_text::TextFault;
 use report::refusal_text;
 use std::alloc::{AllocError, Global};
 
@@ -21,6 +17,18 @@ use std::alloc::{AllocError, Global};
 pub(crate) struct Answer {
     pub(crate) bytes: Vec<u8>,
     pub(crate) status: Status,
+}
+
+impl Answer {
+    /// Puts the bytes into a sink. The status is this answer's, or that of a fault of the sink.
+    pub(crate) fn put<K: Sink>(&self, sink: &mut K) -> Status
+        ensures { IsPut (record { bytes = K.held; faults = K.faults; before = sink.old; after = sink.new }) self.now.bytes.items self.now.status result }
+    {
+        match write_all(sink, self.bytes.as_slice()) {
+            Ok(()) => self.status,
+            Err(_) => Status::SinkFault,
+        }
+    }
 }
 
 /// The answer where the words are no invocation.
@@ -33,45 +41,12 @@ pub(crate) fn usage(alloc: Global) -> Result<Answer, AllocError>
     })
 }
 
-/// The answer of an invocation to a text.
-pub(crate) fn answer_text(
-    alloc: Global,
-    invocation: &Invocation,
-    text: &[u8],
-) -> Result<Answer, AllocError>
-    requires { AreInRange invocation.now.options }
-    ensures { IfOk result (λ answer. AnswersReading invocation.now (reading text.now) answer.bytes.items answer.status) }
-{
-    match read_nest(alloc, text) {
-        Ok(file) => answer_file(alloc, invocation, &file),
-        Err(ReadRefusal::Text(fault)) => refused(alloc, &fault),
-        Err(ReadRefusal::NoMemory) => Err(AllocError),
-    }
-}
-
 /// The answer to a text with this first fault.
-fn refused(alloc: Global, fault: &TextFault) -> Result<Answer, AllocError>
+pub(crate) fn refused(alloc: Global, fault: &TextFault) -> Result<Answer, AllocError>
     ensures { IfOk result (λ answer. (answer.bytes.items ≡ refusal_line fault.now) × (answer.status ≡ Status.Refused)) }
 {
     Ok(Answer {
         bytes: refusal_text(alloc, fault)?,
         status: Status::Refused,
     })
-}
-
-/// The answer of an invocation to a file.
-fn answer_file(
-    alloc: Global,
-    invocation: &Invocation,
-    file: &NestFile,
-) -> Result<Answer, AllocError>
-    requires { AreInRange invocation.now.options }
-    ensures { IfOk result (λ answer. AnswersFile invocation.now.mode invocation.now.options file.now answer.bytes.items answer.status) }
-{
-    match invocation.mode {
-        Mode::Plain => plain(alloc, file, invocation.options.steps),
-        Mode::Run => speculative(alloc, file, &invocation.options),
-        Mode::Check => check(alloc, file),
-        Mode::Deps => deps(alloc, file, &invocation.options),
-    }
 }

@@ -1,19 +1,18 @@
 //! The call: an answer is made, and then written.
 
-ghost use Rattle.std.specs.Prelude.{◌≡◌, ◌≤◌, IfOk, IsErrOf, map, string_bytes};
-ghost use Rattle.nest_io.specs.Faults.{Rose};
-ghost use Rattle.command_line.specs.declared.invocation.Invocation.{Invocation};
-ghost use Rattle.command_line.specs.Invocations.{IsInvocation, IsNoInvocation};
-ghost use Rattle.nest_top.specs.Texts.{IsRead};
-ghost use Rattle.nest_top.specs.Answers.{Prepared};
+ghost use Rattle.std.specs.Prelude.{◌≡◌, map, string_bytes};
+ghost use Rattle.nest_top.specs.Answers.{AsksForJourney};
 ghost use Rattle.nest_top.specs.Exits.{exit_code};
-ghost use Rattle.nest_top.specs.Runs.{IsRun};
+ghost use Rattle.nest_top.specs.Runs.{IsMade, IsRun};
 
-use crate::answer::{Answer, answer_text, usage};
+use crate::alone::nest_alone;
+use crate::answer::Answer;
+use crate::generated::generated;
+use crate::speculative::speculative;
 use crate::status::Status;
 use crate::unanswered::Unanswered;
-use command_line::invocation_of;
-use nest_io::{Sink, Source, read_all, write_all};
+use command_line::{Mode, invocation_of};
+use nest_io::{Sink, Source, read_all};
 use nest_text::MOST_BYTES;
 use std::alloc::Global;
 
@@ -31,11 +30,11 @@ pub fn nest_exit<S: Source, K: Sink>(
     nest_run(alloc, words, source, sink).exit()
 }
 
-/// Reads a text from the source where the words are an invocation, and puts the answer into the sink
+/// Reads a text from the source where the words are an invocation that reads one, and puts the answer into the sink
 /// (docs/DEFINITIONS.md, Answers). The order is words, source, text, run, sink: the whole answer is made
 /// before the first write.
 ///
-/// `Usage` reads nothing. `SourceFault` and `SinkFault` come only where that object's count of faults
+/// `Usage` and mode `gen` read nothing. `SourceFault` and `SinkFault` come only where that object's count of faults
 /// rose in this call. After `SourceFault` and `NoMemory` the sink got nothing, after `SinkFault` a front
 /// of the answer's bytes; in every other case it got them all, and the status is the answer's.
 pub fn nest_run<S: Source, K: Sink>(
@@ -48,28 +47,30 @@ pub fn nest_run<S: Source, K: Sink>(
         (record { bytes = S.left; faults = S.faults; before = source.old; after = source.new })
         (record { bytes = K.held; faults = K.faults; before = sink.old; after = sink.new }) result }
 {
-    let answer = match prepare(alloc, words, source) {
-        Ok(answer) => answer,
-        Err(Unanswered::SourceFault) => return Status::SourceFault,
-        Err(Unanswered::NoMemory) => return Status::NoMemory,
-    };
-    match write_all(sink, answer.bytes.as_slice()) {
-        Ok(()) => answer.status,
-        Err(_) => Status::SinkFault,
+    if let Some(status) = nest_alone(alloc, words, source, sink) {
+        return status;
+    }
+    match prepare(alloc, words, source) {
+        Ok(answer) => answer.put(sink),
+        Err(why) => why.status(),
     }
 }
 
-/// Makes the answer.
+/// Makes the answer of words that ask for a journey.
 fn prepare<S: Source>(alloc: Global, words: &[String], source: &mut S) -> Result<Answer, Unanswered>
-    ensures answer { IfOk result (λ answer. Prepared (map string_bytes words.now) (S.left source.old) answer.bytes.items answer.status) }
-    ensures fault { IsErrOf result Unanswered.SourceFault → Rose (S.faults source.old) (S.faults source.new) }
-    ensures unread { IsNoInvocation (map string_bytes words.now) → (source.new ≡ source.old) × (IsErrOf result Unanswered.SourceFault → ⊥) }
-    ensures read { (invocation : Invocation) → IsInvocation (map string_bytes words.now) invocation → IfOk result (λ _. IsRead (S.left source.old) (S.left source.new)) }
-    ensures counts { S.faults source.old ≤ S.faults source.new }
+    requires { AsksForJourney (map string_bytes words.now) }
+    ensures { IsMade (map string_bytes words.now)
+        (record { bytes = S.left; faults = S.faults; before = source.old; after = source.new }) result }
 {
     let Some(invocation) = invocation_of(alloc, words)? else {
-        return Ok(usage(alloc)?);
+        unreachable!()
     };
-    let taken = read_all(alloc, source, MOST_BYTES)?;
-    Ok(answer_text(alloc, &invocation, taken.bytes.as_slice())?)
+    match invocation.mode {
+        Mode::Run => {
+            let taken = read_all(alloc, source, MOST_BYTES)?;
+            Ok(speculative(alloc, &invocation.options, taken.bytes.as_slice())?)
+        }
+        Mode::Gen(recipe) => Ok(generated(alloc, &invocation.options, recipe)?),
+        Mode::Plain | Mode::Check | Mode::Deps => unreachable!(),
+    }
 }

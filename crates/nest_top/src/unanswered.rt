@@ -2,8 +2,9 @@
 
 ghost use Rattle.std.specs.Prelude.{◌≡◌};
 ghost use Rattle.nest_top.specs.declared.unanswered.Unanswered.TheVariants.{NoMemory as OutOfMemory};
-ghost use Rattle.nest_top.specs.Answers.{unanswered_by};
+ghost use Rattle.nest_top.specs.Answers.{status_of_unanswered, unanswered_by};
 
+use crate::status::Status;
 use nest_io::ReadEnd;
 use std::alloc::AllocError;
 
@@ -12,6 +13,18 @@ use std::alloc::AllocError;
 pub(crate) enum Unanswered {
     SourceFault,
     NoMemory,
+}
+
+impl Unanswered {
+    /// The status that says so.
+    pub(crate) fn status(self) -> Status
+        ensures { result ≡ status_of_unanswered self }
+    {
+        match self {
+            Unanswered::SourceFault => Status::SourceFault,
+            Unanswered::NoMemory => Status::NoMemory,
+        }
+    }
 }
 
 impl From<AllocError> for Unanswered {

@@ -7,3 +7,4 @@ pub mod Laws
 pub mod Examples
 pub mod LineExamples
 pub mod Faults
+pub mod Summaries

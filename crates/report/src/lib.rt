@@ -19,6 +19,7 @@ mod line;
 mod outcome;
 mod placing;
 mod runs;
+mod summary;
 mod words;
 mod written;
 
@@ -28,6 +29,7 @@ pub use line::{At, Line, LineUnfit, ListingLine, Spot};
 pub use outcome::outcome_text;
 pub use placing::block_of;
 pub use runs::WordRun;
+pub use summary::summary_text;
 pub use written::{line_text, lines_text, listing_text};
 
 #[cfg(test)]

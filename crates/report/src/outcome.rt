@@ -35,7 +35,7 @@ pub fn outcome_text(
 }
 
 /// Writes how the run ended.
-fn push_ending(text: &mut String, ending: &Ending) -> Result<(), AllocError>
+pub(crate) fn push_ending(text: &mut String, ending: &Ending) -> Result<(), AllocError>
     ensures { OnOk result (string_bytes text.new ≡ string_bytes text.old ++ ending_line ending.now) }
 {
     match *ending {

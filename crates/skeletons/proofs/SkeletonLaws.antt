@@ -14,7 +14,7 @@ use Rattle.fourier_motzkin.specs.Verdicts.{Bounds, bounds_of, verdict_of}
 use Rattle.fourier_motzkin.specs.declared.verdicts.Ruling.TheVariants.{Empty, Maybe}
 use Rattle.fourier_motzkin.proofs.MaybeLaws.{bounded_levels_close}
 use Rattle.fourier_motzkin.proofs.Points.{verdict_unmet}
-use Rattle.fourier_motzkin.proofs.Runs.{length-levels}
+use Rattle.fourier_motzkin.proofs.EliminationRunLaws.{length-levels}
 use Rattle.domain.specs.Tables.{Block, Table, block_at, IsTable}
 use Rattle.domain.specs.Instances.{counter, padded}
 use Rattle.transform.specs.Schedules.{IsSchedule, matrix, place}

@@ -1,6 +1,7 @@
-use Rattle.std.proofs.Common.{refl, subst, Result, ℕ, length, pos}
+use Rattle.std.proofs.Common.{refl, sym, subst, Result, ℕ, length, pos}
 use Rattle.follow.specs.declared.how.How.{How}
-use Rattle.follow_chunk.specs.Followed.{IsRun}
+use Rattle.follow_chunk.specs.declared.task.Followed.{Followed}
+use Rattle.follow_chunk.specs.Followed.{IsRun, IsInstanceFollowed, IsClosedSmall}
 use Rattle.follow_chunk.proofs.Whole.{follows-by, deviates-by}
 use Rattle.follow_chunk.proofs.instance.follow_instance.Goals as goal
 
@@ -14,8 +15,11 @@ returns-in-Ok-clause-followed g c =
 pub returns-in-Err-clause-followed : goal.returns-in-Err-clause-followed
 returns-in-Err-clause-followed g c =
     let self = c.args.task.now in
-    let m = g.P.Port.memory c.args.port.now in (
-      refl,
-      deviates-by g.row.D self.scalars self.nest.now.loops self.pred.now self.outer self.chunk (pos (length m)) c.requires.task c.args.inst.now c.requires.predicted m (g.P.Port.memory c.follow.new.port) c.in-Err.how
-          (subst (λ (r : Result ℕ How). IsRun self.pred.now self.nest.now.loops self.outer c.args.inst.now m r (g.P.Port.memory c.follow.new.port)) c.in-Err.is c.follow.ensures.run),
-    )
+    let m = g.P.Port.memory c.args.port.now in
+    let deviates =
+    deviates-by g.row.D self.scalars self.nest.now.loops self.pred.now self.outer self.chunk (pos (length m)) c.requires.task c.args.inst.now c.requires.predicted m (g.P.Port.memory c.follow.new.port) c.in-Err.how
+    (subst (λ (r : Result ℕ How). IsRun self.pred.now self.nest.now.loops self.outer c.args.inst.now m r (g.P.Port.memory c.follow.new.port)) c.in-Err.is c.follow.ensures.run) in
+    subst (λ (f : Followed g.row.D). IsInstanceFollowed self.pred.now self.nest.now.loops self.outer c.args.inst.now m f (g.P.Port.memory c.follow.new.port)) (sym c.differs.ensures) (refl, deviates)
+
+pub returns-in-Err-clause-closes : goal.returns-in-Err-clause-closes
+returns-in-Err-clause-closes g c = subst (λ (f : Followed g.row.D). IsClosedSmall c.args.task.now.pred.now c.args.inst.now f) (sym c.differs.ensures) tt

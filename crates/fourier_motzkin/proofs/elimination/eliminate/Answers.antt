@@ -1,5 +1,5 @@
 use Rattle.std.proofs.Common.{◌∙◌, sym, subst}
-use Rattle.fourier_motzkin.proofs.Steps.{eliminated-is}
+use Rattle.fourier_motzkin.proofs.EliminationLaws.{eliminated-is}
 use Rattle.fourier_motzkin.specs.Elimination.{MeetsSaid}
 use Rattle.fourier_motzkin.specs.declared.elimination.Eliminated.{Eliminated}
 use Rattle.fourier_motzkin.proofs.Points.{eliminated_met}

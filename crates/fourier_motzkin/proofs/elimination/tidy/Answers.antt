@@ -2,7 +2,7 @@ use Rattle.std.proofs.Common.{◌∙◌, List, [], ap}
 use Rattle.std.proofs.lemmas.List.{take_all}
 use Rattle.affine.specs.declared.row.Row.{Row}
 use Rattle.fourier_motzkin.specs.RowSets.{with_rows}
-use Rattle.fourier_motzkin.proofs.Steps.{judged_tidied}
+use Rattle.fourier_motzkin.proofs.EliminationLaws.{judged_tidied}
 use Rattle.fourier_motzkin.proofs.elimination.tidy.Goals as goal
 
 pub returns : goal.returns

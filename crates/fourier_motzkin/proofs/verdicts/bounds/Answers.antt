@@ -4,7 +4,7 @@ use Rattle.fourier_motzkin.specs.RowSets.{tidied}
 use Rattle.fourier_motzkin.specs.Elimination.{IsSound, judged}
 use Rattle.fourier_motzkin.specs.Verdicts.{ruling}
 use Rattle.fourier_motzkin.specs.declared.elimination.Eliminated.{Eliminated}
-use Rattle.fourier_motzkin.proofs.Runs.{are_levels, bounds-is, levels_all, levels_more, levels_none, next_sound, ruling_all, ruling_more, tidied_sound}
+use Rattle.fourier_motzkin.proofs.EliminationRunLaws.{are_levels, bounds-is, levels_all, levels_more, levels_none, next_sound, ruling_all, ruling_more, tidied_sound}
 use Rattle.fourier_motzkin.proofs.verdicts.bounds.Goals as goal
 
 pub loop-variable-init : goal.loop-variable-init

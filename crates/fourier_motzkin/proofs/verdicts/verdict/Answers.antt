@@ -1,6 +1,6 @@
 use Rattle.std.proofs.Common.{sym, ◌∙◌}
 use Rattle.fourier_motzkin.proofs.Points.{verdict_unmet}
-use Rattle.fourier_motzkin.proofs.Runs.{verdict-bounds}
+use Rattle.fourier_motzkin.proofs.EliminationRunLaws.{verdict-bounds}
 use Rattle.fourier_motzkin.proofs.verdicts.verdict.Goals as goal
 
 pub returns-clause-value : goal.returns-clause-value

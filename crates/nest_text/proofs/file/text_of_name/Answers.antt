@@ -1,6 +1,6 @@
 use Rattle.std.proofs.Common.{sym, subst}
 use Rattle.std.specs.Str.{IsUtf8}
-use Rattle.nest_text.proofs.Names.{spelled-text}
+use Rattle.nest_text.proofs.ScalarNameLaws.{spelled-text}
 use Rattle.nest_text.proofs.file.text_of_name.Goals as goal
 
 pub unreachable-requires : goal.unreachable-requires

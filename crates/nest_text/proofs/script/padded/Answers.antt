@@ -1,4 +1,4 @@
-use Rattle.nest_text.proofs.Steps.{padded-is}
+use Rattle.nest_text.proofs.ProductionLaws.{padded-is}
 use Rattle.nest_text.proofs.script.padded.Goals as goal
 
 pub returns : goal.returns

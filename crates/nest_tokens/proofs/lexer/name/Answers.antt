@@ -1,4 +1,4 @@
-use Rattle.nest_tokens.proofs.Names.{named-name}
+use Rattle.nest_tokens.proofs.NameLaws.{named-name}
 use Rattle.nest_tokens.proofs.lexer.name.Goals as goal
 
 pub returns-in-None : goal.returns-in-None

@@ -1,20 +1,15 @@
-use Rattle.std.proofs.Common.{rules, map, string_bytes}
-use Rattle.nest_io.specs.Bytes.{Appends}
-use Rattle.nest_top.proofs.AnswerLemmas.{causes, answer-no_memory, answer-no_sink_fault, answer-no_source_fault}
+use Rattle.std.proofs.Common.{map, string_bytes, subst}
+use Rattle.nest_top.specs.Runs.{IsRun}
+use Rattle.nest_top.proofs.RunLemmas.{answer-made, run-put}
 use Rattle.nest_top.proofs.run.nest_run.Goals as goal
 
-pub returns-in-Ok-write_all : goal.returns-in-Ok-write_all
-returns-in-Ok-write_all g c =
+pub returns-in-Ok : goal.returns-in-Ok
+returns-in-Ok g c =
     let words = map string_bytes c.args.words.now in
-    let a = c.in-Ok.ensures.answer in
-    let put : Appends (g.K.Sink.held c.args.sink.now) (g.K.Sink.held c.write_all.new.sink) c.in-Ok.answer.bytes.items = search rules in
-    record {
-      answer = λ answered. (a.text, c.in-Ok.answer.bytes.items, a.taken, a.answer, causes words a.text c.in-Ok.answer.bytes.items c.in-Ok.answer.status a.answer, put);
-      source_fault = λ e. absurd (answer-no_source_fault words a.text c.in-Ok.answer.bytes.items c.in-Ok.answer.status a.answer e);
-      sink_fault = λ e. absurd (answer-no_sink_fault words a.text c.in-Ok.answer.bytes.items c.in-Ok.answer.status a.answer e);
-      no_memory = λ e. absurd (answer-no_memory words a.text c.in-Ok.answer.bytes.items c.in-Ok.answer.status a.answer e);
-      unread = λ none. (c.in-Ok.ensures.unread none).0;
-      read = λ invocation is reads. c.in-Ok.ensures.read invocation is;
-      source_counts = c.prepare.ensures.counts;
-      sink_counts = c.write_all.ensures.never_falls;
-    }
+    let kept = c.nest_alone.ensures.journey (c.nest_alone.ensures.none c.in_default.is) in
+    let made = answer-made words _ c.prepare.result c.in-Ok.answer c.in-Ok.is c.prepare.ensures in
+    let run = run-put words _ (record { bytes = g.K.Sink.held; faults = g.K.Sink.faults; before = c.nest_alone.new.sink; after = c.put.new.sink }) c.in-Ok.answer.bytes.items c.in-Ok.answer.status c.put.result made c.put.ensures in
+    subst (λ (k : g.row.K.Denot). IsRun words (record { bytes = g.S.Source.left; faults = g.S.Source.faults; before = c.args.source.now; after = c.prepare.new.source })
+    (record { bytes = g.K.Sink.held; faults = g.K.Sink.faults; before = k; after = c.put.new.sink }) c.put.result) kept.2
+    (subst (λ (s : g.row.S.Denot). IsRun words (record { bytes = g.S.Source.left; faults = g.S.Source.faults; before = s; after = c.prepare.new.source })
+    (record { bytes = g.K.Sink.held; faults = g.K.Sink.faults; before = c.nest_alone.new.sink; after = c.put.new.sink }) c.put.result) kept.1 run)

@@ -3,7 +3,7 @@ use Rattle.std.specs.Option.{option_copied}
 use Rattle.grammar_laws.specs.Rules.{IsSpelled}
 use Rattle.grammar_laws.proofs.Rules.{reading-keeps}
 use Rattle.nest_tokens.specs.Spellings.{name_text}
-use Rattle.nest_text.proofs.Names.{name-found}
+use Rattle.nest_text.proofs.ScalarNameLaws.{name-found}
 use Rattle.nest_text.proofs.file.NestFile.scalar_name.Goals as goal
 use Rattle.plain_lemmas.proofs.ListLaws.{All-slice_get}
 

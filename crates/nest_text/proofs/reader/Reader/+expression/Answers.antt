@@ -1,5 +1,5 @@
 use Rattle.std.proofs.Common.{sym}
-use Rattle.nest_text.proofs.Steps.{load-room, start-fits}
+use Rattle.nest_text.proofs.ProductionLaws.{load-room, start-fits}
 use Rattle.nest_text.proofs.reader.Reader.+expression.Goals as goal
 
 pub load-number_access-access-requires : goal.load-number_access-access-requires

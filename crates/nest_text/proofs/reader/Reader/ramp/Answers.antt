@@ -3,7 +3,7 @@ use Rattle.nest_grammar.specs.declared.file.Item.{Item}
 use Rattle.nest_grammar.specs.declared.opening.ItemKeyword.TheVariants.{Ramp as RampWord}
 use Rattle.nest_grammar.specs.Contents.{item_of}
 use Rattle.nest_text.specs.Answers.{Gives}
-use Rattle.nest_text.proofs.Steps.{ramp-copies, ramp-errs}
+use Rattle.nest_text.proofs.ProductionLaws.{ramp-copies, ramp-errs}
 use Rattle.nest_text.proofs.reader.Reader.ramp.Goals as goal
 
 pub returns-in_err-growth : goal.returns-in_err-growth

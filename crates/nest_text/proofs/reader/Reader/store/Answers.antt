@@ -1,4 +1,4 @@
-use Rattle.nest_text.proofs.Steps.{store-room}
+use Rattle.nest_text.proofs.ProductionLaws.{store-room}
 use Rattle.nest_text.proofs.reader.Reader.store.Goals as goal
 
 pub number_access-access-requires : goal.number_access-access-requires

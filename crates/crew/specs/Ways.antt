@@ -1,0 +1,10 @@
+-- How a crew runs its jobs.
+use Rattle.std.specs.Prelude.{Bool, true, false}
+use Rattle.crew.specs.declared.handed.Way.{Way}
+use Rattle.crew.specs.declared.handed.Way.TheVariants.{Line, Script, Beside}
+
+-- jobs are run beside each other, which may start threads and wait for them
+abbrev pub runs_beside : {R G : Type 0} → Way R G → Bool
+runs_beside Line = false
+runs_beside (Script order) = false
+runs_beside (Beside rt gate) = true

@@ -1,0 +1,148 @@
+//! Jobs of a phase, run until none has a turn left.
+ghost use Rattle.std.specs.Prelude.{◌≡◌, ◌≢◌, ◌<◌, ◌≤◌, ◌^◌, ◌↔◌, ℕ, length, slice_index_or, IsTrue};
+ghost use Rattle.crew.specs.Jobs.{Ran, total};
+ghost use Rattle.verified_turns.specs.Workers.{Origin, origin_of};
+
+use skeletons::Walk;
+use std::thread;
+use std::thread::Threads;
+use verified_turns::Worker;
+
+/// What takes turns: a worker of a phase.
+pub trait Job: Drop {
+    /// What no turn changes.
+    ghost origin: { Self → Origin };
+
+    ghost left_of: { Self → ℕ };
+
+    ghost steps_of: { Self → ℕ };
+
+    fn number(&self) -> u32;
+
+    fn tiles(&self) -> u32
+        ensures { result ≡ length (origin self.now).lists };
+
+    fn steps(&self) -> u64
+        ensures value { result ≡ steps_of self.now }
+        ensures few { result ≤ 2 ^ 36 };
+
+    fn left(&self) -> u64
+        ensures { result ≡ left_of self.now };
+
+    fn turn(&mut self) -> bool
+        requires left { 0 < left_of self.old }
+        ensures origin { origin self.new ≡ origin self.old }
+        ensures left { left_of self.new < left_of self.old }
+        ensures more { IsTrue result ↔ (0 < left_of self.new) };
+}
+
+impl<W: Walk<D>, const D: usize> Job for Worker<'_, W, D> {
+    ghost origin = { λ w. origin_of w };
+
+    ghost left_of = { λ w. w.left };
+
+    ghost steps_of = { λ w. w.steps };
+
+    fn number(&self) -> u32 {
+        Worker::number(self)
+    }
+
+    fn tiles(&self) -> u32 {
+        Worker::tiles(self)
+    }
+
+    fn steps(&self) -> u64 {
+        Worker::steps(self)
+    }
+
+    fn left(&self) -> u64 {
+        Worker::left(self)
+    }
+
+    fn turn(&mut self) -> bool {
+        Worker::turn(self)
+    }
+}
+
+/// What each job passes before its first turn.
+pub trait Gate: Sync {
+    fn pass(&self, worker: u32);
+}
+
+/// A gate that is open.
+#[derive(Drop)]
+pub struct OpenGate;
+
+impl Gate for OpenGate {
+    fn pass(&self, _worker: u32) {}
+}
+
+/// Gives a job turns until none is left.
+fn finish<J: Job>(job: &mut J)
+    ensures origin { J.origin job.new ≡ J.origin job.old }
+    ensures left { J.left_of job.new ≡ 0 }
+{
+    while job.left() > 0 {
+        job.turn();
+    }
+}
+
+/// Runs the jobs one after another, in their order.
+pub fn line<J: Job>(jobs: &mut [J])
+    ensures { Ran J.origin J.left_of jobs.old jobs.new }
+{
+    for job in jobs.iter_mut() {
+        finish(job);
+    }
+}
+
+/// One turn of the job at a place, where it has one left.
+fn turn_at<J: Job>(jobs: &mut [J], place: usize)
+    requires { place < length jobs.old }
+    ensures { (i : ℕ) (d : J) → J.origin (slice_index_or jobs.new i d) ≡ J.origin (slice_index_or jobs.old i d) }
+{
+    let job = &mut jobs[place];
+    if job.left() > 0 {
+        job.turn();
+    }
+}
+
+/// Gives turns to jobs by the order, each number modulo the number of jobs, and then runs what is left one after another.
+pub fn script<J: Job>(jobs: &mut [J], order: &[u32])
+    ensures { Ran J.origin J.left_of jobs.old jobs.new }
+{
+    if !jobs.is_empty() {
+        for number in order {
+            turn_at(jobs, *number as usize % jobs.len());
+        }
+    }
+    line(jobs);
+}
+
+/// Passes the gate, and gives the job turns until none is left.
+fn begin<G: Gate, J: Job>(gate: &G, job: &mut J)
+    ensures origin { J.origin job.new ≡ J.origin job.old }
+    ensures left { J.left_of job.new ≡ 0 }
+{
+    gate.pass(job.number());
+    finish(job);
+}
+
+/// Runs the jobs beside each other, each on a thread of its own where one can be started, and else here.
+pub fn beside<R: Threads + Sync, G: Gate, J: Job + Send>(rt: &R, gate: &G, jobs: &mut [J])
+    ensures { Ran J.origin J.left_of jobs.old jobs.new }
+{
+    thread::for_each_mut(rt, jobs, 64, &|_, job: &mut J| begin(gate, job));
+}
+
+/// The steps of all jobs, of which there are at most 64.
+pub fn total_steps<J: Job>(jobs: &[J]) -> u64
+    requires { length jobs.now ≤ 64 }
+    ensures { result ≡ total J.steps_of jobs.now }
+{
+    let mut steps = 0;
+    for job in jobs {
+        steps += job.steps();
+    }
+    steps
+}

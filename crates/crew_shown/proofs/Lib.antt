@@ -1,0 +1,2 @@
+mod FirstTurn
+mod EmptyTiles

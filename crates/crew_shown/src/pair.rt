@@ -1,0 +1,121 @@
+//! Two workers of one phase, over real seats.
+ghost use Rattle.std.specs.Prelude.{◌≡◌, ◌+◌, ◌≤◌, ◌<◌, true, false, [], length, pos, IfOk, vec_len, vec_capacity};
+ghost use Rattle.core_steps.specs.Numbers.{has};
+ghost use Rattle.core_steps.specs.Views.{lending_view};
+ghost use Rattle.domain.specs.Examples.{row};
+ghost use Rattle.follow_chunk.specs.Laws.{one_row};
+ghost use Rattle.follow_chunk.specs.Tasks.{IsTask};
+ghost use Rattle.crew_shown.specs.Starts.{IsStart};
+
+use crate::counts::Counted;
+use crate::task::{nest, prediction, task};
+use crate::tiles::Tiles;
+use crew::Crew;
+use domain::Prediction;
+use follow_chunk::Task;
+use nest_lang::Nest;
+use shared_words::{MainSeat, SharedWords};
+use std::alloc::{AllocError, Global};
+use verified_turns::Worker;
+
+/// What the workers stand on.
+#[derive(Drop)]
+struct Ground {
+    nest: Nest,
+    pred: Prediction<1>,
+    words: SharedWords,
+}
+
+/// Has two workers of a phase claim the tiles, as the crew runs them. Their seats are not taken back.
+pub fn claim_all<C: Crew>(
+    alloc: Global,
+    tiles: &Tiles<'_>,
+    crew: &mut C,
+) -> Result<(), AllocError> {
+    let nest = nest(alloc)?;
+    let pred = prediction(alloc)?;
+    let (words, main) = SharedWords::new(alloc, &[0; 40])?;
+    over(alloc, Ground { nest, pred, words }, main, tiles, crew)
+}
+
+/// The same on this ground.
+fn over<C: Crew>(
+    alloc: Global,
+    ground: Ground,
+    mut main: MainSeat,
+    tiles: &Tiles<'_>,
+    crew: &mut C,
+) -> Result<(), AllocError>
+    requires nest { ground.nest.loops ≡ one_row }
+    requires pred { ground.pred ≡ row }
+    requires table { main.table ≡ ground.words }
+    requires start { IsStart main.view }
+{
+    on(alloc, &ground, &mut main, tiles, crew)
+}
+
+/// The same, with the first turn of the nest as the task.
+fn on<C: Crew>(
+    alloc: Global,
+    ground: &Ground,
+    main: &mut MainSeat,
+    tiles: &Tiles<'_>,
+    crew: &mut C,
+) -> Result<(), AllocError>
+    requires nest { ground.now.nest.loops ≡ one_row }
+    requires pred { ground.now.pred ≡ row }
+    requires table { main.old.table ≡ ground.now.words }
+    requires start { IsStart main.old.view }
+{
+    let task = task(&ground.nest, &ground.pred);
+    run(alloc, &task, &ground.words, main, tiles, crew)
+}
+
+/// Posts the plan, lends two seats, and has the crew run the workers over them.
+fn run<'a, 'e, C: Crew>(
+    alloc: Global,
+    task: &'a Task<'a, 1>,
+    words: &'a SharedWords,
+    main: &mut MainSeat,
+    tiles: &Tiles<'e>,
+    crew: &mut C,
+) -> Result<(), AllocError>
+    requires table { main.old.table ≡ words.now }
+    requires start { IsStart main.old.view }
+    requires task { IsTask 1 task.now.scalars task.now.nest.now.loops task.now.pred.now task.now.outer task.now.chunk (pos 40) }
+{
+    let mut jobs = Vec::with_capacity(alloc, 2)?;
+    crew.reserve(1)?;
+    main.post(words, tiles.plan);
+    lend(1, task, words, main, tiles, &mut jobs);
+    lend(2, task, words, main, tiles, &mut jobs);
+    crew.work::<Counted<'e>, 1>(task.chunk.first, 0, &mut jobs);
+    Ok(())
+}
+
+/// Lends a seat to the worker of this number.
+fn lend<'a, 'e>(
+    number: u32,
+    task: &'a Task<'a, 1>,
+    words: &'a SharedWords,
+    main: &mut MainSeat,
+    tiles: &Tiles<'e>,
+    jobs: &mut Vec<Worker<'a, Counted<'e>, 1>>,
+)
+    requires number { 0 < number }
+    requires table { main.old.table ≡ words.now }
+    requires posted { main.old.view.posted ≡ true }
+    requires plan { main.old.view.plan ≡ tiles.now.plan.now }
+    requires fresh { has number main.old.view.out ≡ false }
+    requires count { length main.old.view.base ≡ 40 }
+    requires task { IsTask 1 task.now.scalars task.now.nest.now.loops task.now.pred.now task.now.outer task.now.chunk (pos 40) }
+    requires room { vec_len jobs.old < vec_capacity jobs.old }
+    ensures table { main.new.table ≡ main.old.table }
+    ensures main { main.new.view ≡ lending_view main.old.view number }
+    ensures count { vec_len jobs.new ≡ vec_len jobs.old + 1 }
+    ensures room { vec_capacity jobs.new ≡ vec_capacity jobs.old }
+{
+    let seat = main.split(words, number);
+    let walk = Counted::new(tiles.entered);
+    jobs.push_reserved(Worker::new(number, seat, words, task, walk));
+}

@@ -1,0 +1,134 @@
+//! One instance over a port that verifies its accesses by itself.
+
+ghost use Rattle.std.specs.Prelude.{◌≡◌, ◌<◌, ◌^◌, pos, length, IsOk};
+ghost use Rattle.domain.specs.Instances.{Predicted};
+ghost use Rattle.domain.specs.Steps.{next};
+ghost use Rattle.follow_chunk.specs.Predicted.{scalars_at};
+ghost use Rattle.follow_chunk.specs.Tasks.{IsTask, IsSomeTask};
+ghost use Rattle.follow_chunk.specs.Verifies.{VerifiesInstance, IsShort};
+ghost use Rattle.follow_chunk.specs.Followed.{IsRun, IsInstanceFollowed, ChangesWrites, ClosesSmall, IsClosedSmall};
+
+use crate::expect::{Foreseen, begin};
+use crate::instance::differs;
+use crate::task::{Followed, Task};
+use block_exec::Port;
+use follow::{How, follow_block_verified, follow_head_verified};
+
+/// More steps than an instance has: its block has fewer than 2^20 statements.
+const MOST_STEPS: u64 = 1 << 32;
+
+impl<const D: usize> Task<'_, D> {
+    /// Runs the instance of which this is expected from its expected scalars, over a port that verifies its accesses, and
+    /// compares it with what is expected of it.
+    pub(crate) fn follow_own<P: Port>(
+        &self,
+        foreseen: &Foreseen<'_, D>,
+        port: &mut P,
+    ) -> Result<u64, How>
+        requires few { D < 7 }
+        requires pred { foreseen.now.pred.now ≡ self.now.pred.now }
+        requires next { scalars_at self.now.pred.now foreseen.now.next ≡ scalars_at self.now.pred.now (next self.now.pred.now foreseen.now.inst.now) }
+        requires task { IsSomeTask D self.now.scalars self.now.nest.now.loops self.now.pred.now self.now.outer self.now.chunk }
+        requires predicted { Predicted self.now.pred.now self.now.chunk foreseen.now.inst.now }
+        requires own { VerifiesInstance (P.expects port.old) self.now.pred.now foreseen.now.inst.now }
+        ensures run { IsRun self.now.pred.now self.now.nest.now.loops self.now.outer foreseen.now.inst.now (P.memory port.old) result (P.memory port.new) }
+        ensures changes { ChangesWrites self.now.pred.now foreseen.now.inst.now (P.memory port.old) (P.memory port.new) }
+        ensures closes { IsOk result → ClosesSmall self.now.pred.now foreseen.now.inst.now }
+        ensures expects { P.expects port.new ≡ P.expects port.old }
+        ensures basis { P.basis port.new ≡ P.basis port.old }
+    {
+        if self.scalars == 0 {
+            return self.follow_from(foreseen, &mut [], port);
+        }
+        self.follow_with_scalars(foreseen, port)
+    }
+
+    /// The same where there may be scalars. Out of line, so that an instance of a nest without any makes no room for them.
+    #[inline(never)]
+    fn follow_with_scalars<P: Port>(
+        &self,
+        foreseen: &Foreseen<'_, D>,
+        port: &mut P,
+    ) -> Result<u64, How>
+        requires few { D < 7 }
+        requires pred { foreseen.now.pred.now ≡ self.now.pred.now }
+        requires next { scalars_at self.now.pred.now foreseen.now.next ≡ scalars_at self.now.pred.now (next self.now.pred.now foreseen.now.inst.now) }
+        requires task { IsSomeTask D self.now.scalars self.now.nest.now.loops self.now.pred.now self.now.outer self.now.chunk }
+        requires predicted { Predicted self.now.pred.now self.now.chunk foreseen.now.inst.now }
+        requires own { VerifiesInstance (P.expects port.old) self.now.pred.now foreseen.now.inst.now }
+        ensures run { IsRun self.now.pred.now self.now.nest.now.loops self.now.outer foreseen.now.inst.now (P.memory port.old) result (P.memory port.new) }
+        ensures changes { ChangesWrites self.now.pred.now foreseen.now.inst.now (P.memory port.old) (P.memory port.new) }
+        ensures closes { IsOk result → ClosesSmall self.now.pred.now foreseen.now.inst.now }
+        ensures expects { P.expects port.new ≡ P.expects port.old }
+        ensures basis { P.basis port.new ≡ P.basis port.old }
+    {
+        let mut room = [0; 16];
+        let scalars = &mut room[..self.scalars as usize];
+        begin(self.pred, foreseen.inst, scalars);
+        self.follow_from(foreseen, scalars, port)
+    }
+
+    /// The same from these scalars, which are the expected ones.
+    #[inline(always)]
+    fn follow_from<P: Port>(
+        &self,
+        foreseen: &Foreseen<'_, D>,
+        scalars: &mut [i64],
+        port: &mut P,
+    ) -> Result<u64, How>
+        requires few { D < 7 }
+        requires pred { foreseen.now.pred.now ≡ self.now.pred.now }
+        requires next { scalars_at self.now.pred.now foreseen.now.next ≡ scalars_at self.now.pred.now (next self.now.pred.now foreseen.now.inst.now) }
+        requires task { IsSomeTask D self.now.scalars self.now.nest.now.loops self.now.pred.now self.now.outer self.now.chunk }
+        requires predicted { Predicted self.now.pred.now self.now.chunk foreseen.now.inst.now }
+        requires own { VerifiesInstance (P.expects port.old) self.now.pred.now foreseen.now.inst.now }
+        requires begins { scalars.old ≡ scalars_at self.now.pred.now foreseen.now.inst.now }
+        ensures run { IsRun self.now.pred.now self.now.nest.now.loops self.now.outer foreseen.now.inst.now (P.memory port.old) result (P.memory port.new) }
+        ensures changes { ChangesWrites self.now.pred.now foreseen.now.inst.now (P.memory port.old) (P.memory port.new) }
+        ensures closes { IsOk result → ClosesSmall self.now.pred.now foreseen.now.inst.now }
+        ensures expects { P.expects port.new ≡ P.expects port.old }
+        ensures basis { P.basis port.new ≡ P.basis port.old }
+    {
+        let inst = foreseen.inst;
+        let block = self.block(inst);
+        let Some(loops) = self.nest.counters(block) else {
+            unreachable!()
+        };
+        let values = self.values(inst, loops as usize);
+        let site = self.site(block, inst, &values, loops as usize);
+        if let Some(statements) = self.nest.statements(block) {
+            return follow_block_verified(&site, statements, foreseen, scalars, port, MOST_STEPS);
+        }
+        let Some(head) = self.nest.head(block.level) else {
+            unreachable!()
+        };
+        let turning = self.turning(inst, block, head);
+        follow_head_verified(&site, head, foreseen, turning, scalars, port, MOST_STEPS)
+    }
+}
+
+/// Runs one instance, as `follow_instance` does, over a port that verifies its accesses by itself. `Task::foreseen` gives
+/// what is expected of the instance, which is predicted in the task's chunk.
+pub fn follow_verified<P: Port, const D: usize>(
+    task: &Task<'_, D>,
+    foreseen: &Foreseen<'_, D>,
+    port: &mut P,
+) -> Followed<D>
+    requires few { D < 7 }
+    requires pred { foreseen.now.pred.now ≡ task.now.pred.now }
+    requires next { scalars_at task.now.pred.now foreseen.now.next ≡ scalars_at task.now.pred.now (next task.now.pred.now foreseen.now.inst.now) }
+    requires task { IsTask D task.now.scalars task.now.nest.now.loops task.now.pred.now task.now.outer task.now.chunk (pos (length (P.memory port.old))) }
+    requires predicted { Predicted task.now.pred.now task.now.chunk foreseen.now.inst.now }
+    requires own { VerifiesInstance (P.expects port.old) task.now.pred.now foreseen.now.inst.now }
+    ensures followed { IsInstanceFollowed task.now.pred.now task.now.nest.now.loops task.now.outer foreseen.now.inst.now (P.memory port.old) result (P.memory port.new) }
+    ensures changes { ChangesWrites task.now.pred.now foreseen.now.inst.now (P.memory port.old) (P.memory port.new) }
+    ensures closes { IsClosedSmall task.now.pred.now foreseen.now.inst.now result }
+    ensures short { IsShort result }
+    ensures expects { P.expects port.new ≡ P.expects port.old }
+    ensures basis { P.basis port.new ≡ P.basis port.old }
+{
+    match task.follow_own(foreseen, port) {
+        Ok(steps) => Followed::Same { steps },
+        Err(how) => differs(foreseen.inst, how),
+    }
+}

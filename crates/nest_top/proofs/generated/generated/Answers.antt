@@ -1,0 +1,38 @@
+use Rattle.std.proofs.Common.{◌≡◌, ◌∙◌, ap, ap₂, sym, subst, ℕ, List, ◌++◌, Ok, rules}
+use Rattle.nest_lang.specs.declared.budget.Ending.{Ending}
+use Rattle.nest_lang.specs.Runs.{Run, finish_of_ending}
+use Rattle.nest_lang.specs.Traces.{Cut, cut_of}
+use Rattle.nest_grammar.specs.Contents.{reading}
+use Rattle.nest_gen.specs.declared.shapes.Shape.{Shape}
+use Rattle.nest_gen.specs.Generated.{text_of}
+use Rattle.report.specs.Summaries.{summary}
+use Rattle.report.specs.declared.journey.Options.{Options as JourneyOptions}
+use Rattle.journeys.specs.Journeys.{IsJourney}
+use Rattle.journeys.proofs.PlainRuns.{run-is_plain}
+use Rattle.nest_top.specs.Answers.{heading, journey_options, run_of_file, text_made}
+use Rattle.nest_top.proofs.generated.generated.Goals as goal
+
+pub returns : goal.returns
+returns c =
+    let recipe = c.args.recipe in
+    let file = c.in_ok-file.file in
+    let j = c.in_ok-journey.journey in
+    let options = c.args.options.now in
+    let reads : reading (text_made recipe) ≡ Ok file = ap (λ (s : Shape). reading (text_of s recipe.seed recipe.size)) (sym c.shape_of.ensures) ∙ c.in_ok-file.ensures in
+    let made : (left : ℕ) × IsJourney (journey_options options) file j.lines.items (cut_of j.state left j.steps (finish_of_ending j.ending)) =
+    subst (λ (o : JourneyOptions). (left : ℕ) × IsJourney o file j.lines.items (cut_of j.state left j.steps (finish_of_ending j.ending))) c.journey_options.ensures c.in_ok-journey.ensures.journey in
+    let end : Cut = cut_of j.state made.0 j.steps (finish_of_ending j.ending) in
+    let run : record { store = j.state; ending = finish_of_ending j.ending; steps = j.steps } ≡ run_of_file file options.steps = run-is_plain (journey_options options) file j.lines.items end made.1 in
+    let put : c.extend_from_slice.new.self.items ≡ heading recipe ++ summary j.ending j.steps j.lines.items j.state.memory = search rules in (
+      file,
+      reads,
+      record {
+        ending = j.ending;
+        ended = ap (λ (r : Run). r.ending) run;
+        lines = j.lines.items;
+        end = end;
+        journey = made.1;
+        written = put ∙ ap (λ (r : Run). heading recipe ++ summary j.ending r.steps j.lines.items r.store.memory) run;
+        answered = c.status_of.ensures;
+      },
+    )

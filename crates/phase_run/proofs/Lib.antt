@@ -1,0 +1,4 @@
+mod Lending
+mod Returning
+mod Closing
+mod Handing

@@ -1,0 +1,3 @@
+pub mod Postings
+pub mod Seats
+pub mod Phases

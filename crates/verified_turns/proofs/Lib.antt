@@ -1,0 +1,4 @@
+pub mod Shown
+pub mod Touching
+pub mod Turned
+pub mod Following

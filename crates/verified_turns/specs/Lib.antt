@@ -1,0 +1,4 @@
+pub mod Machines
+pub mod Ports
+pub mod Workers
+pub mod FollowRuns
