@@ -17,8 +17,8 @@ unfolding gcd
 IsGcd-gcd a b = IsGcd-gcd_within b a b (omega arith)
 
 -- what is a greatest common divisor is the one of Euclid's rule
-pub gcd_unique : (a b g : ℕ) → IsGcd a b g → g ≡ gcd a b
-gcd_unique a b g h = same_from_IsGcd a b g (gcd a b) h (IsGcd-gcd a b)
+pub gcd-unique : (a b g : ℕ) → IsGcd a b g → g ≡ gcd a b
+gcd-unique a b g h = same_from_IsGcd a b g (gcd a b) h (IsGcd-gcd a b)
 
 -- ---- the greatest common divisor of a list
 
@@ -50,24 +50,24 @@ IsGreatestDivisor-common_divisor [] = IsGreatestDivisor-nil
 IsGreatestDivisor-common_divisor (x ∷ xs) =
     IsGreatestDivisor-cons x xs (common_divisor xs) (gcd (unsigned_abs x) (common_divisor xs)) (IsGreatestDivisor-common_divisor xs) (IsGcd-gcd (unsigned_abs x) (common_divisor xs))
 
-pub common_divisor_unique : (xs : List ℤ) (g : ℕ) → IsGreatestDivisor xs g → g ≡ common_divisor xs
-common_divisor_unique xs g h =
+pub common-divisor-unique : (xs : List ℤ) (g : ℕ) → IsGreatestDivisor xs g → g ≡ common_divisor xs
+common-divisor-unique xs g h =
     let k = IsGreatestDivisor-common_divisor xs in
     dvd_antisymm (k.1 g h.0) (h.1 (common_divisor xs) k.0)
 
 pub common_divisor-push : (xs : List ℤ) (x : ℤ) → common_divisor (xs ++ x ∷ []) ≡ gcd (unsigned_abs x) (common_divisor xs)
 common_divisor-push xs x =
-    sym (common_divisor_unique (xs ++ x ∷ []) _ (IsGreatestDivisor-push x xs (common_divisor xs) _ (IsGreatestDivisor-common_divisor xs) (IsGcd-gcd (unsigned_abs x) (common_divisor xs))))
+    sym (common-divisor-unique (xs ++ x ∷ []) _ (IsGreatestDivisor-push x xs (common_divisor xs) _ (IsGreatestDivisor-common_divisor xs) (IsGcd-gcd (unsigned_abs x) (common_divisor xs))))
 
-pub common_divisor_more : (xs : List ℤ) (i : ℕ) → i < length xs → common_divisor (take (i + 1) xs) ≡ gcd (unsigned_abs (get_or xs i (pos 0))) (common_divisor (take i xs))
-common_divisor_more xs i h = rw (take_more xs i (pos 0) h, common_divisor-push) refl
+pub common-divisor-more : (xs : List ℤ) (i : ℕ) → i < length xs → common_divisor (take (i + 1) xs) ≡ gcd (unsigned_abs (get_or xs i (pos 0))) (common_divisor (take i xs))
+common-divisor-more xs i h = rw (take_more xs i (pos 0) h, common_divisor-push) refl
 
-pub ruleset divisors = (common_divisor_more, take_all)
+pub ruleset divisors = (common-divisor-more, take_all)
 
 -- ---- the greatest common divisor is no greater than a bound on the numbers
 
 gcd-zero : (b : ℕ) → gcd 0 b ≡ b
-gcd-zero b = sym (gcd_unique 0 b b (dvd-zero b, dvd_refl b, λ d h k. k))
+gcd-zero b = sym (gcd-unique 0 b b (dvd-zero b, dvd_refl b, λ d h k. k))
 
 gcd-≤ : (a b most : ℕ) → a ≤ most → b ≤ most → gcd a b ≤ most
 gcd-≤ zero b most h k = rw (gcd-zero b) k

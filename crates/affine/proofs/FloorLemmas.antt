@@ -47,8 +47,8 @@ pub ≤ℤ-floor : (z v : ℤ) (n : ℕ) → ((pos (suc n) *ℤ v) ≤ℤ z) ↔
     )
 
 -- a sum of a multiple of the divisor and z is at least 0 exactly where the sum of the quotients is
-pub non_negative-floor : (s z : ℤ) (n : ℕ) → (pos 0 ≤ℤ (pos (suc n) *ℤ s +ℤ z)) ↔ (pos 0 ≤ℤ (s +ℤ int_div_euclid z (pos (suc n))))
-non_negative-floor s z n =
+pub non-negative-floor : (s z : ℤ) (n : ℕ) → (pos 0 ≤ℤ (pos (suc n) *ℤ s +ℤ z)) ↔ (pos 0 ≤ℤ (s +ℤ int_div_euclid z (pos (suc n))))
+non-negative-floor s z n =
     let both = ≤ℤ-floor z (neg_ℤ s) n in
     let turned = *ℤ-neg_ℤ (pos (suc n)) s in (
       λ h. let k = both.0 (omega (arith, ints)) in omega (arith, ints),

@@ -12,7 +12,7 @@ use Rattle.affine.specs.Inverses.{IsSquare, across}
 use Rattle.affine.specs.Laws.{IdentityIsInverse, SwapKeepsInverse, SkewKeepsInverse, InvertedIsOneToOneAndOnto}
 use Rattle.affine.specs.Matrices.{identity, product, skew, unit_row}
 use Rattle.affine.specs.Sums.{dot, weighted}
-use Rattle.affine.proofs.MoveLaws.{all-at, back_again, forth_again, gained, gained_lost, length-gained, length-product, length-unit, map-swap, product-at, product-skew, row-at, square-identity, square-skew, square-swap, swap_twice}
+use Rattle.affine.proofs.MoveLaws.{all-at, back-again, forth-again, gained, gained-lost, length-gained, length-product, length-unit, map-swap, product-at, product-skew, row-at, square-identity, square-skew, square-swap, swap-twice}
 use Rattle.affine.proofs.MovedSumLaws.{dot-gained, dot-swap}
 use Rattle.affine.proofs.OneToOneLemmas.{product-identity}
 use Rattle.affine.proofs.SumLemmas.{get_or-weighted, length-weighted}
@@ -37,9 +37,9 @@ across-at n (column ∷ columns) (y ∷ ys) k long below =
     get_or-weighted y column (pos 1) (across n columns ys) k (omega (arith, size, below)) (omega (arith, rest, below))
     ∙ ap₂ (λ (a b : ℤ). a +ℤ b) (*ℤ_comm y (get_or column k (pos 0))) (one-*ℤ (get_or (across n columns ys) k (pos 0)) ∙ across-at n columns ys k long.1 below)
 
-same_across : (n : ℕ) (columns others : List (List ℤ)) (ys zs : List ℤ) → AllByRecursion (λ column. length column ≡ n) columns → AllByRecursion (λ column. length column ≡ n) others
+same-across : (n : ℕ) (columns others : List (List ℤ)) (ys zs : List ℤ) → AllByRecursion (λ column. length column ≡ n) columns → AllByRecursion (λ column. length column ≡ n) others
     → ((k : ℕ) → k < n → dot (entries k columns) ys ≡ dot (entries k others) zs) → across n columns ys ≡ across n others zs
-same_across n columns others ys zs long also same =
+same-across n columns others ys zs long also same =
     let first = length-across n columns ys long in
     let second = length-across n others zs also in
     ext_get_or (pos 0) (across n columns ys) (across n others zs) (first ∙ sym second) (λ k h.
@@ -66,7 +66,7 @@ entries-skew n k columns a b m in-a in-b below square =
 
 across-skew : (n : ℕ) (columns : List (List ℤ)) (a b : ℕ) (m : ℤ) (y : List ℤ) → a < n → b < n → IsSquare n columns → length y ≡ n → across n (skew columns b a m) y ≡ across n columns (gained y a b m)
 across-skew n columns a b m y in-a in-b square long =
-    same_across n (skew columns b a m) columns y (gained y a b m) (square-skew n columns b a m in-b in-a square).long square.long (λ k below.
+    same-across n (skew columns b a m) columns y (gained y a b m) (square-skew n columns b a m in-b in-a square).long square.long (λ k below.
     let size = length-entries k columns in
     let many = square.many in
     ap (λ (l : List ℤ). dot l y) (entries-skew n k columns b a m in-b in-a below square)
@@ -82,14 +82,14 @@ IsInverse-skew n rows columns a b m in-a in-b apart inverse = record {
       let gains = length-gained (product rows point) a b m in
       ap (across n (skew columns b a (neg_ℤ m))) (product-skew n rows a b m point in-a in-b inverse.rows_square)
       ∙ across-skew n columns a b (neg_ℤ m) (gained (product rows point) a b m) in-a in-b inverse.columns_square (gains ∙ size ∙ many)
-      ∙ ap (across n columns) (gained_lost (product rows point) a b m (neg_ℤ m) (omega (arith, size, many, in-a)) apart (back_again m))
+      ∙ ap (across n columns) (gained-lost (product rows point) a b m (neg_ℤ m) (omega (arith, size, many, in-a)) apart (back-again m))
       ∙ inverse.there point long;
   back = λ place long.
       let lost = length-gained place a b (neg_ℤ m) in
       ap (product (skew rows a b m)) (across-skew n columns a b (neg_ℤ m) place in-a in-b inverse.columns_square long)
       ∙ product-skew n rows a b m (across n columns (gained place a b (neg_ℤ m))) in-a in-b inverse.rows_square
       ∙ ap (λ (l : List ℤ). gained l a b m) (inverse.back (gained place a b (neg_ℤ m)) (lost ∙ long))
-      ∙ gained_lost place a b (neg_ℤ m) m (omega (arith, long, in-a)) apart (forth_again m);
+      ∙ gained-lost place a b (neg_ℤ m) m (omega (arith, long, in-a)) apart (forth-again m);
 }
 
 -- ---- an exchange
@@ -97,7 +97,7 @@ IsInverse-skew n rows columns a b m in-a in-b apart inverse = record {
 across-swap : (n : ℕ) (columns : List (List ℤ)) (a b : ℕ) (y : List ℤ) → a < n → b < n → IsSquare n columns → length y ≡ n → across n (swap columns a b) y ≡ across n columns (swap y a b)
 unfolding entries
 across-swap n columns a b y in-a in-b square long =
-    same_across n (swap columns a b) columns y (swap y a b) (square-swap n columns a b in-a in-b square).long square.long (λ k below.
+    same-across n (swap columns a b) columns y (swap y a b) (square-swap n columns a b in-a in-b square).long square.long (λ k below.
     let size = length-entries k columns in
     let many = square.many in
     ap (λ (l : List ℤ). dot l y) (map-swap (λ column. get_or column k (pos 0)) columns a b [] (omega (arith, many, in-a)) (omega (arith, many, in-b)))
@@ -114,14 +114,14 @@ IsInverse-swap n rows columns a b in-a in-b inverse =
           let again = length-swap (product rows point) a b in
           ap (across n (swap columns a b)) (map-swap (λ row. dot row point) rows a b [] (omega (arith, many, in-a)) (omega (arith, many, in-b)))
           ∙ across-swap n columns a b (swap (product rows point) a b) in-a in-b inverse.columns_square (again ∙ size ∙ many)
-          ∙ ap (across n columns) (swap_twice (product rows point) a b (omega (arith, size, many, in-a)) (omega (arith, size, many, in-b)))
+          ∙ ap (across n columns) (swap-twice (product rows point) a b (omega (arith, size, many, in-a)) (omega (arith, size, many, in-b)))
           ∙ inverse.there point long;
       back = λ place long.
           let once = length-swap place a b in
           ap (product (swap rows a b)) (across-swap n columns a b place in-a in-b inverse.columns_square long)
           ∙ map-swap (λ row. dot row (across n columns (swap place a b))) rows a b [] (omega (arith, many, in-a)) (omega (arith, many, in-b))
           ∙ ap (λ (l : List ℤ). swap l a b) (inverse.back (swap place a b) (once ∙ long))
-          ∙ swap_twice place a b (omega (arith, long, in-a)) (omega (arith, long, in-b));
+          ∙ swap-twice place a b (omega (arith, long, in-a)) (omega (arith, long, in-b));
     }
 
 -- ---- the unit matrix

@@ -15,27 +15,27 @@ use Rattle.affine.proofs.SumLemmas.{get_or-weighted, length-weighted}
 -- ---- loops that write row by row, or entry by entry
 
 -- a loop that writes a function of each element
-pub map_step : {X Y : Type 0} (f : X → Y) (xs : List X) (ys : List Y) (i : ℕ) (d : X) (y : Y) → i < length xs → i < length ys → y ≡ f (get_or xs i d) → take i ys ≡ map f (take i xs) → take (i + 1) (set ys i y) ≡ map f (take (i + 1) xs)
-map_step f xs ys i d y h k e done = rw (take_more_set ys i y k, take_more xs i d h, map-append, e, done) refl
+pub map-step : {X Y : Type 0} (f : X → Y) (xs : List X) (ys : List Y) (i : ℕ) (d : X) (y : Y) → i < length xs → i < length ys → y ≡ f (get_or xs i d) → take i ys ≡ map f (take i xs) → take (i + 1) (set ys i y) ≡ map f (take (i + 1) xs)
+map-step f xs ys i d y h k e done = rw (take_more_set ys i y k, take_more xs i d h, map-append, e, done) refl
 
 -- a loop that writes a function of each index
-pub map-range_step : {Y : Type 0} (f : ℕ → Y) (ys : List Y) (i : ℕ) (y : Y) → i < length ys → y ≡ f i → take i ys ≡ map f (range_with_len 0 i) → take (i + 1) (set ys i y) ≡ map f (range_with_len 0 (i + 1))
-map-range_step f ys i y k e done = rw (take_more_set ys i y k, map-range_with_len_more f 0 i i (omega arith), e, done) refl
+pub map-range-step : {Y : Type 0} (f : ℕ → Y) (ys : List Y) (i : ℕ) (y : Y) → i < length ys → y ≡ f i → take i ys ≡ map f (range_with_len 0 i) → take (i + 1) (set ys i y) ≡ map f (range_with_len 0 (i + 1))
+map-range-step f ys i y k e done = rw (take_more_set ys i y k, map-range_with_len_more f 0 i i (omega arith), e, done) refl
 
-pub weighted_more : (m : ℤ) (xs ys : List ℤ) (i : ℕ) → i < length xs → i < length ys → weighted (pos 1) (take (i + 1) xs) m (take (i + 1) ys) ≡ weighted (pos 1) (take i xs) m (take i ys) ++ (get_or xs i (pos 0) +ℤ m *ℤ get_or ys i (pos 0)) ∷ []
-weighted_more m [] ys i h k = absurd (omega arith)
-weighted_more m (x ∷ xs) [] i h k = absurd (omega arith)
-weighted_more m (x ∷ xs) (y ∷ ys) zero h k = rw (one-*ℤ x) refl
-weighted_more m (x ∷ xs) (y ∷ ys) (suc i) h k =
+pub weighted-more : (m : ℤ) (xs ys : List ℤ) (i : ℕ) → i < length xs → i < length ys → weighted (pos 1) (take (i + 1) xs) m (take (i + 1) ys) ≡ weighted (pos 1) (take i xs) m (take i ys) ++ (get_or xs i (pos 0) +ℤ m *ℤ get_or ys i (pos 0)) ∷ []
+weighted-more m [] ys i h k = absurd (omega arith)
+weighted-more m (x ∷ xs) [] i h k = absurd (omega arith)
+weighted-more m (x ∷ xs) (y ∷ ys) zero h k = rw (one-*ℤ x) refl
+weighted-more m (x ∷ xs) (y ∷ ys) (suc i) h k =
     let e : suc i + 1 ≡ suc (i + 1) = omega arith in
-    rw (e, weighted_more m xs ys i (omega arith) (omega arith)) refl
+    rw (e, weighted-more m xs ys i (omega arith) (omega arith)) refl
 
-pub weighted_step : (m : ℤ) (xs ys zs : List ℤ) (i : ℕ) (z : ℤ) → i < length xs → i < length ys → i < length zs → z ≡ get_or xs i (pos 0) +ℤ m *ℤ get_or ys i (pos 0) → take i zs ≡ weighted (pos 1) (take i xs) m (take i ys) → take (i + 1) (set zs i z) ≡ weighted (pos 1) (take (i + 1) xs) m (take (i + 1) ys)
-weighted_step m xs ys zs i z h k l e done = rw (take_more_set zs i z l, weighted_more m xs ys i h k, e, done) refl
+pub weighted-step : (m : ℤ) (xs ys zs : List ℤ) (i : ℕ) (z : ℤ) → i < length xs → i < length ys → i < length zs → z ≡ get_or xs i (pos 0) +ℤ m *ℤ get_or ys i (pos 0) → take i zs ≡ weighted (pos 1) (take i xs) m (take i ys) → take (i + 1) (set zs i z) ≡ weighted (pos 1) (take (i + 1) xs) m (take (i + 1) ys)
+weighted-step m xs ys zs i z h k l e done = rw (take_more_set zs i z l, weighted-more m xs ys i h k, e, done) refl
 
 -- an entry of small size fits a word
-pub fits_from_small : (m : ℤ) (xs ys : List ℤ) (i : ℕ) → AllWithinSize (2 ^ 20) (weighted (pos 1) xs m ys) → length xs ≡ length ys → i < length xs → FitsSigned w64 (get_or xs i (pos 0) +ℤ m *ℤ get_or ys i (pos 0))
-fits_from_small m xs ys i small same h =
+pub fits-from-small : (m : ℤ) (xs ys : List ℤ) (i : ℕ) → AllWithinSize (2 ^ 20) (weighted (pos 1) xs m ys) → length xs ≡ length ys → i < length xs → FitsSigned w64 (get_or xs i (pos 0) +ℤ m *ℤ get_or ys i (pos 0))
+fits-from-small m xs ys i small same h =
     let short : i < length (weighted (pos 1) xs m ys) = omega (arith, length-weighted (pos 1) xs m ys same) in
     let entry : get_or (weighted (pos 1) xs m ys) i (pos 0) ≡ get_or xs i (pos 0) +ℤ m *ℤ get_or ys i (pos 0) = rw one-*ℤ at (get_or-weighted (pos 1) xs m ys i h (omega arith)) in
     let size = rw entry at (small i (pos 0) short) in
@@ -52,7 +52,7 @@ pub HasSmallEntries-identity : (n : ℕ) → HasSmallEntries (identity n)
 HasSmallEntries-identity n = All-map (AllWithinSize (2 ^ 20)) (unit_row n) (range_with_len 0 n) (λ k d h. small-unit_row n _)
 
 -- rows that are those of the unit matrix
-pub HasSmallEntries-identity_from : (n : ℕ) (rows : List (List ℤ)) → length rows ≡ n → take n rows ≡ identity n → HasSmallEntries rows
-HasSmallEntries-identity_from n rows long done =
+pub HasSmallEntries-identity-from : (n : ℕ) (rows : List (List ℤ)) → length rows ≡ n → take n rows ≡ identity n → HasSmallEntries rows
+HasSmallEntries-identity-from n rows long done =
     let whole : rows ≡ identity n = sym (take_all n rows (omega arith)) ∙ done in
     subst HasSmallEntries (sym whole) (HasSmallEntries-identity n)

@@ -65,15 +65,15 @@ square-skew n rows a b m in-a in-b square =
 
 -- ---- to gain and to lose
 
-pub back_again : (m x y : ℤ) → pos 1 *ℤ (pos 1 *ℤ x +ℤ m *ℤ y) +ℤ neg_ℤ m *ℤ y ≡ x
-back_again m x y =
+pub back-again : (m x y : ℤ) → pos 1 *ℤ (pos 1 *ℤ x +ℤ m *ℤ y) +ℤ neg_ℤ m *ℤ y ≡ x
+back-again m x y =
     let one = one-*ℤ x in
     let two = one-*ℤ (pos 1 *ℤ x +ℤ m *ℤ y) in
     let turned : neg_ℤ m *ℤ y ≡ neg_ℤ (m *ℤ y) = *ℤ_comm (neg_ℤ m) y ∙ *ℤ-neg_ℤ y m ∙ ap neg_ℤ (*ℤ_comm y m) in
     omega (arith, ints, one, two, turned)
 
-pub forth_again : (m x y : ℤ) → pos 1 *ℤ (pos 1 *ℤ x +ℤ neg_ℤ m *ℤ y) +ℤ m *ℤ y ≡ x
-forth_again m x y =
+pub forth-again : (m x y : ℤ) → pos 1 *ℤ (pos 1 *ℤ x +ℤ neg_ℤ m *ℤ y) +ℤ m *ℤ y ≡ x
+forth-again m x y =
     let one = one-*ℤ x in
     let two = one-*ℤ (pos 1 *ℤ x +ℤ neg_ℤ m *ℤ y) in
     let turned : neg_ℤ m *ℤ y ≡ neg_ℤ (m *ℤ y) = *ℤ_comm (neg_ℤ m) y ∙ *ℤ-neg_ℤ y m ∙ ap neg_ℤ (*ℤ_comm y m) in
@@ -89,9 +89,9 @@ set-same [] a = refl
 set-same (x ∷ z) zero = refl
 set-same (x ∷ z) (suc a) = ap (λ l. x ∷ l) (set-same z a)
 
-pub gained_lost : (z : List ℤ) (a b : ℕ) (m r : ℤ) → a < length z → a ≢ b → ((x y : ℤ) → pos 1 *ℤ (pos 1 *ℤ x +ℤ m *ℤ y) +ℤ r *ℤ y ≡ x) → gained (gained z a b m) a b r ≡ z
+pub gained-lost : (z : List ℤ) (a b : ℕ) (m r : ℤ) → a < length z → a ≢ b → ((x y : ℤ) → pos 1 *ℤ (pos 1 *ℤ x +ℤ m *ℤ y) +ℤ r *ℤ y ≡ x) → gained (gained z a b m) a b r ≡ z
 unfolding gained
-gained_lost z a b m r inside apart again =
+gained-lost z a b m r inside apart again =
     let v : ℤ = pos 1 *ℤ get_or z a (pos 0) +ℤ m *ℤ get_or z b (pos 0) in
     let at-a : get_or (set z a v) a (pos 0) ≡ v = get_or-set_same z a v (pos 0) inside in
     let at-b : get_or (set z a v) b (pos 0) ≡ get_or z b (pos 0) = get_or-set_other z a b v (pos 0) (λ e. apart (sym e)) in
@@ -120,8 +120,8 @@ square-swap n rows a b in-a in-b square =
           (all-at (λ row. length row ≡ n) rows a (omega (arith, many, in-a)) square.long));
     }
 
-pub swap_twice : (z : List ℤ) (a b : ℕ) → a < length z → b < length z → swap (swap z a b) a b ≡ z
-swap_twice z a b in-a in-b =
+pub swap-twice : (z : List ℤ) (a b : ℕ) → a < length z → b < length z → swap (swap z a b) a b ≡ z
+swap-twice z a b in-a in-b =
     let once = swapped_from_swap z (swap z a b) a b (pos 0) in-a in-b refl in
     let size = length-swap z a b in
     let again = length-swap (swap z a b) a b in

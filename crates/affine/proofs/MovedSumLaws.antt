@@ -10,7 +10,7 @@ use Rattle.std.proofs.lemmas.List.Edits.{swap_is}
 use Rattle.plain_lemmas.proofs.IntegerLaws.{*ℤ_assoc, +ℤ-*ℤ, -ℤ-*ℤ, one-*ℤ}
 use Rattle.affine.specs.Sums.{dot}
 use Rattle.affine.proofs.MoveLaws.{gained}
-use Rattle.affine.proofs.SumLemmas.{dot_comm}
+use Rattle.affine.proofs.SumLemmas.{dot-comm}
 
 -- ---- one number of a sum is changed
 
@@ -30,8 +30,8 @@ dot-set (x ∷ xs) (y ∷ ys) (suc a) v inside also =
 
 -- ---- the gain of one side is the gain of the other
 
-swap_sides : (m u v w : ℤ) → m *ℤ u *ℤ v ≡ m *ℤ v *ℤ u
-swap_sides m u v w = *ℤ_assoc m u v ∙ ap (λ (z : ℤ). m *ℤ z) (*ℤ_comm u v) ∙ sym (*ℤ_assoc m v u)
+swap-sides : (m u v w : ℤ) → m *ℤ u *ℤ v ≡ m *ℤ v *ℤ u
+swap-sides m u v w = *ℤ_assoc m u v ∙ ap (λ (z : ℤ). m *ℤ z) (*ℤ_comm u v) ∙ sym (*ℤ_assoc m v u)
 
 gain : (m x y : ℤ) → (pos 1 *ℤ x +ℤ m *ℤ y) -ℤ x ≡ m *ℤ y
 gain m x y = let one = one-*ℤ x in omega (arith, ints, one)
@@ -42,10 +42,10 @@ dot-gained z y a b m in-a in-b long =
     let first = dot-set z y b (pos 1 *ℤ get_or z b (pos 0) +ℤ m *ℤ get_or z a (pos 0)) in-b (omega (arith, long, in-b)) in
     let second = dot-set y z a (pos 1 *ℤ get_or y a (pos 0) +ℤ m *ℤ get_or y b (pos 0)) (omega (arith, long, in-a)) in-a in
     first
-    ∙ ap₂ (λ (s t : ℤ). s +ℤ t) (dot_comm z y)
-    (ap (λ (g : ℤ). g *ℤ get_or y b (pos 0)) (gain m (get_or z b (pos 0)) (get_or z a (pos 0))) ∙ swap_sides m (get_or z a (pos 0)) (get_or y b (pos 0)) (pos 0)
+    ∙ ap₂ (λ (s t : ℤ). s +ℤ t) (dot-comm z y)
+    (ap (λ (g : ℤ). g *ℤ get_or y b (pos 0)) (gain m (get_or z b (pos 0)) (get_or z a (pos 0))) ∙ swap-sides m (get_or z a (pos 0)) (get_or y b (pos 0)) (pos 0)
     ∙ ap (λ (g : ℤ). g *ℤ get_or z a (pos 0)) (sym (gain m (get_or y a (pos 0)) (get_or y b (pos 0)))))
-    ∙ sym second ∙ dot_comm (set y a (pos 1 *ℤ get_or y a (pos 0) +ℤ m *ℤ get_or y b (pos 0))) z
+    ∙ sym second ∙ dot-comm (set y a (pos 1 *ℤ get_or y a (pos 0) +ℤ m *ℤ get_or y b (pos 0))) z
 
 -- ---- an exchange on one side is the exchange on the other
 
@@ -61,8 +61,8 @@ crossed d za zb ya yb =
     let w = *ℤ_comm zb yb in
     omega (arith, ints, p, q, r, s, t, u, v, w)
 
-swapped_at : (z : List ℤ) (a b : ℕ) → b < length z → get_or (set z a (get_or z b (pos 0))) b (pos 0) ≡ get_or z b (pos 0)
-swapped_at z a b inside = ⊎_elim
+swapped-at : (z : List ℤ) (a b : ℕ) → b < length z → get_or (set z a (get_or z b (pos 0))) b (pos 0) ≡ get_or z b (pos 0)
+swapped-at z a b inside = ⊎_elim
     (λ e. subst (λ (i : ℕ). get_or (set z i (get_or z b (pos 0))) b (pos 0) ≡ get_or z b (pos 0)) e (get_or-set_same z b (get_or z b (pos 0)) (pos 0) inside))
     (λ apart. get_or-set_other z a b (get_or z b (pos 0)) (pos 0) apart)
     (cases_eq b a)
@@ -72,12 +72,12 @@ dot-swapped z y a b in-a in-b long =
     let size = length-set z a (get_or z b (pos 0)) in
     ap (λ (l : List ℤ). dot l y) (sym (swap_is z a b (pos 0) in-a in-b))
     ∙ dot-set (set z a (get_or z b (pos 0))) y b (get_or z a (pos 0)) (omega (arith, size, in-b)) (omega (arith, long, in-b))
-    ∙ ap₂ (λ (s t : ℤ). s +ℤ (get_or z a (pos 0) -ℤ t) *ℤ get_or y b (pos 0)) (dot-set z y a (get_or z b (pos 0)) in-a (omega (arith, long, in-a))) (swapped_at z a b in-b)
+    ∙ ap₂ (λ (s t : ℤ). s +ℤ (get_or z a (pos 0) -ℤ t) *ℤ get_or y b (pos 0)) (dot-set z y a (get_or z b (pos 0)) in-a (omega (arith, long, in-a))) (swapped-at z a b in-b)
 
 pub dot-swap : (z y : List ℤ) (a b : ℕ) → a < length z → b < length z → length z ≡ length y → dot (swap z a b) y ≡ dot z (swap y a b)
 dot-swap z y a b in-a in-b long =
     dot-swapped z y a b in-a in-b long
     ∙ crossed (dot z y) (get_or z a (pos 0)) (get_or z b (pos 0)) (get_or y a (pos 0)) (get_or y b (pos 0))
-    ∙ ap (λ (d : ℤ). (d +ℤ (get_or y b (pos 0) -ℤ get_or y a (pos 0)) *ℤ get_or z a (pos 0)) +ℤ (get_or y a (pos 0) -ℤ get_or y b (pos 0)) *ℤ get_or z b (pos 0)) (dot_comm z y)
+    ∙ ap (λ (d : ℤ). (d +ℤ (get_or y b (pos 0) -ℤ get_or y a (pos 0)) *ℤ get_or z a (pos 0)) +ℤ (get_or y a (pos 0) -ℤ get_or y b (pos 0)) *ℤ get_or z b (pos 0)) (dot-comm z y)
     ∙ sym (dot-swapped y z a b (omega (arith, long, in-a)) (omega (arith, long, in-b)) (sym long))
-    ∙ dot_comm (swap y a b) z
+    ∙ dot-comm (swap y a b) z

@@ -10,42 +10,42 @@ use Rattle.affine.specs.declared.row.Row.{Row}
 use Rattle.affine.specs.Divisors.{common_divisor}
 use Rattle.affine.specs.Rows.{row_of, row_over, normal, variables, coefficient, IsConstant, Meets}
 use Rattle.affine.specs.Sums.{dot}
-use Rattle.affine.proofs.FloorLemmas.{floor-one, abs-floor, mul-floor, non_negative-floor}
-use Rattle.affine.proofs.SumLemmas.{dot-map_mul}
+use Rattle.affine.proofs.FloorLemmas.{floor-one, abs-floor, mul-floor, non-negative-floor}
+use Rattle.affine.proofs.SumLemmas.{dot-map-mul}
 use Rattle.affine.proofs.DivisorLemmas.{common_divisor-≤, IsGreatestDivisor-common_divisor}
 
-map-floor_one : (xs : List ℤ) → map (λ x. int_div_euclid x (pos 1)) xs ≡ xs
-map-floor_one [] = refl
-map-floor_one (x ∷ xs) = rw (floor-one x, map-floor_one xs) refl
+map-floor-one : (xs : List ℤ) → map (λ x. int_div_euclid x (pos 1)) xs ≡ xs
+map-floor-one [] = refl
+map-floor-one (x ∷ xs) = rw (floor-one x, map-floor-one xs) refl
 
 pub row_over-one : (row : Row) → row_over 1 row ≡ row
-row_over-one row = rw (map-floor_one row.coef.items, floor-one row.cst) refl
+row_over-one row = rw (map-floor-one row.coef.items, floor-one row.cst) refl
 
 -- the quotients by the greatest common divisor, or by 1 where it is 0
 row_over-max : (g : ℕ) (row : Row) → row_of (map (λ x. int_div_euclid x (pos (max g 1))) row.coef.items) (int_div_euclid row.cst (pos (max g 1))) ≡ row_over g row
 row_over-max zero row = row_over-one row
 row_over-max (suc n) row = let e : max (suc n) 1 ≡ suc n = omega arith in rw e refl
 
-pub normal_from_quotients : (row : Row) (d : ℤ) (coef : List ℤ) (cst : ℤ) → d ≡ pos (max (common_divisor row.coef.items) 1) → coef ≡ map (λ x. int_div_euclid x d) row.coef.items → cst ≡ int_div_euclid row.cst d → row_of coef cst ≡ normal row
+pub normal-from-quotients : (row : Row) (d : ℤ) (coef : List ℤ) (cst : ℤ) → d ≡ pos (max (common_divisor row.coef.items) 1) → coef ≡ map (λ x. int_div_euclid x d) row.coef.items → cst ≡ int_div_euclid row.cst d → row_of coef cst ≡ normal row
 unfolding normal
-normal_from_quotients row d coef cst e f h = rw (f, h, e) (row_over-max (common_divisor row.coef.items) row)
+normal-from-quotients row d coef cst e f h = rw (f, h, e) (row_over-max (common_divisor row.coef.items) row)
 
 -- ---- the normal form is met by the same whole-number points
 
 -- the coefficients are their quotients times the divisor, where it divides each
-map-mul_floor : (n : ℕ) (xs : List ℤ) → All (λ x. suc n ∣ unsigned_abs x) xs → map (λ x. pos (suc n) *ℤ x) (map (λ x. int_div_euclid x (pos (suc n))) xs) ≡ xs
-map-mul_floor n [] h = refl
-map-mul_floor n (x ∷ xs) h =
+map-mul-floor : (n : ℕ) (xs : List ℤ) → All (λ x. suc n ∣ unsigned_abs x) xs → map (λ x. pos (suc n) *ℤ x) (map (λ x. int_div_euclid x (pos (suc n))) xs) ≡ xs
+map-mul-floor n [] h = refl
+map-mul-floor n (x ∷ xs) h =
     let first = mul-floor x n (All-head (λ y. suc n ∣ unsigned_abs y) x xs h) in
-    let rest = map-mul_floor n xs (All-tail (λ y. suc n ∣ unsigned_abs y) x xs h) in
+    let rest = map-mul-floor n xs (All-tail (λ y. suc n ∣ unsigned_abs y) x xs h) in
     rw (first, rest) refl
 
 Meets-row_over : (g : ℕ) (row : Row) (point : List ℤ) → All (λ x. g ∣ unsigned_abs x) row.coef.items → Meets point row ↔ Meets point (row_over g row)
 Meets-row_over zero row point h = (λ k. k, λ k. k)
 Meets-row_over (suc n) row point h =
     let quotients = map (λ x. int_div_euclid x (pos (suc n))) row.coef.items in
-    let sum : dot row.coef.items point ≡ pos (suc n) *ℤ dot quotients point = rw (map-mul_floor n row.coef.items h) at (dot-map_mul (pos (suc n)) quotients point) in
-    let both = non_negative-floor (dot quotients point) row.cst n in
+    let sum : dot row.coef.items point ≡ pos (suc n) *ℤ dot quotients point = rw (map-mul-floor n row.coef.items h) at (dot-map-mul (pos (suc n)) quotients point) in
+    let both = non-negative-floor (dot quotients point) row.cst n in
     (λ k. both.0 (rw sum at k), λ k. rw sum (both.1 k))
 
 pub Meets-normal : (row : Row) (point : List ℤ) → Meets point row ↔ Meets point (normal row)
@@ -54,8 +54,8 @@ Meets-normal row point = Meets-row_over (common_divisor row.coef.items) row poin
 
 -- ---- the normal form of a normal form is itself
 
-one_from_dvd : (n h : ℕ) → suc n * h ∣ suc n → h ≡ 1
-one_from_dvd n h k =
+one-from-dvd : (n h : ℕ) → suc n * h ∣ suc n → h ≡ 1
+one-from-dvd n h k =
     let e : suc n ≡ suc n * 1 = omega arith in
     eq-one_of_dvd-one (dvd_of_mul-dvd-mul_left h (omega arith) (subst (λ m. suc n * h ∣ m) e k))
 
@@ -65,10 +65,10 @@ common_divisor-quotients n xs e =
     let d = pos (suc n) in
     let quotients = map (λ x. int_div_euclid x d) xs in
     let h = common_divisor quotients in
-    let exact = map-mul_floor n xs (subst (λ g. All (λ x. g ∣ unsigned_abs x) xs) e (IsGreatestDivisor-common_divisor xs).0) in
+    let exact = map-mul-floor n xs (subst (λ g. All (λ x. g ∣ unsigned_abs x) xs) e (IsGreatestDivisor-common_divisor xs).0) in
     let each = All-weaker (λ y. h ∣ unsigned_abs y) (λ y. suc n * h ∣ unsigned_abs (d *ℤ y)) (λ y k. rw (unsigned_abs-mul d y) (mul-dvd-mul_left h (suc n) k)) quotients (IsGreatestDivisor-common_divisor quotients).0 in
     let multiples : All (λ x. suc n * h ∣ unsigned_abs x) xs = rw exact at (All-map (λ x. suc n * h ∣ unsigned_abs x) (λ y. d *ℤ y) quotients each) in
-    one_from_dvd n h (rw e at ((IsGreatestDivisor-common_divisor xs).1 (suc n * h) multiples))
+    one-from-dvd n h (rw e at ((IsGreatestDivisor-common_divisor xs).1 (suc n * h) multiples))
 
 normal-row_over : (g : ℕ) (row : Row) → common_divisor row.coef.items ≡ g → row_over (common_divisor (row_over g row).coef.items) (row_over g row) ≡ row_over g row
 normal-row_over zero row e = rw e refl
@@ -108,9 +108,9 @@ abs-cst-normal row = abs-row_over (common_divisor row.coef.items) row
     abs-row_over (suc n) r = abs-floor r.cst n
 
 -- a variable that the row doesn't have stays away
-pub coefficient-normal_zero : (row : Row) (v : ℕ) → coefficient row v ≡ pos 0 → coefficient (normal row) v ≡ pos 0
+pub coefficient-normal-zero : (row : Row) (v : ℕ) → coefficient row v ≡ pos 0 → coefficient (normal row) v ≡ pos 0
 unfolding normal
-coefficient-normal_zero row v h = by (common_divisor row.coef.items)
+coefficient-normal-zero row v h = by (common_divisor row.coef.items)
   where
     get-map : (n : ℕ) (xs : List ℤ) (i : ℕ) → get_or xs i (pos 0) ≡ pos 0 → get_or (map (λ x. int_div_euclid x (pos (suc n))) xs) i (pos 0) ≡ pos 0
     get-map n [] i e = refl

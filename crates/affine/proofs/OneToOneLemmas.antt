@@ -11,13 +11,13 @@ use Rattle.std.proofs.lemmas.List.FromFn.{length-map-range_with_len, get_or-map-
 use Rattle.plain_lemmas.proofs.IntegerLaws.{one-*ℤ}
 use Rattle.affine.specs.Matrices.{identity, unit_row, product, skew, IsOneToOne}
 use Rattle.affine.specs.Sums.{dot, weighted}
-use Rattle.affine.proofs.SumLemmas.{dot-weighted, dot-weighted_point}
+use Rattle.affine.proofs.SumLemmas.{dot-weighted, dot-weighted-point}
 
 -- ---- linear
 
 pub product-weighted : (rows : List (List ℤ)) (q : ℤ) (x : List ℤ) (p : ℤ) (y : List ℤ) → length x ≡ length y → product rows (weighted q x p y) ≡ weighted q (product rows x) p (product rows y)
 product-weighted [] q x p y h = refl
-product-weighted (row ∷ rows) q x p y h = rw (dot-weighted_point row q x p y h, product-weighted rows q x p y h) refl
+product-weighted (row ∷ rows) q x p y h = rw (dot-weighted-point row q x p y h, product-weighted rows q x p y h) refl
 
 -- ---- the unit matrix
 
@@ -56,17 +56,17 @@ IsOneToOne-identity n first second h k e =
 
 -- ---- equal products are equal sums in each row
 
-dots_from_product : (rows : List (List ℤ)) (first second : List ℤ) → product rows first ≡ product rows second → (k : ℕ) → dot (get_or rows k []) first ≡ dot (get_or rows k []) second
-dots_from_product rows first second e k =
+dots-from-product : (rows : List (List ℤ)) (first second : List ℤ) → product rows first ≡ product rows second → (k : ℕ) → dot (get_or rows k []) first ≡ dot (get_or rows k []) second
+dots-from-product rows first second e k =
     sym (get_or-map (λ row. dot row first) rows k []) ∙ (ap (λ sums. get_or sums k (pos 0)) e ∙ get_or-map (λ row. dot row second) rows k [])
 
-product_from_dots : (rows : List (List ℤ)) (first second : List ℤ) → ((k : ℕ) → dot (get_or rows k []) first ≡ dot (get_or rows k []) second) → product rows first ≡ product rows second
-product_from_dots [] first second h = refl
-product_from_dots (row ∷ rows) first second h = rw (h 0, product_from_dots rows first second (λ k. h (suc k))) refl
+product-from-dots : (rows : List (List ℤ)) (first second : List ℤ) → ((k : ℕ) → dot (get_or rows k []) first ≡ dot (get_or rows k []) second) → product rows first ≡ product rows second
+product-from-dots [] first second h = refl
+product-from-dots (row ∷ rows) first second h = rw (h 0, product-from-dots rows first second (λ k. h (suc k))) refl
 
 pub IsOneToOne-swap : (n : ℕ) (rows : List (List ℤ)) (a b : ℕ) → a < length rows → b < length rows → IsOneToOne n rows → IsOneToOne n (swap rows a b)
 IsOneToOne-swap n rows a b in-a in-b one first second h k e =
-    one first second h k (product_from_dots rows first second (λ i. by i (cases_eq i a) (cases_eq i b)))
+    one first second h k (product-from-dots rows first second (λ i. by i (cases_eq i a) (cases_eq i b)))
   where
     Same : List ℤ → Type 0
     Same row = dot row first ≡ dot row second
@@ -75,7 +75,7 @@ IsOneToOne-swap n rows a b in-a in-b one first second h k e =
     moved = swapped_from_swap rows (swap rows a b) a b [] in-a in-b refl
 
     each : (i : ℕ) → Same (get_or (swap rows a b) i [])
-    each = dots_from_product (swap rows a b) first second e
+    each = dots-from-product (swap rows a b) first second e
 
     by : (i : ℕ) → (i ≡ a) ⊎ (i ≡ a → ⊥) → (i ≡ b) ⊎ (i ≡ b → ⊥) → Same (get_or rows i [])
     by i (inl at) either = subst (λ j. Same (get_or rows j [])) (sym at) (subst Same moved.1 (each b))
@@ -92,7 +92,7 @@ same-first m x y u v h e =
 
 pub IsOneToOne-skew : (n : ℕ) (rows : List (List ℤ)) (a b : ℕ) (m : ℤ) → a < length rows → a ≢ b → length (get_or rows a []) ≡ length (get_or rows b []) → IsOneToOne n rows → IsOneToOne n (skew rows a b m)
 IsOneToOne-skew n rows a b m in-a apart long one first second h k e =
-    one first second h k (product_from_dots rows first second (λ i. by i (cases_eq i a)))
+    one first second h k (product-from-dots rows first second (λ i. by i (cases_eq i a)))
   where
     Same : List ℤ → Type 0
     Same row = dot row first ≡ dot row second
@@ -101,7 +101,7 @@ IsOneToOne-skew n rows a b m in-a apart long one first second h k e =
     gained = weighted (pos 1) (get_or rows a []) m (get_or rows b [])
 
     each : (i : ℕ) → Same (get_or (skew rows a b m) i [])
-    each = dots_from_product (skew rows a b m) first second e
+    each = dots-from-product (skew rows a b m) first second e
 
     other : (i : ℕ) → (i ≡ a → ⊥) → Same (get_or rows i [])
     other i off = subst Same (get_or-set_other rows a i gained [] off) (each i)

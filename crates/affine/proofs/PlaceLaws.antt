@@ -12,7 +12,7 @@ use Rattle.affine.specs.Sums.{dot}
 use Rattle.affine.proofs.FloorLemmas.{≤ℤ-floor_by}
 use Rattle.affine.proofs.InverseLaws.{length-across}
 use Rattle.affine.proofs.MoveLaws.{length-product}
-use Rattle.affine.proofs.SumLemmas.{dot-weighted_point, dot_comm}
+use Rattle.affine.proofs.SumLemmas.{dot-weighted-point, dot-comm}
 
 pub form_over_places : FormOverPlaces
 form_over_places n columns coef place square size long = at columns place square.long
@@ -27,8 +27,8 @@ form_over_places n columns coef place square size long = at columns place square
     at [] place all = dot-none n coef
     at (column ∷ columns) [] all = dot-none n coef
     at (column ∷ columns) (y ∷ place) all =
-        dot-weighted_point coef y column (pos 1) (across n columns place) (all.0 ∙ sym (length-across n columns place all.1))
-        ∙ ap₂ (λ (a b : ℤ). a +ℤ b) (*ℤ_comm y (dot coef column) ∙ ap (λ (z : ℤ). z *ℤ y) (dot_comm coef column)) (one-*ℤ (dot coef (across n columns place)) ∙ at columns place all.1)
+        dot-weighted-point coef y column (pos 1) (across n columns place) (all.0 ∙ sym (length-across n columns place all.1))
+        ∙ ap₂ (λ (a b : ℤ). a +ℤ b) (*ℤ_comm y (dot coef column) ∙ ap (λ (z : ℤ). z *ℤ y) (dot-comm coef column)) (one-*ℤ (dot coef (across n columns place)) ∙ at columns place all.1)
 
 pub row_over_places : RowOverPlaces
 row_over_places n rows columns row point inverse size long =

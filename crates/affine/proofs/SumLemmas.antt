@@ -26,10 +26,10 @@ dot-weighted q (x ∷ xs) p (y ∷ ys) [] h = zero-weighted q p
 dot-weighted q (x ∷ xs) p (y ∷ ys) (z ∷ zs) h =
     rw (dot-weighted q xs p ys zs (omega arith)) (weighted-dot-step q x p y z (dot xs zs) (dot ys zs))
 
-pub dot-map_mul : (q : ℤ) (xs point : List ℤ) → dot (map (λ x. q *ℤ x) xs) point ≡ q *ℤ dot xs point
-dot-map_mul q [] point = sym (*ℤ-zero q)
-dot-map_mul q (x ∷ xs) [] = sym (*ℤ-zero q)
-dot-map_mul q (x ∷ xs) (z ∷ zs) = rw (*ℤ-+ℤ q (x *ℤ z) (dot xs zs), *ℤ_assoc q x z, dot-map_mul q xs zs) refl
+pub dot-map-mul : (q : ℤ) (xs point : List ℤ) → dot (map (λ x. q *ℤ x) xs) point ≡ q *ℤ dot xs point
+dot-map-mul q [] point = sym (*ℤ-zero q)
+dot-map-mul q (x ∷ xs) [] = sym (*ℤ-zero q)
+dot-map-mul q (x ∷ xs) (z ∷ zs) = rw (*ℤ-+ℤ q (x *ℤ z) (dot xs zs), *ℤ_assoc q x z, dot-map-mul q xs zs) refl
 
 -- one more number of the point
 pub dot-push : (xs point : List ℤ) (v : ℤ) → dot xs (point ++ v ∷ []) ≡ dot xs point +ℤ get_or xs (length point) (pos 0) *ℤ v
@@ -52,21 +52,21 @@ get_or-weighted q (x ∷ xs) p (y ∷ ys) (suc i) h k = get_or-weighted q xs p y
 
 -- ---- one more place
 
-pub dot_more : (xs ys : List ℤ) (i : ℕ) → i < length xs → i < length ys → dot (take (suc i) xs) (take (suc i) ys) ≡ dot (take i xs) (take i ys) +ℤ get_or xs i (pos 0) *ℤ get_or ys i (pos 0)
-dot_more [] ys i h k = absurd (omega arith)
-dot_more (x ∷ xs) [] i h k = absurd (omega arith)
-dot_more (x ∷ xs) (y ∷ ys) zero h k = omega (arith, ints)
-dot_more (x ∷ xs) (y ∷ ys) (suc i) h k = omega (arith, ints, dot_more xs ys i (omega arith) (omega arith))
+pub dot-more : (xs ys : List ℤ) (i : ℕ) → i < length xs → i < length ys → dot (take (suc i) xs) (take (suc i) ys) ≡ dot (take i xs) (take i ys) +ℤ get_or xs i (pos 0) *ℤ get_or ys i (pos 0)
+dot-more [] ys i h k = absurd (omega arith)
+dot-more (x ∷ xs) [] i h k = absurd (omega arith)
+dot-more (x ∷ xs) (y ∷ ys) zero h k = omega (arith, ints)
+dot-more (x ∷ xs) (y ∷ ys) (suc i) h k = omega (arith, ints, dot-more xs ys i (omega arith) (omega arith))
 
-pub dot_more_is : (xs ys : List ℤ) (i : ℕ) (sum r : ℤ) → i < length xs → i < length ys → sum ≡ dot (take i xs) (take i ys) → r ≡ sum +ℤ get_or xs i (pos 0) *ℤ get_or ys i (pos 0) → r ≡ dot (take (i + 1) xs) (take (i + 1) ys)
-dot_more_is xs ys i sum r h k e f = rw (f, e, add-one) (sym (dot_more xs ys i h k))
+pub dot-more-is : (xs ys : List ℤ) (i : ℕ) (sum r : ℤ) → i < length xs → i < length ys → sum ≡ dot (take i xs) (take i ys) → r ≡ sum +ℤ get_or xs i (pos 0) *ℤ get_or ys i (pos 0) → r ≡ dot (take (i + 1) xs) (take (i + 1) ys)
+dot-more-is xs ys i sum r h k e f = rw (f, e, add-one) (sym (dot-more xs ys i h k))
 
 -- the size of a sum with one more product
 dot-step-size : (sum x y : ℤ) (n most range : ℕ) → unsigned_abs sum ≤ n * (most * range) → unsigned_abs x ≤ most → unsigned_abs y ≤ range → unsigned_abs (sum +ℤ x *ℤ y) ≤ (n + 1) * (most * range)
 dot-step-size sum x y n most range h i j = grind (arith, unsigned_abs-add, unsigned_abs-mul)
 
-pub dot_more-size : (xs ys : List ℤ) (i most range : ℕ) (sum : ℤ) → i < length xs → All (λ x. unsigned_abs x ≤ most) xs → unsigned_abs (get_or ys i (pos 0)) ≤ range → unsigned_abs sum ≤ i * (most * range) → unsigned_abs (sum +ℤ get_or xs i (pos 0) *ℤ get_or ys i (pos 0)) ≤ (i + 1) * (most * range)
-dot_more-size xs ys i most range sum h all y small = dot-step-size sum (get_or xs i (pos 0)) (get_or ys i (pos 0)) i most range small (all i (pos 0) h) y
+pub dot-more-size : (xs ys : List ℤ) (i most range : ℕ) (sum : ℤ) → i < length xs → All (λ x. unsigned_abs x ≤ most) xs → unsigned_abs (get_or ys i (pos 0)) ≤ range → unsigned_abs sum ≤ i * (most * range) → unsigned_abs (sum +ℤ get_or xs i (pos 0) *ℤ get_or ys i (pos 0)) ≤ (i + 1) * (most * range)
+dot-more-size xs ys i most range sum h all y small = dot-step-size sum (get_or xs i (pos 0)) (get_or ys i (pos 0)) i most range small (all i (pos 0) h) y
 
 -- the size of a whole sum
 pub abs-dot : (xs ys : List ℤ) (most range : ℕ) → All (λ x. unsigned_abs x ≤ most) xs → All (λ y. unsigned_abs y ≤ range) ys → unsigned_abs (dot xs ys) ≤ length xs * (most * range)
@@ -80,11 +80,11 @@ abs-dot (x ∷ xs) (y ∷ ys) most range h k =
 
 -- ---- linear in the point too
 
-pub dot_comm : (xs ys : List ℤ) → dot xs ys ≡ dot ys xs
-dot_comm [] [] = refl
-dot_comm [] (y ∷ ys) = refl
-dot_comm (x ∷ xs) [] = refl
-dot_comm (x ∷ xs) (y ∷ ys) = rw (dot_comm xs ys, *ℤ_comm x y) refl
+pub dot-comm : (xs ys : List ℤ) → dot xs ys ≡ dot ys xs
+dot-comm [] [] = refl
+dot-comm [] (y ∷ ys) = refl
+dot-comm (x ∷ xs) [] = refl
+dot-comm (x ∷ xs) (y ∷ ys) = rw (dot-comm xs ys, *ℤ_comm x y) refl
 
-pub dot-weighted_point : (row : List ℤ) (q : ℤ) (x : List ℤ) (p : ℤ) (y : List ℤ) → length x ≡ length y → dot row (weighted q x p y) ≡ q *ℤ dot row x +ℤ p *ℤ dot row y
-dot-weighted_point row q x p y h = rw (dot_comm row (weighted q x p y), dot_comm row x, dot_comm row y) (dot-weighted q x p y row h)
+pub dot-weighted-point : (row : List ℤ) (q : ℤ) (x : List ℤ) (p : ℤ) (y : List ℤ) → length x ≡ length y → dot row (weighted q x p y) ≡ q *ℤ dot row x +ℤ p *ℤ dot row y
+dot-weighted-point row q x p y h = rw (dot-comm row (weighted q x p y), dot-comm row x, dot-comm row y) (dot-weighted q x p y row h)

@@ -31,8 +31,8 @@ pub record Restoring (backup : List Kept) (i : ℕ) (v w : View) : Type 0 where
   pub done : (j : ℕ) → j < i → word_of (signed w.base) (at backup j).address ≡ (at backup j).value
   pub others : (a : ℕ) → ((j : ℕ) → j < i → (at backup j).address ≢ a) → word_of (signed w.base) a ≡ word_of (signed v.base) a
 
-pub restoring_none : (backup : List Kept) (v : View) → Restoring backup 0 v v
-restoring_none backup v = record { rest = refl; nothing = λ e. refl; stored = λ lt. absurd (omega (arith, lt)); width = refl; done = λ j lt. absurd (omega (arith, lt)); others = λ a away. refl }
+pub restoring-none : (backup : List Kept) (v : View) → Restoring backup 0 v v
+restoring-none backup v = record { rest = refl; nothing = λ e. refl; stored = λ lt. absurd (omega (arith, lt)); width = refl; done = λ j lt. absurd (omega (arith, lt)); others = λ a away. refl }
 
 pub signed-set : (base : List ℕ) (a : ℕ) (x : ℤ) → FitsSigned w64 x → signed (set base a (cast_unsigned w64 x)) ≡ set (signed base) a x
 signed-set base a x fits = map-set (cast_signed w64) base a (cast_unsigned w64 x) ∙ ap (λ (z : ℤ). set (signed base) a z) (to_z-of_z w64 x fits)
@@ -47,41 +47,41 @@ pub record StoresWord (word : Kept) (w u : View) : Type 0 where
 
 module _ (backup : List Kept) (i : ℕ) (v w u : View) (one : HasOneValueEach backup) (lt : i < length backup) (within : (at backup i).address < length v.base)
     (r : Restoring backup i v w) (s : StoresWord (at backup i) w u) where
-  abbrev set_at : List ℤ
-  set_at = set (signed w.base) (at backup i).address (at backup i).value
+  abbrev set-at : List ℤ
+  set-at = set (signed w.base) (at backup i).address (at backup i).value
 
   there : (at backup i).address < length (signed w.base)
   there = let l = length-signed w.base in let width = r.width in omega (arith, l, width, within)
 
-  other : (a : ℕ) → (at backup i).address ≢ a → word_of set_at a ≡ word_of (signed w.base) a
+  other : (a : ℕ) → (at backup i).address ≢ a → word_of set-at a ≡ word_of (signed w.base) a
   other a ne = get_or-set_other (signed w.base) (at backup i).address a (at backup i).value (pos 0) (λ e. ne (sym e))
 
-  same : (a : ℕ) → (at backup i).address ≡ a → word_of set_at a ≡ (at backup i).value
-  same a e = subst (λ b. word_of set_at b ≡ (at backup i).value) e (get_or-set_same (signed w.base) (at backup i).address (at backup i).value (pos 0) there)
+  same : (a : ℕ) → (at backup i).address ≡ a → word_of set-at a ≡ (at backup i).value
+  same a e = subst (λ b. word_of set-at b ≡ (at backup i).value) e (get_or-set_same (signed w.base) (at backup i).address (at backup i).value (pos 0) there)
 
-  done_more : (j : ℕ) → j < i + 1 → word_of set_at (at backup j).address ≡ (at backup j).value
-  done_more j below = dite (ℕ_discrete (at backup i).address (at backup j).address)
+  done-more : (j : ℕ) → j < i + 1 → word_of set-at (at backup j).address ≡ (at backup j).value
+  done-more j below = dite (ℕ_discrete (at backup i).address (at backup j).address)
       (λ e. same (at backup j).address e ∙ one (at backup i) (at backup j) (Contains-get_or backup i nothing lt) (Contains-get_or backup j nothing (omega (arith, lt, below))) e)
       (λ ne. let apart : j ≢ i = λ e. ne (ap (λ k. (at backup k).address) (sym e)) in
       other (at backup j).address ne ∙ r.done j (omega (arith, below, apart)))
 
-  pub restoring_more : Restoring backup (i + 1) v u
-  restoring_more = record {
+  pub restoring-more : Restoring backup (i + 1) v u
+  restoring-more = record {
     rest = s.rest ∙ ap (λ (t : View). record t { base = u.base; stored = w.epoch }) r.rest ∙ ap (λ n. record v { base = u.base; stored = n }) (sym (ap (λ (t : View). t.stored) s.rest));
     nothing = λ e. absurd (omega (arith, e));
     stored = λ more. ap (λ (t : View). t.stored) s.rest ∙ ap (λ (t : View). t.epoch) r.rest;
     width = sym (length-signed u.base) ∙ ap length s.memory ∙ length-set (signed w.base) (at backup i).address (at backup i).value ∙ length-signed w.base ∙ r.width;
-    done = λ j below. ap (λ m. word_of m (at backup j).address) s.memory ∙ done_more j below;
+    done = λ j below. ap (λ m. word_of m (at backup j).address) s.memory ∙ done-more j below;
     others = λ a away. ap (λ m. word_of m a) s.memory ∙ other a (away i (omega arith)) ∙ r.others a (λ j below. away j (omega (arith, below)));
   }
 
 -- the loop's turn, in its own words
-pub restoring_next : (backup items : List Kept) (i : ℕ) (v w u : View) (d : Kept) → backup ≡ items → HasOneValueEach items → i < length items
+pub restoring-next : (backup items : List Kept) (i : ℕ) (v w u : View) (d : Kept) → backup ≡ items → HasOneValueEach items → i < length items
     → All (λ word. word.address < length v.base) backup → Restoring backup i v w → StoresWord (get_or items i d) w u → Restoring backup (i + 1) v u
-restoring_next backup items i v w u d same one lt within r s =
+restoring-next backup items i v w u d same one lt within r s =
     let here = get_or_default items i d nothing lt in
     subst (λ ks. Restoring ks (i + 1) v u) (sym same)
-    (restoring_more items i v w u one lt (subst (λ ks. All (λ word. word.address < length v.base) ks) same within i nothing lt) (subst (λ ks. Restoring ks i v w) same r)
+    (restoring-more items i v w u one lt (subst (λ ks. All (λ word. word.address < length v.base) ks) same within i nothing lt) (subst (λ ks. Restoring ks i v w) same r)
     (subst (λ word. StoresWord word w u) here s))
 
 -- the loop's end: all words are stored
@@ -89,8 +89,8 @@ pub ended : (backup items : List Kept) (i : ℕ) (v w : View) → backup ≡ ite
 ended backup items i v w same end r = subst (λ n. Restoring backup n v w) (end ∙ sym (ap length same)) r
 
 module _ (backup : List Kept) (v w : View) (r : Restoring backup (length backup) v w) where
-  pub restored_view : IsRestoredView backup v w
-  restored_view = record { rest = r.rest; nothing = λ e. r.nothing (ap length e); stored = r.stored }
+  pub restored-view : IsRestoredView backup v w
+  restored-view = record { rest = r.rest; nothing = λ e. r.nothing (ap length e); stored = r.stored }
 
   -- an address that is not among the backup's is that of none of its words
   away : (a : ℕ) → has a (addresses_kept backup) ≡ false → (j : ℕ) → j < length backup → (at backup j).address ≢ a
@@ -107,10 +107,10 @@ module _ (backup : List Kept) (v w : View) (r : Restoring backup (length backup)
     others = λ a none. r.others a (away a none);
   }
 
-  by_address : (memory : List ℤ) → backup ≡ words_at memory (addresses_kept backup) → DiffersOnlyAt (addresses_kept backup) memory (signed v.base)
+  by-address : (memory : List ℤ) → backup ≡ words_at memory (addresses_kept backup) → DiffersOnlyAt (addresses_kept backup) memory (signed v.base)
       → (a : ℕ) (b : Bool) → has a (addresses_kept backup) ≡ b → word_of (signed w.base) a ≡ word_of memory a
-  by_address memory taken differs a false none = r.others a (away a none) ∙ sym (differs.others a none)
-  by_address memory taken differs a true some =
+  by-address memory taken differs a false none = r.others a (away a none) ∙ sym (differs.others a none)
+  by-address memory taken differs a true some =
       let (k, x, below, is, test) = Any-from_list_any (λ y. y == a) (addresses_kept backup) some in
       let long = length-map backup (λ u. u.address) in
       let lt : k < length backup = omega (arith, long, below) in
@@ -119,7 +119,7 @@ module _ (backup : List Kept) (v w : View) (r : Restoring backup (length backup)
       kept_value memory (addresses_kept backup) (at backup k) (subst (λ ks. Contains ks (at backup k)) taken (Contains-get_or backup k nothing lt)) in
       subst (λ b. word_of (signed w.base) b ≡ word_of memory b) address (r.done k lt ∙ value)
 
-  pub restored_start : (memory : List ℤ) → backup ≡ words_at memory (addresses_kept backup) → DiffersOnlyAt (addresses_kept backup) memory (signed v.base) → signed w.base ≡ memory
-  restored_start memory taken differs =
+  pub restored-start : (memory : List ℤ) → backup ≡ words_at memory (addresses_kept backup) → DiffersOnlyAt (addresses_kept backup) memory (signed v.base) → signed w.base ≡ memory
+  restored-start memory taken differs =
       let long = length-signed w.base ∙ r.width ∙ sym (length-signed v.base) ∙ sym differs.length in
-      ext_get_or (pos 0) (signed w.base) memory long (λ a below. by_address memory taken differs a (has a (addresses_kept backup)) refl)
+      ext_get_or (pos 0) (signed w.base) memory long (λ a below. by-address memory taken differs a (has a (addresses_kept backup)) refl)

@@ -8,7 +8,7 @@ use Rattle.nest_lang.specs.Statements.{block_trace, instance_trace, announced}
 use Rattle.block_exec.specs.Watches.{Chain}
 use Rattle.block_exec.proofs.AnnounceLaws.{announced-scalars}
 use Rattle.block_exec.proofs.ChainLaws.{chain-append}
-use Rattle.block_exec.proofs.InstanceLaws.{cut-instance, cut-no_instance, seen-instance, seen-no_instance}
+use Rattle.block_exec.proofs.InstanceLaws.{cut-instance, cut-no-instance, seen-instance, seen-no-instance}
 use Rattle.block_exec.proofs.StatementLaws.{without-locals}
 use Rattle.block_exec.specs.Moments.{Ran}
 use Rattle.block_exec.specs.declared.context.Run.{Run}
@@ -34,10 +34,10 @@ module _ {P W : Type 0} (memory : P → List ℤ) (expects : P → Expectation) 
         shown = rw (seen-instance, announced-scalars) (chain-append may _ _ _ _ _ shown seen);
       }
 
-  pub ran-no_instance : (block : List Stmt) (old : Run P W) → length block ≡ 0 → Ran may (instance_trace (frame_at site (expects old.port.now)) block) (outside memory old) (outside memory old) Done
-  ran-no_instance [] old none =
+  pub ran-no-instance : (block : List Stmt) (old : Run P W) → length block ≡ 0 → Ran may (instance_trace (frame_at site (expects old.port.now)) block) (outside memory old) (outside memory old) Done
+  ran-no-instance [] old none =
       record {
-        cut = sym (cut-no_instance _ _ _ _ _);
-        shown = rw seen-no_instance refl;
+        cut = sym (cut-no-instance _ _ _ _ _);
+        shown = rw seen-no-instance refl;
       }
-  ran-no_instance (x ∷ xs) old none = absurd (omega (arith, none))
+  ran-no-instance (x ∷ xs) old none = absurd (omega (arith, none))

@@ -37,9 +37,9 @@ head-zeros f lower upper stride memory scalars =
     ap₂ (λ (a b : Told). then_head a.seen a.value (λ from. then_head b.seen b.value (λ to. heading (shown f Lower from ∷ shown f Trip (pos (trip_count from to stride)) ∷ []) (Ok (Bounds from (trip_count from to stride))))))
     (told-zeros f scalars (look_load f.expects memory) 16 lower) (told-zeros f scalars (look_load f.expects memory) 16 upper)
 
-pub head-zeros_while : (f : Frame) (condition : Expr) (memory scalars : List ℤ) → head_of f (While condition) (store_of memory scalars (replicate 16 (pos 0))) ≡ head_of f (While condition) (store_of memory scalars [])
+pub head-zeros-while : (f : Frame) (condition : Expr) (memory scalars : List ℤ) → head_of f (While condition) (store_of memory scalars (replicate 16 (pos 0))) ≡ head_of f (While condition) (store_of memory scalars [])
 unfolding head_of
-head-zeros_while f condition memory scalars =
+head-zeros-while f condition memory scalars =
     ap (λ (a : Told). then_head a.seen a.value (λ v. heading (shown f Condition (as_number (not (same v (pos 0)))) ∷ []) (Ok (Tested (not (same v (pos 0)))))))
     (told-zeros f scalars (look_load f.expects memory) 16 condition)
 
@@ -57,4 +57,4 @@ bounds-shown memory expects basis may site a b v w lower upper stride x y trip l
     let end = rw count at last in
     rw (sym is, sym value) (chain-append may _ _ _ _ _ first (chain-append may _ _ _ _ _ rest end))
 
-pub ruleset heads = (head-zeros, head-zeros_while, announced-scalars, shows-none, shows-some, chain-append, append-nil)
+pub ruleset heads = (head-zeros, head-zeros-while, announced-scalars, shows-none, shows-some, chain-append, append-nil)

@@ -60,10 +60,10 @@ seen-instance f x xs s left =
     rw (first.2) (seen-shown_before (announced f s) first.0 first.1 left)
 
 -- a block without statements has no instance
-pub cut-no_instance : (f : Frame) (s t : Store) (left used : ℕ) → cut (instance_trace f [] s) t left used ≡ cut_of t left used Done
+pub cut-no-instance : (f : Frame) (s t : Store) (left used : ℕ) → cut (instance_trace f [] s) t left used ≡ cut_of t left used Done
 unfolding instance_trace block_trace
-cut-no_instance f s t left used = cut-end None t left used
+cut-no-instance f s t left used = cut-end None t left used
 
-pub seen-no_instance : (f : Frame) (s : Store) (left : ℕ) → seen_in (instance_trace f [] s) left ≡ []
+pub seen-no-instance : (f : Frame) (s : Store) (left : ℕ) → seen_in (instance_trace f [] s) left ≡ []
 unfolding instance_trace block_trace seen_in
-seen-no_instance f s left = refl
+seen-no-instance f s left = refl

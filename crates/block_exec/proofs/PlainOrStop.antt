@@ -19,7 +19,7 @@ use Rattle.nest_lang.specs.Expressions.{Frame, shown, Told, telling, then_tell, 
 use Rattle.nest_lang.specs.Statements.{with_value, stored, statement_level, statement_trace, block_trace, started, announced, shown_before, instance_trace}
 use Rattle.nest_lang.specs.Heads.{Yield, Headed, heading, then_head, head_of, head_step}
 use Rattle.block_exec.specs.Laws.{head_trace, IsUnexpected, StopsUnexpected, InstancesArePlainOrStop}
-use Rattle.nest_lang.proofs.StepLaws.{told-rolled, statement-rolled, with_value-before, stored-before, stored-seen, value_step, store_step, value_step-before, head_step-before, head_step-seen}
+use Rattle.nest_lang.proofs.StepLaws.{told-rolled, statement-rolled, with_value-before, stored-before, stored-seen, value-step, store-step, value-step-before, head_step-before, head_step-seen}
 
 abbrev Begins : List Observation → List Observation → Type 0
 Begins xs ys = (more : List Observation) × (ys ≡ xs ++ more)
@@ -323,28 +323,28 @@ module _ (f : Frame) where
   chosen-up true x y x' y' first second = first
   chosen-up false x y x' y' first second = second
 
-  abbrev if_step : List (Store → Trace) → List (Store → Trace) → List Observation → ℤ → Transition
-  if_step first second os v = step_of [] os Nothing None (if same v (pos 0) then second else first)
+  abbrev if-step : List (Store → Trace) → List (Store → Trace) → List Observation → ℤ → Transition
+  if-step first second os v = step_of [] os Nothing None (if same v (pos 0) then second else first)
 
   if-up : (first second first' second' : List (Store → Trace)) (p q : Told) (s : Store) → UpOn (in_turn first) (in_turn first') → UpOn (in_turn second) (in_turn second') → ToldUp p q
-      → Up (traced (with_value p.seen p.value (if_step first second p.seen)) s) (traced (with_value q.seen q.value (if_step first' second' q.seen)) s)
+      → Up (traced (with_value p.seen p.value (if-step first second p.seen)) s) (traced (with_value q.seen q.value (if-step first' second' q.seen)) s)
   if-up first second first' second' p q s on on' (inl e) =
-      subst (λ (r : Told). Up (traced (with_value p.seen p.value (if_step first second p.seen)) s) (traced (with_value r.seen r.value (if_step first' second' r.seen)) s)) e
-      (with_value-up p.seen p.value (if_step first second p.seen) (if_step first' second' p.seen) s
+      subst (λ (r : Told). Up (traced (with_value p.seen p.value (if-step first second p.seen)) s) (traced (with_value r.seen r.value (if-step first' second' r.seen)) s)) e
+      (with_value-up p.seen p.value (if-step first second p.seen) (if-step first' second' p.seen) s
       (λ z. up-joined None ((step_of [] p.seen Nothing None []).entry ∷ []) (in_turn (if same z (pos 0) then second else first) s) (in_turn (if same z (pos 0) then second' else first') s) (chosen-up (same z (pos 0)) second first second' first' on' on s)))
   if-up first second first' second' p q s on on' (inr r) =
-      let b = with_value-begins q.seen q.seen q.value (if_step first' second' q.seen) (begins-same q.seen q.seen refl) (λ z. begins-same q.seen q.seen refl) in
-      up-step (with_value p.seen p.value (if_step first second p.seen)) (with_value q.seen q.value (if_step first' second' q.seen)) s
-      (value-refused p.seen p.value (if_step first second p.seen) (with_value q.seen q.value (if_step first' second' q.seen)) (refused-begins p.seen q.seen _ p.value r b) (with_value-before q.seen q.value (if_step first' second' q.seen) (λ z. refl)))
+      let b = with_value-begins q.seen q.seen q.value (if-step first' second' q.seen) (begins-same q.seen q.seen refl) (λ z. begins-same q.seen q.seen refl) in
+      up-step (with_value p.seen p.value (if-step first second p.seen)) (with_value q.seen q.value (if-step first' second' q.seen)) s
+      (value-refused p.seen p.value (if-step first second p.seen) (with_value q.seen q.value (if-step first' second' q.seen)) (refused-begins p.seen q.seen _ p.value r b) (with_value-before q.seen q.value (if-step first' second' q.seen) (λ z. refl)))
 
-  value-begins : (access : ℕ) (a e : Told) (found : ℤ → Result ℤ Halt) (z : ℤ) → Begins (a.seen ++ e.seen) (value_step f access a e found z).entry.seen
+  value-begins : (access : ℕ) (a e : Told) (found : ℤ → Result ℤ Halt) (z : ℤ) → Begins (a.seen ++ e.seen) (value-step f access a e found z).entry.seen
   value-begins access a e found z =
       with_value-begins (a.seen ++ e.seen) (a.seen ++ e.seen) e.value (λ v. stored (a.seen ++ e.seen ++ shown f (Address access) z ∷ []) z v (found z)) (begins-same (a.seen ++ e.seen) (a.seen ++ e.seen) refl)
       (λ v. (shown f (Address access) z ∷ [], stored-seen (a.seen ++ e.seen ++ shown f (Address access) z ∷ []) z v (found z)))
 
-  store-begins : (access : ℕ) (a e : Told) (found : ℤ → Result ℤ Halt) → Begins a.seen (store_step f access a e found).entry.seen
+  store-begins : (access : ℕ) (a e : Told) (found : ℤ → Result ℤ Halt) → Begins a.seen (store-step f access a e found).entry.seen
   store-begins access a e found =
-      with_value-begins a.seen a.seen a.value (value_step f access a e found) (begins-same a.seen a.seen refl)
+      with_value-begins a.seen a.seen a.value (value-step f access a e found) (begins-same a.seen a.seen refl)
       (λ z. let b = value-begins access a e found z in (e.seen ++ b.0, b.1 ∙ append_assoc a.seen e.seen b.0))
 
   stored-up : (access : ℕ) (seen : List Observation) (z v : ℤ) (r r' : Result ℤ Halt) (s : Store) → Looks access z r r'
@@ -368,60 +368,60 @@ module _ (f : Frame) where
       })
 
   value-up : (access : ℕ) (a e e' : Told) (found found' : ℤ → Result ℤ Halt) (s : Store) (z : ℤ) → ToldUp e e' → Looks access z (found z) (found' z)
-      → Up (traced (value_step f access a e found z) s) (traced (value_step f access a e' found' z) s)
+      → Up (traced (value-step f access a e found z) s) (traced (value-step f access a e' found' z) s)
   value-up access a e e' found found' s z (inr r) fu =
-      up-step (value_step f access a e found z) (value_step f access a e' found' z) s
-      (value-refused (a.seen ++ e.seen) e.value (λ v. stored (a.seen ++ e.seen ++ shown f (Address access) z ∷ []) z v (found z)) (value_step f access a e' found' z)
-      (refused-begins (a.seen ++ e.seen) (a.seen ++ e'.seen) _ e.value (refused-behind a.seen e.seen e'.seen e.value r) (value-begins access a e' found' z)) (value_step-before f access a e' found' z))
+      up-step (value-step f access a e found z) (value-step f access a e' found' z) s
+      (value-refused (a.seen ++ e.seen) e.value (λ v. stored (a.seen ++ e.seen ++ shown f (Address access) z ∷ []) z v (found z)) (value-step f access a e' found' z)
+      (refused-begins (a.seen ++ e.seen) (a.seen ++ e'.seen) _ e.value (refused-behind a.seen e.seen e'.seen e.value r) (value-begins access a e' found' z)) (value-step-before f access a e' found' z))
   value-up access a e e' found found' s z (inl se) fu =
-      subst (λ (r : Told). Up (traced (value_step f access a e found z) s) (traced (value_step f access a r found' z) s)) se
+      subst (λ (r : Told). Up (traced (value-step f access a e found z) s) (traced (value-step f access a r found' z) s)) se
       (with_value-up (a.seen ++ e.seen) e.value (λ v. stored (a.seen ++ e.seen ++ shown f (Address access) z ∷ []) z v (found z)) (λ v. stored (a.seen ++ e.seen ++ shown f (Address access) z ∷ []) z v (found' z)) s
       (λ v. stored-up access (a.seen ++ e.seen) z v (found z) (found' z) s fu))
 
   store-up : (access : ℕ) (a a' e e' : Told) (found found' : ℤ → Result ℤ Halt) (s : Store) → ToldUp a a' → ToldUp e e' → ((z : ℤ) → Looks access z (found z) (found' z))
-      → Up (traced (store_step f access a e found) s) (traced (store_step f access a' e' found') s)
+      → Up (traced (store-step f access a e found) s) (traced (store-step f access a' e' found') s)
   store-up access a a' e e' found found' s (inr r) eu fu =
-      up-step (store_step f access a e found) (store_step f access a' e' found') s
-      (value-refused a.seen a.value (value_step f access a e found) (store_step f access a' e' found') (refused-begins a.seen a'.seen _ a.value r (store-begins access a' e' found'))
-      (with_value-before a'.seen a'.value (value_step f access a' e' found') (value_step-before f access a' e' found')))
+      up-step (store-step f access a e found) (store-step f access a' e' found') s
+      (value-refused a.seen a.value (value-step f access a e found) (store-step f access a' e' found') (refused-begins a.seen a'.seen _ a.value r (store-begins access a' e' found'))
+      (with_value-before a'.seen a'.value (value-step f access a' e' found') (value-step-before f access a' e' found')))
   store-up access a a' e e' found found' s (inl sa) eu fu =
-      subst (λ (r : Told). Up (traced (store_step f access a e found) s) (traced (store_step f access r e' found') s)) sa
-      (with_value-up a.seen a.value (value_step f access a e found) (value_step f access a e' found') s (λ z. value-up access a e e' found found' s z eu (fu z)))
+      subst (λ (r : Told). Up (traced (store-step f access a e found) s) (traced (store-step f access r e' found') s)) sa
+      (with_value-up a.seen a.value (value-step f access a e found) (value-step f access a e' found') s (λ z. value-up access a e e' found found' s z eu (fu z)))
 
-  Runs_up : Stmt → Type 0
-  Runs_up st = UpOn (statement_trace f st) (statement_trace g st)
+  Runs-up : Stmt → Type 0
+  Runs-up st = UpOn (statement_trace f st) (statement_trace g st)
 
-  statements-up : (xs : List ((st : Stmt) × Runs_up st)) → UpOn (in_turn (map (statement_trace f) (map (λ e. e.0) xs))) (in_turn (map (statement_trace g) (map (λ e. e.0) xs)))
-  unfolding Runs_up
+  statements-up : (xs : List ((st : Stmt) × Runs-up st)) → UpOn (in_turn (map (statement_trace f) (map (λ e. e.0) xs))) (in_turn (map (statement_trace g) (map (λ e. e.0) xs)))
+  unfolding Runs-up
   statements-up [] s = inl refl
   statements-up (st ∷ xs) s = up-and_then s _ _ _ _ (st.1 s) (statements-up xs)
 
-  statement_level-up : (y : Stmt-F ((st : Stmt) × Runs_up st)) → UpOn (λ s. traced (statement_level f (map-Stmt _ _ (statement_trace f) (map-Stmt _ _ (λ e. e.0) y)) s) s) (λ s. traced (statement_level g (map-Stmt _ _ (statement_trace g) (map-Stmt _ _ (λ e. e.0) y)) s) s)
-  unfolding Runs_up
+  statement_level-up : (y : Stmt-F ((st : Stmt) × Runs-up st)) → UpOn (λ s. traced (statement_level f (map-Stmt _ _ (statement_trace f) (map-Stmt _ _ (λ e. e.0) y)) s) s) (λ s. traced (statement_level g (map-Stmt _ _ (statement_trace g) (map-Stmt _ _ (λ e. e.0) y)) s) s)
+  unfolding Runs-up
   statement_level-up (Stmt-F.Let number e) s = set-up (λ v os. step_of [] os (Local number v) None []) _ _ s (λ z os. refl) (λ z os. refl) (told-up s e)
   statement_level-up (Stmt-F.Set number e) s = set-up (λ v os. step_of [] os (Scalar number v) None []) _ _ s (λ z os. refl) (λ z os. refl) (told-up s e)
   statement_level-up (Stmt-F.Store access a e) s =
       store-up access _ _ _ _ (λ z. or_stopped access (look_store f.expects s.memory access z)) (λ z. or_stopped access (look_store plain s.memory access z)) s (told-up s a) (told-up s e) (λ z. look-up (f.expects.stores access) s.memory access z (inr refl))
   statement_level-up (Stmt-F.If e first second) s = if-up _ _ _ _ _ _ s (statements-up first) (statements-up second) (told-up s e)
 
-  every_statement-up : (st : Stmt) → Runs_up st
-  unfolding Runs_up
-  every_statement-up = ind-Stmt Runs_up (λ y z is. subst (λ w. Runs_up (roll-Stmt w)) is
+  every-statement-up : (st : Stmt) → Runs-up st
+  unfolding Runs-up
+  every-statement-up = ind-Stmt Runs-up (λ y z is. subst (λ w. Runs-up (roll-Stmt w)) is
       (subst (λ (p : Store → Trace). UpOn p (statement_trace g (roll-Stmt (map-Stmt _ _ (λ e. e.0) z)))) (sym (statement-rolled f (map-Stmt _ _ (λ e. e.0) z)))
       (subst (λ (q : Store → Trace). UpOn (λ s. traced (statement_level f (map-Stmt _ _ (statement_trace f) (map-Stmt _ _ (λ e. e.0) z)) s) s) q) (sym (statement-rolled g (map-Stmt _ _ (λ e. e.0) z))) (statement_level-up z))))
 
   block-up : (block : List Stmt) → UpOn (block_trace f block) (block_trace g block)
-  unfolding Runs_up block_trace
+  unfolding Runs-up block_trace
   block-up [] s = inl refl
-  block-up (st ∷ block) s = up-and_then s _ _ _ _ (every_statement-up st s) (block-up block)
+  block-up (st ∷ block) s = up-and_then s _ _ _ _ (every-statement-up st s) (block-up block)
 
   instance-up : (block : List Stmt) → UpOn (instance_trace f block) (instance_trace g block)
   unfolding instance_trace announced
-  instance-up block s = at_first (block_trace f block (started s)) (block_trace g block (started s)) (block-up block (started s))
+  instance-up block s = at-first (block_trace f block (started s)) (block_trace g block (started s)) (block-up block (started s))
     where
-      at_first : (t u : Trace) → Up t u → Up (record t { entries = shown_before (announced f s) t.entries }) (record u { entries = shown_before (announced g s) u.entries })
-      at_first t u (inl e) = inl (ap (λ (w : Trace). record w { entries = shown_before (announced f s) w.entries }) e)
-      at_first t u (inr p) = stops p.shared p.stopped p.goes
+      at-first : (t u : Trace) → Up t u → Up (record t { entries = shown_before (announced f s) t.entries }) (record u { entries = shown_before (announced g s) u.entries })
+      at-first t u (inl e) = inl (ap (λ (w : Trace). record w { entries = shown_before (announced f s) w.entries }) e)
+      at-first t u (inr p) = stops p.shared p.stopped p.goes
         where
           stops : (shared : List Entry) → t ≡ record { entries = shared ++ p.last ∷ []; halt = Some (Stopped p.access p.address p.line) } → u.entries ≡ shared ++ p.other ∷ p.more
               → Up (record t { entries = shown_before (announced f s) t.entries }) (record u { entries = shown_before (announced g s) u.entries })

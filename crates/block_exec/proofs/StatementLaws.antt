@@ -5,7 +5,7 @@ use Rattle.nest_lang.specs.Stores.{Store, store_of, Effect, Nothing, Local, Scal
 use Rattle.nest_lang.specs.Traces.{Observation, Entry, Trace, Finish, Done, Cut, cut_of, cut, seen_in, after_all}
 use Rattle.nest_lang.specs.Expressions.{Frame}
 use Rattle.nest_lang.specs.Statements.{statement_trace, block_trace}
-use Rattle.nest_lang.proofs.Cuts.{cut-step, cut-end, seen-step, seen-ends, rest_seen, rest_seen-not, trace_of, cut-stop, cut-cons}
+use Rattle.nest_lang.proofs.Cuts.{cut-step, cut-end, seen-step, seen-ends, rest_seen, rest-seen-not, trace_of, cut-stop, cut-cons}
 use Rattle.nest_lang.proofs.StatementLemmas.{statements, run-next, run-out, block-end, seen-block-end, seen-block-at}
 use Rattle.block_exec.specs.Watches.{Chain}
 use Rattle.block_exec.proofs.ChainLaws.{chain-append, chain-one}
@@ -22,7 +22,7 @@ shown-next may f xs i x s s' left used left' used' e w0 w w' whole run is h item
 pub shown-out : {W : Type 0} (may : W → Observation → W → Type 0) (f : Frame) (xs : List Stmt) (i : ℕ) (x : Stmt) (s s' : Store) (left used left' used' : ℕ) (e : Finish) (w0 w w' : W) (whole : List Observation) → cut_of s' left' used' e ≡ cut (statement_trace f x s) s left used → (e ≡ Done → ⊥) → i < length xs → x ≡ get_or xs i x → Chain may w (seen_in (statement_trace f x s) left) w' → ((v : W) → Chain may w (seen_in (block_trace f (drop i xs) s) left) v → Chain may w0 whole v) → Chain may w0 whole w'
 shown-out may f xs i x s s' left used left' used' e w0 w w' whole run other h item step go =
     let next : seen_in (block_trace f (drop i xs) s) left ≡ seen_in (statement_trace f x s) left ++ [] =
-    seen-block-at f xs i x s left used h item ∙ ap (λ k. seen_in (statement_trace f x s) left ++ rest_seen k (block_trace f (drop (i + 1) xs))) (sym run) ∙ ap (λ z. seen_in (statement_trace f x s) left ++ z) (rest_seen-not e s' left' (block_trace f (drop (i + 1) xs)) other) in
+    seen-block-at f xs i x s left used h item ∙ ap (λ k. seen_in (statement_trace f x s) left ++ rest_seen k (block_trace f (drop (i + 1) xs))) (sym run) ∙ ap (λ z. seen_in (statement_trace f x s) left ++ z) (rest-seen-not e s' left' (block_trace f (drop (i + 1) xs)) other) in
     go w' (rw (next, append-nil) step)
 
 -- a store outside of blocks

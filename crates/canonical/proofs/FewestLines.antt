@@ -85,9 +85,9 @@ count-otherwise l (y ∷ ys) depth =
     let e = count-line depth else_line in
     omega (arith, c, d, e)
 
-count-no_else : (l : Labels) (depth : ℕ) → count (otherwise l [] depth) ≡ 0
+count-no-else : (l : Labels) (depth : ℕ) → count (otherwise l [] depth) ≡ 0
 unfolding otherwise
-count-no_else l depth = refl
+count-no-else l depth = refl
 
 count-nothing : (l : Labels) (depth : ℕ) → count (statement_lines l [] depth) ≡ 0
 unfolding statement_lines
@@ -118,7 +118,7 @@ mutual
       let f = fewest-expression l names (skip (opens s)) a t i in let b = fewest-expression l names (skip (skip t)) e u j in
       omega (arith, c, x, y, z, f, b)
   fewest-statement l (when {d} {names} {e} {xs} {s} {t} {u} h i b) depth =
-      let c = count-if l e xs [] depth in let o = count-no_else l depth in let x = used-mark s mark.If h in
+      let c = count-if l e xs [] depth in let o = count-no-else l depth in let x = used-mark s mark.If h in
       let f = fewest-expression l names (skip s) e t i in let g = fewest-braced l b (depth + 1) in
       omega (arith, c, o, x, f, g)
   fewest-statement l (either {d} {names} {e} {xs} {ys} {s} {t} {u} {v} h i b k c) depth =
@@ -197,14 +197,14 @@ count-loops l level h pre post ls =
     let e = count-line level close_line in
     ap count (loops-more l level (record { head = h; pre = pre; post = post }) ls) ∙ omega (arith, w, x, y, z, o, e)
 
-count-no_loops : (l : Labels) (level : ℕ) → count (loop_lines l level []) ≡ 0
+count-no-loops : (l : Labels) (level : ℕ) → count (loop_lines l level []) ≡ 0
 unfolding loop_lines
-count-no_loops l level = refl
+count-no-loops l level = refl
 
 fewest-loops : (l : Labels) {d level : ℕ} {names : Names} {s : Sight} {ls : List Loop} {ns : List LoopNames} {t : Sight} → IsLoops d level names s ls ns t → count (loop_lines l level ls) + length t.left ≤ length s.left
 unfolding skip
 fewest-loops l (innermost {d} {level} {names} {h} {n} {pre} {lets} {s} {t} {u} i o b ne c) =
-    let k = count-loops l level h pre [] [] in let e = count-no_loops l (level + 1) in let p = count-nothing (in_post l level) (level + 1) in
+    let k = count-loops l level h pre [] [] in let e = count-no-loops l (level + 1) in let p = count-nothing (in_post l level) (level + 1) in
     let x = fewest-heading (in_head l) level names s h n t i in let y = used-mark t mark.OpenBrace o in let z = used-mark u mark.CloseBrace c in
     let f = fewest-block (in_pre l level) (inside names level n) (skip t) pre lets u b (level + 1) in
     omega (arith, k, e, p, x, y, z, f)

@@ -144,25 +144,25 @@ all : {X : Type 0} {A : State → Type 0} (f : X → List Piece) → ((x : X) �
 all f h [] = nil
 all f h (x ∷ xs) = h x then all f h xs
 
-open_sign : Runs Any (plain mark.Open ∷ []) Open
+open-sign : Runs Any (plain mark.Open ∷ []) Open
 unfolding is_sign with_equals
-open_sign = signs mark.Open refl refl
+open-sign = signs mark.Open refl refl
 
-close_sign : Runs Any (plain mark.Close ∷ []) Any
+close-sign : Runs Any (plain mark.Close ∷ []) Any
 unfolding is_sign with_equals
-close_sign = ended (signs mark.Close refl refl)
+close-sign = ended (signs mark.Close refl refl)
 
-open_bracket : Runs Any (plain mark.OpenBracket ∷ []) Open
+open-bracket : Runs Any (plain mark.OpenBracket ∷ []) Open
 unfolding is_sign with_equals
-open_bracket = signs mark.OpenBracket refl refl
+open-bracket = signs mark.OpenBracket refl refl
 
-close_bracket : Runs Any (plain mark.CloseBracket ∷ []) Any
+close-bracket : Runs Any (plain mark.CloseBracket ∷ []) Any
 unfolding is_sign with_equals
-close_bracket = ended (signs mark.CloseBracket refl refl)
+close-bracket = ended (signs mark.CloseBracket refl refl)
 
-minus_sign : Runs Any (plain mark.Minus ∷ []) Open
+minus-sign : Runs Any (plain mark.Minus ∷ []) Open
 unfolding is_sign with_equals
-minus_sign = signs mark.Minus refl refl
+minus-sign = signs mark.Minus refl refl
 
 comma : Runs Any (plain mark.Comma ∷ []) Any
 unfolding is_sign with_equals
@@ -179,44 +179,44 @@ semicolon = ended (signs mark.Semicolon refl refl)
 valued : (z : ℤ) → Runs Open (signed z) Any
 unfolding signed
 valued (pos n) = numbered n
-valued (negsuc n) = opened (minus_sign cons numbered (suc n))
+valued (negsuc n) = opened (minus-sign cons numbered (suc n))
 
 -- Expressions
 
 grouped : (wanted : Group) (x : Printed) → Runs Open x.pieces Any → Runs Open (as_group wanted x) Any
 unfolding as_group
-grouped wanted x h = elim (fits x.group wanted) as (λ b. Runs Open (cond b x.pieces (plain mark.Open ∷ x.pieces ++ plain mark.Close ∷ [])) Any) [ true ↦ h | false ↦ opened (open_sign cons (h then close_sign)) ]
+grouped wanted x h = elim (fits x.group wanted) as (λ b. Runs Open (cond b x.pieces (plain mark.Open ∷ x.pieces ++ plain mark.Close ∷ [])) Any) [ true ↦ h | false ↦ opened (open-sign cons (h then close-sign)) ]
 
 -- the parts of an expression are laid out
-Laid_parts : Expr-F Printed → Type 0
-Laid_parts (Expr-F.Number n) = Unit {0}
-Laid_parts (Expr-F.Var p) = Unit {0}
-Laid_parts (Expr-F.Load k x) = Runs Open x.pieces Any
-Laid_parts (Expr-F.Neg x) = Runs Open x.pieces Any
-Laid_parts (Expr-F.Two o x y) = Runs Open x.pieces Any × Runs Open y.pieces Any
+Laid-parts : Expr-F Printed → Type 0
+Laid-parts (Expr-F.Number n) = Unit {0}
+Laid-parts (Expr-F.Var p) = Unit {0}
+Laid-parts (Expr-F.Load k x) = Runs Open x.pieces Any
+Laid-parts (Expr-F.Neg x) = Runs Open x.pieces Any
+Laid-parts (Expr-F.Two o x y) = Runs Open x.pieces Any × Runs Open y.pieces Any
 
-leveled : (l : Labels) (z : Expr-F Printed) → Laid_parts z → Runs Open (level l z).pieces Any
-unfolding Laid_parts
+leveled : (l : Labels) (z : Expr-F Printed) → Laid-parts z → Runs Open (level l z).pieces Any
+unfolding Laid-parts
 leveled l (Expr-F.Number n) h = valued n
 leveled l (Expr-F.Var p) h = named (label l p)
-leveled l (Expr-F.Load k x) h = opened (open_bracket cons (grouped Whole x h then close_bracket))
-leveled l (Expr-F.Neg x) h = opened (minus_sign cons grouped Unary x h)
+leveled l (Expr-F.Load k x) h = opened (open-bracket cons (grouped Whole x h then close-bracket))
+leveled l (Expr-F.Neg x) h = opened (minus-sign cons grouped Unary x h)
 leveled l (Expr-F.Two o x y) h = (grouped (left_of o) x h.0 then apart (mark_of o)) then clear (grouped (right_of o) y h.1)
 
-parts_laid : (l : Labels) (y : Expr-F ((e : Expr) × Runs Open (printed l e).pieces Any)) → Laid_parts (map-Expr _ _ (printed l) (map-Expr _ _ (λ e. e.0) y))
-unfolding Laid_parts
-parts_laid l (Expr-F.Number n) = tt
-parts_laid l (Expr-F.Var p) = tt
-parts_laid l (Expr-F.Load k x) = x.1
-parts_laid l (Expr-F.Neg x) = x.1
-parts_laid l (Expr-F.Two o x y) = (x.1, y.1)
+parts-laid : (l : Labels) (y : Expr-F ((e : Expr) × Runs Open (printed l e).pieces Any)) → Laid-parts (map-Expr _ _ (printed l) (map-Expr _ _ (λ e. e.0) y))
+unfolding Laid-parts
+parts-laid l (Expr-F.Number n) = tt
+parts-laid l (Expr-F.Var p) = tt
+parts-laid l (Expr-F.Load k x) = x.1
+parts-laid l (Expr-F.Neg x) = x.1
+parts-laid l (Expr-F.Two o x y) = (x.1, y.1)
 
 printed-rolled : (l : Labels) (x : Expr-F Expr) → printed l (roll-Expr x) ≡ level l (map-Expr _ _ (printed l) x)
 unfolding printed
 printed-rolled l x = fold-roll-Expr Printed (level l) x
 
 printing : (l : Labels) (e : Expr) → Runs Open (printed l e).pieces Any
-printing l = ind-Expr (λ e. Runs Open (printed l e).pieces Any) (λ x y is. subst (λ (z : Expr-F Expr). Runs Open (printed l (roll-Expr z)).pieces Any) is (subst (λ (q : Printed). Runs Open q.pieces Any) (sym (printed-rolled l (map-Expr _ _ (λ e. e.0) y))) (leveled l _ (parts_laid l y))))
+printing l = ind-Expr (λ e. Runs Open (printed l e).pieces Any) (λ x y is. subst (λ (z : Expr-F Expr). Runs Open (printed l (roll-Expr z)).pieces Any) is (subst (λ (q : Printed). Runs Open q.pieces Any) (sym (printed-rolled l (map-Expr _ _ (λ e. e.0) y))) (leveled l _ (parts-laid l y))))
 
 expressed : (l : Labels) (e : Expr) → Runs Open (expression_of l e) Any
 unfolding expression_of
@@ -228,77 +228,77 @@ lined : (depth : ℕ) (ps : List Piece) → Runs Clear ps Any → Runs Clear (li
 unfolding line
 lined depth ps h = indent depth cons (h then newline)
 
-let_lined : (l : Labels) (k : ℕ) (e : Expr) → Runs Clear (let_line l k e) Any
+let-lined : (l : Labels) (k : ℕ) (e : Expr) → Runs Clear (let_line l k e) Any
 unfolding let_line
-let_lined l k e = marked mark.Let cons space cons clear (named _) cons (apart mark.Assign then clear (expressed l e))
+let-lined l k e = marked mark.Let cons space cons clear (named _) cons (apart mark.Assign then clear (expressed l e))
 
-set_lined : (l : Labels) (k : ℕ) (e : Expr) → Runs Clear (set_line l k e) Any
+set-lined : (l : Labels) (k : ℕ) (e : Expr) → Runs Clear (set_line l k e) Any
 unfolding set_line
-set_lined l k e = clear (named _) cons (apart mark.Assign then clear (expressed l e))
+set-lined l k e = clear (named _) cons (apart mark.Assign then clear (expressed l e))
 
-store_lined : (l : Labels) (a e : Expr) → Runs Clear (store_line l a e) Any
+store-lined : (l : Labels) (a e : Expr) → Runs Clear (store_line l a e) Any
 unfolding store_line
-store_lined l a e = anywhere open_bracket cons ((expressed l a then (close_bracket cons apart mark.Assign)) then clear (expressed l e))
+store-lined l a e = anywhere open-bracket cons ((expressed l a then (close-bracket cons apart mark.Assign)) then clear (expressed l e))
 
-if_lined : (l : Labels) (e : Expr) → Runs Clear (if_line l e) Any
+if-lined : (l : Labels) (e : Expr) → Runs Clear (if_line l e) Any
 unfolding if_line
-if_lined l e = marked mark.If cons space cons (clear (expressed l e) then (space cons marked mark.OpenBrace))
+if-lined l e = marked mark.If cons space cons (clear (expressed l e) then (space cons marked mark.OpenBrace))
 
-close_brace : Runs Any (plain mark.CloseBrace ∷ []) Any
+close-brace : Runs Any (plain mark.CloseBrace ∷ []) Any
 unfolding is_sign with_equals
-close_brace = ended (signs mark.CloseBrace refl refl)
+close-brace = ended (signs mark.CloseBrace refl refl)
 
-else_lined : Runs Clear else_line Any
-else_lined = anywhere close_brace cons (apart mark.Else then marked mark.OpenBrace)
+else-lined : Runs Clear else_line Any
+else-lined = anywhere close-brace cons (apart mark.Else then marked mark.OpenBrace)
 
-close_lined : Runs Clear close_line Any
-close_lined = anywhere close_brace
+close-lined : Runs Clear close_line Any
+close-lined = anywhere close-brace
 
 abbrev LaidLines : Lines → Type 0
 LaidLines x = (depth : ℕ) → Runs Clear (x depth) Clear
 
 -- the statements in a statement are laid out
-Laid_within : Stmt-F Lines → Type 0
-Laid_within (Stmt-F.If e xs ys) = AllByRecursion LaidLines xs × AllByRecursion LaidLines ys
-Laid_within _ = Unit {0}
+Laid-within : Stmt-F Lines → Type 0
+Laid-within (Stmt-F.If e xs ys) = AllByRecursion LaidLines xs × AllByRecursion LaidLines ys
+Laid-within _ = Unit {0}
 
-laid_each : (xs : List Lines) → AllByRecursion LaidLines xs → (depth : ℕ) → Runs Clear (each xs depth) Clear
-laid_each [] h depth = nil
-laid_each (x ∷ xs) h depth = h.0 depth then laid_each xs h.1 depth
+laid-each : (xs : List Lines) → AllByRecursion LaidLines xs → (depth : ℕ) → Runs Clear (each xs depth) Clear
+laid-each [] h depth = nil
+laid-each (x ∷ xs) h depth = h.0 depth then laid-each xs h.1 depth
 
-laid_else : (xs : List Lines) → AllByRecursion LaidLines xs → (depth : ℕ) → Runs Clear (else_branch xs depth) Clear
-laid_else [] h depth = nil
-laid_else (x ∷ xs) h depth = lined depth else_line else_lined then laid_each (x ∷ xs) h (depth + 1)
+laid-else : (xs : List Lines) → AllByRecursion LaidLines xs → (depth : ℕ) → Runs Clear (else_branch xs depth) Clear
+laid-else [] h depth = nil
+laid-else (x ∷ xs) h depth = lined depth else_line else-lined then laid-each (x ∷ xs) h (depth + 1)
 
-laid_level : (l : Labels) (z : Stmt-F Lines) → Laid_within z → LaidLines (statement_level l z)
-unfolding Laid_within
-laid_level l (Stmt-F.Let k e) h depth = lined depth (let_line l k e) (let_lined l k e)
-laid_level l (Stmt-F.Set k e) h depth = lined depth (set_line l k e) (set_lined l k e)
-laid_level l (Stmt-F.Store access a e) h depth = lined depth (store_line l a e) (store_lined l a e)
-laid_level l (Stmt-F.If e xs ys) h depth = ((lined depth (if_line l e) (if_lined l e) then laid_each xs h.0 (depth + 1)) then laid_else ys h.1 depth) then lined depth close_line close_lined
+laid-level : (l : Labels) (z : Stmt-F Lines) → Laid-within z → LaidLines (statement_level l z)
+unfolding Laid-within
+laid-level l (Stmt-F.Let k e) h depth = lined depth (let_line l k e) (let-lined l k e)
+laid-level l (Stmt-F.Set k e) h depth = lined depth (set_line l k e) (set-lined l k e)
+laid-level l (Stmt-F.Store access a e) h depth = lined depth (store_line l a e) (store-lined l a e)
+laid-level l (Stmt-F.If e xs ys) h depth = ((lined depth (if_line l e) (if-lined l e) then laid-each xs h.0 (depth + 1)) then laid-else ys h.1 depth) then lined depth close_line close-lined
 
-laid_mapped : (l : Labels) (xs : List ((st : Stmt) × LaidLines (statement_of l st))) → AllByRecursion LaidLines (map (statement_of l) (map (λ e. e.0) xs))
-laid_mapped l [] = tt
-laid_mapped l (x ∷ xs) = (x.1, laid_mapped l xs)
+laid-mapped : (l : Labels) (xs : List ((st : Stmt) × LaidLines (statement_of l st))) → AllByRecursion LaidLines (map (statement_of l) (map (λ e. e.0) xs))
+laid-mapped l [] = tt
+laid-mapped l (x ∷ xs) = (x.1, laid-mapped l xs)
 
-within_laid : (l : Labels) (y : Stmt-F ((st : Stmt) × LaidLines (statement_of l st))) → Laid_within (map-Stmt _ _ (statement_of l) (map-Stmt _ _ (λ e. e.0) y))
-unfolding Laid_within
-within_laid l (Stmt-F.Let k e) = tt
-within_laid l (Stmt-F.Set k e) = tt
-within_laid l (Stmt-F.Store access a e) = tt
-within_laid l (Stmt-F.If e xs ys) = (laid_mapped l xs, laid_mapped l ys)
+within-laid : (l : Labels) (y : Stmt-F ((st : Stmt) × LaidLines (statement_of l st))) → Laid-within (map-Stmt _ _ (statement_of l) (map-Stmt _ _ (λ e. e.0) y))
+unfolding Laid-within
+within-laid l (Stmt-F.Let k e) = tt
+within-laid l (Stmt-F.Set k e) = tt
+within-laid l (Stmt-F.Store access a e) = tt
+within-laid l (Stmt-F.If e xs ys) = (laid-mapped l xs, laid-mapped l ys)
 
 statement-rolled : (l : Labels) (x : Stmt-F Stmt) → statement_of l (roll-Stmt x) ≡ statement_level l (map-Stmt _ _ (statement_of l) x)
 unfolding statement_of
 statement-rolled l x = fold-roll-Stmt Lines (statement_level l) x
 
 stated : (l : Labels) (st : Stmt) → LaidLines (statement_of l st)
-stated l = ind-Stmt (λ st. LaidLines (statement_of l st)) (λ x y is. subst (λ (z : Stmt-F Stmt). LaidLines (statement_of l (roll-Stmt z))) is (subst LaidLines (sym (statement-rolled l (map-Stmt _ _ (λ e. e.0) y))) (laid_level l _ (within_laid l y))))
+stated l = ind-Stmt (λ st. LaidLines (statement_of l st)) (λ x y is. subst (λ (z : Stmt-F Stmt). LaidLines (statement_of l (roll-Stmt z))) is (subst LaidLines (sym (statement-rolled l (map-Stmt _ _ (λ e. e.0) y))) (laid-level l _ (within-laid l y))))
 
-stated_all : (l : Labels) (sts : List Stmt) (depth : ℕ) → Runs Clear (statement_lines l sts depth) Clear
+stated-all : (l : Labels) (sts : List Stmt) (depth : ℕ) → Runs Clear (statement_lines l sts depth) Clear
 unfolding statement_lines
-stated_all l [] depth = nil
-stated_all l (st ∷ sts) depth = stated l st depth then stated_all l sts depth
+stated-all l [] depth = nil
+stated-all l (st ∷ sts) depth = stated l st depth then stated-all l sts depth
 
 -- Loops
 
@@ -322,15 +322,15 @@ opening l level h = lined level (heading_of (in_head l) level h ++ Space ∷ pla
 looped : (l : Labels) (level : ℕ) (xs : List Loop) → Runs Clear (loop_lines l level xs) Clear
 unfolding loop_lines
 looped l level [] = nil
-looped l level (x ∷ xs) = (((opening l level x.head then stated_all (in_pre l level) x.pre (level + 1)) then looped l (level + 1) xs) then stated_all (in_post l level) x.post (level + 1)) then lined level close_line close_lined
+looped l level (x ∷ xs) = (((opening l level x.head then stated-all (in_pre l level) x.pre (level + 1)) then looped l (level + 1) xs) then stated-all (in_post l level) x.post (level + 1)) then lined level close_line close-lined
 
 -- Scripts
 
 operated : (n : ℕ) → Runs Any (operand n) Any
 operated n = space cons clear (numbered n)
 
-operated_signed : (z : ℤ) → Runs Any (signed_operand z) Any
-operated_signed z = space cons clear (valued z)
+operated-signed : (z : ℤ) → Runs Any (signed_operand z) Any
+operated-signed z = space cons clear (valued z)
 
 worded : (w : CommandWord) → Runs Clear (command_name w ∷ []) Any
 worded w = clear (named _)
@@ -339,57 +339,57 @@ commanded : (c : Command) → Runs Clear (command_of c) Any
 unfolding command_of
 commanded (Seq n) = worded _ cons operated n
 commanded (Swap a b) = worded _ cons (operated a then operated b)
-commanded (Skew a b m) = worded _ cons ((operated a then operated b) then operated_signed m)
-commanded (Tile a n) = worded _ cons (operated a then operated_signed n)
+commanded (Skew a b m) = worded _ cons ((operated a then operated b) then operated-signed m)
+commanded (Tile a n) = worded _ cons (operated a then operated-signed n)
 commanded (Par rows) = worded _ cons all operand operated rows.items
 commanded (Wave rows) = worded _ cons all operand operated rows.items
 
-next_commanded : (c : Command) → Runs Any (next_command c) Any
-next_commanded c = semicolon cons space cons commanded c
+next-commanded : (c : Command) → Runs Any (next_command c) Any
+next-commanded c = semicolon cons space cons commanded c
 
 commands : (cs : Script) → Runs Clear (commands_of cs) Clear
 unfolding commands_of
 commands [] = nil
-commands (c ∷ cs) = (commanded c then all next_command next_commanded cs) then space
+commands (c ∷ cs) = (commanded c then all next_command next-commanded cs) then space
 
-candidate_lined : (cs : Script) → Runs Clear (candidate_line cs) Clear
+candidate-lined : (cs : Script) → Runs Clear (candidate_line cs) Clear
 unfolding candidate_line
-candidate_lined cs = lined 0 _ (marked mark.Candidate cons space cons marked mark.OpenBrace cons space cons (commands cs then anywhere close_brace))
+candidate-lined cs = lined 0 _ (marked mark.Candidate cons space cons marked mark.OpenBrace cons space cons (commands cs then anywhere close-brace))
 
 -- Contents
 
-version_lined : (v : Version) → Runs Clear (version_line v) Clear
+version-lined : (v : Version) → Runs Clear (version_line v) Clear
 unfolding version_line
-version_lined v = lined 0 _ (marked mark.Nest cons operated _)
+version-lined v = lined 0 _ (marked mark.Nest cons operated _)
 
-scalar_lined : (c : Scalar) → Runs Clear (scalar_line c) Clear
+scalar-lined : (c : Scalar) → Runs Clear (scalar_line c) Clear
 unfolding scalar_line
-scalar_lined c = lined 0 _ (marked mark.Scalar cons space cons clear (named c.name) cons (apart mark.Assign then clear (valued c.value)))
+scalar-lined c = lined 0 _ (marked mark.Scalar cons space cons clear (named c.name) cons (apart mark.Assign then clear (valued c.value)))
 
-memory_lined : (n : ℕ) → Runs Clear (memory_line n) Clear
+memory-lined : (n : ℕ) → Runs Clear (memory_line n) Clear
 unfolding memory_line
-memory_lined n = lined 0 _ (marked mark.Memory cons operated n)
+memory-lined n = lined 0 _ (marked mark.Memory cons operated n)
 
-next_valued : (v : ℤ) → Runs Any (next_value v) Any
-next_valued v = comma cons operated_signed v
+next-valued : (v : ℤ) → Runs Any (next_value v) Any
+next-valued v = comma cons operated-signed v
 
 values : (vs : List ℤ) → Runs Any (value_list vs) Any
 unfolding value_list
 values [] = nil
-values (v ∷ vs) = operated_signed v then all next_value next_valued vs
+values (v ∷ vs) = operated-signed v then all next_value next-valued vs
 
-item_lined : (i : Item) → Runs Clear (item_line i) Clear
+item-lined : (i : Item) → Runs Clear (item_line i) Clear
 unfolding item_line
-item_lined (Data first vs) = lined 0 _ (marked mark.Data cons (operated first then (colon cons values vs)))
-item_lined (Ramp first count stride start growth) = lined 0 _ (marked mark.Ramp cons ((((operated first then operated count) then operated stride) then operated_signed start) then operated_signed growth))
+item-lined (Data first vs) = lined 0 _ (marked mark.Data cons (operated first then (colon cons values vs)))
+item-lined (Ramp first count stride start growth) = lined 0 _ (marked mark.Ramp cons ((((operated first then operated count) then operated stride) then operated-signed start) then operated-signed growth))
 
 united : (scalars : List Scalar) (u : NestUnit) → Runs Clear (unit_lines scalars u) Clear
 unfolding unit_lines
-united scalars u = looped (labels_in scalars u.names) 0 u.nest.loops then all candidate_line candidate_lined u.scripts
+united scalars u = looped (labels_in scalars u.names) 0 u.nest.loops then all candidate_line candidate-lined u.scripts
 
 filed : (f : File) → Runs Clear (pieces f) Clear
 unfolding pieces
-filed f = (((version_lined f.version then all scalar_line scalar_lined f.scalars) then memory_lined f.words) then all item_line item_lined f.items) then all (unit_lines f.scalars) (united f.scalars) f.units
+filed f = (((version-lined f.version then all scalar_line scalar-lined f.scalars) then memory-lined f.words) then all item_line item-lined f.items) then all (unit_lines f.scalars) (united f.scalars) f.units
 
 file-laid : (f : File) → Laid Free (pieces f)
 file-laid f = subst (λ (l : List Piece). Laid Free l) (append-nil (pieces f)) ((filed f).lays Free tt [] (λ t b. tt))

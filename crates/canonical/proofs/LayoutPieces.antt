@@ -205,15 +205,15 @@ token-from : (t : Token) (s rest : List ℕ) (size : ℕ) (p : ℕ → Bool) →
 token-from t [] rest size p up b h = absurd b
 token-from t (c ∷ cs) rest size p up b h = one-token t c cs rest size (up c b) h
 
-begins_token : ℕ → Bool
-begins_token b = elim (between false b) as (λ o. Bool) [ None ↦ true | Some c ↦ false ]
+begins-token : ℕ → Bool
+begins-token b = elim (between false b) as (λ o. Bool) [ None ↦ true | Some c ↦ false ]
 
-begun : (b : ℕ) → begins_token b ≡ true → between false b ≡ None
-unfolding begins_token
+begun : (b : ℕ) → begins-token b ≡ true → between false b ≡ None
+unfolding begins-token
 begun b h = elim (between false b) as (λ o. (elim o as (λ o. Bool) [ None ↦ true | Some c ↦ false ]) ≡ true → o ≡ None) [ None ↦ λ k. refl | Some c ↦ λ k. absurd (cc) ] h
 
-sign-begun : (m : Mark) → is_word m ≡ false → Begins begins_token (spelling m)
-unfolding is_word spelling begins_token between
+sign-begun : (m : Mark) → is_word m ≡ false → Begins begins-token (spelling m)
+unfolding is_word spelling begins-token between
 sign-begun mark.OpenBrace h = refl
 sign-begun mark.CloseBrace h = refl
 sign-begun mark.Open h = refl
@@ -248,7 +248,7 @@ token-read (token.Number n) ps size w h a =
     let k : Stops is_name_byte (text_of ps) = worded-stops ps h in
     token-from (token.Number n) _ (text_of ps) size is_digit digit-solid (number-begins n w) (lexed-number n (text_of ps) w k)
 token-read (token.Plain m) ps size w h a = elim (is_sign (token.Plain m)) as (λ b. is_sign (token.Plain m) ≡ b → Laid (behind b) ps → shown (tokens_from size (spelling m ++ text_of ps)) ≡ token.Plain m ∷ shown (tokens_from size (text_of ps))) [
-  | true ↦ λ e k. (let q : is_word m ≡ false = sign-word m e in token-from (token.Plain m) (spelling m) (text_of ps) size begins_token begun (sign-begun m q) (lexed-sign m (text_of ps) q (signed-stops ps k a)))
+  | true ↦ λ e k. (let q : is_word m ≡ false = sign-word m e in token-from (token.Plain m) (spelling m) (text_of ps) size begins-token begun (sign-begun m q) (lexed-sign m (text_of ps) q (signed-stops ps k a)))
   | false ↦ λ e k. (let q : is_word m ≡ true = word-sign m e in token-from (token.Plain m) (spelling m) (text_of ps) size is_letter letter-solid (word-begins m q) (lexed-word m (text_of ps) q (worded-stops ps k)))
 ] refl h
 token-read (token.Bad b) ps size w h a = absurd w

@@ -165,7 +165,7 @@ record Begun (l : Labels) (level : ℕ) (names : Names) (h : Head) (n : Option N
   t : Sight
   u : Sight
   heading : IsHeading names s2 h n t
-  opens_at : Sees mark.OpenBrace t
+  opens-at : Sees mark.OpenBrace t
   block : IsBlock (inside names level n) (skip t) pre lets u
   size : u.size ≡ s2.size
   left : u.left ≡ m
@@ -186,7 +186,7 @@ begun-again l level names h n pre lets x s t u agree at c p i b s2 m v w =
       t = t2;
       u = z.0;
       heading = y.1;
-      opens_at = y.2;
+      opens-at = y.2;
       block = z.1;
       size = z.2 ∙ y.3;
       left = z.3;
@@ -203,7 +203,7 @@ innermost-again l d level names h n pre lets s t u agree at i b ne s2 m v w =
     let g = begun-again l level names h n pre lets (record { counter = n; pre = lets; post = [] }) s t u agree at refl refl i b s2 q2.0 v q2.1 in
     let lft : g.u.left ≡ q.0 = g.left ∙ (sym q2.2 ∙ sym q1.2) in
     let z : (first g.u.size g.u.left).token ≡ token.Plain mark.CloseBrace = rw (lft, g.size) q.2.0 in
-    (skip g.u, innermost g.heading g.opens_at g.block ne z, g.size, ap rest lft ∙ sym q.2.1, g.version)
+    (skip g.u, innermost g.heading g.opens-at g.block ne z, g.size, ap rest lft ∙ sym q.2.1, g.version)
 
 outer-again : (l : Labels) (d level : ℕ) (names : Names) (h : Head) (n : Option Name) (pre post : List Stmt) (lets post_lets : List Name) (ls : List Loop) (ns : List LoopNames) (s t u v w : Sight) → AgreesAll names l → slice_get l.loops level ≡ Some (record { counter = n; pre = lets; post = post_lets }) → IsHeading names s h n t → IsBlock (inside names level n) (skip t) pre lets u → (AgreesAll (inside names level n) l → LoopsClaim l d (suc level) (inside names level n) ls ns u.version v.version) → IsBlock (inside names level n) v post post_lets w → LoopsClaim l (suc d) level names (record { head = h; pre = pre; post = post } ∷ ls) (record { counter = n; pre = lets; post = post_lets } ∷ ns) s.version w.version
 unfolding skip here line
@@ -226,7 +226,7 @@ outer-again l d level names h n pre post lets post_lets ls ns s t u v w agree at
     let e = block-again l (inside names level n) v post post_lets w c (within post_lets) (level + 1) y.0 q.0 y.4 w4 in
     let sz2 : e.0.size ≡ s2.size = e.2 ∙ sz in
     let z : (first e.0.size e.0.left).token ≡ token.Plain mark.CloseBrace = rw (e.3, sz2) q.2.0 in
-    (skip e.0, outer g.heading g.opens_at g.block y.1 e.1 z, sz2, ap rest e.3 ∙ sym q.2.1, e.4)
+    (skip e.0, outer g.heading g.opens-at g.block y.1 e.1 z, sz2, ap rest e.3 ∙ sym q.2.1, e.4)
 
 -- what was read of loops is read again
 pub loops-again : (l : Labels) {d level : ℕ} {names : Names} {s : Sight} {ls : List Loop} {ns : List LoopNames} {t : Sight} → IsLoops d level names s ls ns t → AgreesAll names l → Named l level ns → LoopsClaim l d level names ls ns s.version t.version

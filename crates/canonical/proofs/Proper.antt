@@ -147,33 +147,33 @@ expression-proper l names agree s e t i g = let w = printed-proper l names agree
 
 -- Statements
 
-let_proper : (l : Labels) (k : ℕ) (n : Name) (e : Expr) → label l (place.Local k) ≡ n → IsWritten (token.Name n) → Proper (expression_of l e) → (depth : ℕ) → Proper (statement_of l (Let k e) depth)
+let-proper : (l : Labels) (k : ℕ) (n : Name) (e : Expr) → label l (place.Local k) ≡ n → IsWritten (token.Name n) → Proper (expression_of l e) → (depth : ℕ) → Proper (statement_of l (Let k e) depth)
 unfolding let_line
-let_proper l k n e h w x depth = subst Proper (sym (statement-let l k e depth)) (lined depth (let_line l k e) (marked mark.Let cons space cons worded (token.Name (label l (place.Local k))) (subst (λ (m : Name). IsWritten (token.Name m)) (sym h) w) cons (apart mark.Assign then x)))
+let-proper l k n e h w x depth = subst Proper (sym (statement-let l k e depth)) (lined depth (let_line l k e) (marked mark.Let cons space cons worded (token.Name (label l (place.Local k))) (subst (λ (m : Name). IsWritten (token.Name m)) (sym h) w) cons (apart mark.Assign then x)))
 
-set_proper : (l : Labels) (k : ℕ) (n : Name) (e : Expr) → label l (place.Scalar k) ≡ n → IsWritten (token.Name n) → Proper (expression_of l e) → (depth : ℕ) → Proper (statement_of l (Set k e) depth)
+set-proper : (l : Labels) (k : ℕ) (n : Name) (e : Expr) → label l (place.Scalar k) ≡ n → IsWritten (token.Name n) → Proper (expression_of l e) → (depth : ℕ) → Proper (statement_of l (Set k e) depth)
 unfolding set_line
-set_proper l k n e h w x depth = subst Proper (sym (statement-set l k e depth)) (lined depth (set_line l k e) (worded (token.Name (label l (place.Scalar k))) (subst (λ (m : Name). IsWritten (token.Name m)) (sym h) w) cons (apart mark.Assign then x)))
+set-proper l k n e h w x depth = subst Proper (sym (statement-set l k e depth)) (lined depth (set_line l k e) (worded (token.Name (label l (place.Scalar k))) (subst (λ (m : Name). IsWritten (token.Name m)) (sym h) w) cons (apart mark.Assign then x)))
 
-store_proper : (l : Labels) (k : ℕ) (a e : Expr) → Proper (expression_of l a) → Proper (expression_of l e) → (depth : ℕ) → Proper (statement_of l (Store k a e) depth)
+store-proper : (l : Labels) (k : ℕ) (a e : Expr) → Proper (expression_of l a) → Proper (expression_of l e) → (depth : ℕ) → Proper (statement_of l (Store k a e) depth)
 unfolding store_line
-store_proper l k a e x y depth = subst Proper (sym (statement-store l k a e depth)) (lined depth (store_line l a e) (marked mark.OpenBracket cons ((x then (marked mark.CloseBracket cons apart mark.Assign)) then y)))
+store-proper l k a e x y depth = subst Proper (sym (statement-store l k a e depth)) (lined depth (store_line l a e) (marked mark.OpenBracket cons ((x then (marked mark.CloseBracket cons apart mark.Assign)) then y)))
 
-pub close_proper : Proper close_line
-close_proper = marked mark.CloseBrace
+pub close-proper : Proper close_line
+close-proper = marked mark.CloseBrace
 
-else_proper : (l : Labels) (ys : List Stmt) → ((depth : ℕ) → Proper (statement_lines l ys depth)) → (depth : ℕ) → Proper (otherwise l ys depth)
+else-proper : (l : Labels) (ys : List Stmt) → ((depth : ℕ) → Proper (statement_lines l ys depth)) → (depth : ℕ) → Proper (otherwise l ys depth)
 unfolding otherwise statement_lines
-else_proper l [] h depth = proper-none
-else_proper l (y ∷ ys) h depth = lined depth else_line (marked mark.CloseBrace cons (apart mark.Else then marked mark.OpenBrace)) then h (depth + 1)
+else-proper l [] h depth = proper-none
+else-proper l (y ∷ ys) h depth = lined depth else_line (marked mark.CloseBrace cons (apart mark.Else then marked mark.OpenBrace)) then h (depth + 1)
 
-if_proper : (l : Labels) (e : Expr) (xs ys : List Stmt) → Proper (expression_of l e) → ((depth : ℕ) → Proper (statement_lines l xs depth)) → ((depth : ℕ) → Proper (statement_lines l ys depth)) → (depth : ℕ) → Proper (statement_of l (If e xs ys) depth)
+if-proper : (l : Labels) (e : Expr) (xs ys : List Stmt) → Proper (expression_of l e) → ((depth : ℕ) → Proper (statement_lines l xs depth)) → ((depth : ℕ) → Proper (statement_lines l ys depth)) → (depth : ℕ) → Proper (statement_of l (If e xs ys) depth)
 unfolding if_line
-if_proper l e xs ys x h k depth = subst Proper (sym (statement-if l e xs ys depth)) (((lined depth (if_line l e) (marked mark.If cons space cons (x then (space cons marked mark.OpenBrace))) then h (depth + 1)) then else_proper l ys k depth) then lined depth close_line close_proper)
+if-proper l e xs ys x h k depth = subst Proper (sym (statement-if l e xs ys depth)) (((lined depth (if_line l e) (marked mark.If cons space cons (x then (space cons marked mark.OpenBrace))) then h (depth + 1)) then else-proper l ys k depth) then lined depth close_line close-proper)
 
-pub nothing_proper : (l : Labels) (depth : ℕ) → Proper (statement_lines l [] depth)
+pub nothing-proper : (l : Labels) (depth : ℕ) → Proper (statement_lines l [] depth)
 unfolding statement_lines
-nothing_proper l depth = proper-none
+nothing-proper l depth = proper-none
 
 mutual
   unfolding skip
@@ -184,29 +184,29 @@ mutual
       let grown : Extends (s.lets ++ n ∷ []) l.lets = extends-through (s.lets ++ n ∷ []) u.lets l.lets (extends-by (s.lets ++ n ∷ []) u.lets (lets-kept names j)) ext in
       let lab : label l (place.Local (length s.lets)) ≡ n = local-label l s.lets n grown in
       let x = expression-proper l names agree (skip (bound n (skip (skip s)))) e u j (good-skip (bound n (skip (skip s))) (good-bound n (skip (skip s)) (good-skip (skip s) (good-skip s good)))) in
-      (let_proper l (length s.lets) n e lab (name-written (skip s) n (good-skip s good) k) x.0, x.1)
+      (let-proper l (length s.lets) n e lab (name-written (skip s) n (good-skip s good) k) x.0, x.1)
   statement-proper l (set {d} {k} {names} {n} {e} {s} {t} h f g i) agree ext good =
       let x = expression-proper l names agree (skip (skip s)) e t i (good-skip (skip s) (good-skip s good)) in
-      (set_proper l k n e (agree n (place.Scalar k) f) (name-written s n good h) x.0, x.1)
+      (set-proper l k n e (agree n (place.Scalar k) f) (name-written s n good h) x.0, x.1)
   statement-proper l (store {d} {names} {a} {e} {s} {t} {u} h r i g k j) agree ext good =
       let x = expression-proper l names agree (skip (opens s)) a t i (good-skip (opens s) (good-opens s good)) in
       let y = expression-proper l names agree (skip (skip t)) e u j (good-skip (skip t) (good-skip t x.1)) in
-      (store_proper l (u.accesses + 1) a e x.0 y.0, good-numbered u y.1)
+      (store-proper l (u.accesses + 1) a e x.0 y.0, good-numbered u y.1)
   statement-proper l (when {d} {names} {e} {xs} {s} {t} {u} h i b) agree ext good =
       let x = expression-proper l names agree (skip s) e t i (good-skip s good) in
       let y = braced-proper l b agree ext x.1 in
-      (if_proper l e xs [] x.0 y.0 (nothing_proper l), y.1)
+      (if-proper l e xs [] x.0 y.0 (nothing-proper l), y.1)
   statement-proper l (either {d} {names} {e} {xs} {ys} {s} {t} {u} {v} h i b k c) agree ext good =
       let x = expression-proper l names agree (skip s) e t i (good-skip s good) in
       let y = braced-proper l b agree (extends-through u.lets v.lets l.lets (braced-grows c) ext) x.1 in
       let z = braced-proper l c agree ext (good-skip u y.1) in
-      (if_proper l e xs ys x.0 y.0 z.0, z.1)
+      (if-proper l e xs ys x.0 y.0 z.0, z.1)
 
   pub braced-proper : (l : Labels) {d : ℕ} {names : Names} {s : Sight} {xs : List Stmt} {t : Sight} → IsBraced d names s xs t → Agrees names l → Extends t.lets l.lets → Good s → ((depth : ℕ) → Proper (statement_lines l xs depth)) × Good t
   braced-proper l (braced {d} {names} {ns} {xs} {s} {t} h i k) agree ext good = let x = list-proper l i agree ext (good-skip s good) in (x.0, good-skip t x.1)
 
   pub list-proper : (l : Labels) {d : ℕ} {names : Names} {s : Sight} {xs : List Stmt} {ns : Names} {t : Sight} → IsList d names s xs ns t → Agrees names l → Extends t.lets l.lets → Good s → ((depth : ℕ) → Proper (statement_lines l xs depth)) × Good t
-  list-proper l list_none agree ext good = (nothing_proper l, good)
+  list-proper l list_none agree ext good = (nothing-proper l, good)
   list-proper l (more {d} {names} {ms} {ns} {xs} {st} {s} {t} {u} i j) agree ext good =
       let grown : Extends t.lets l.lets = extends-through t.lets u.lets l.lets (statement-grows j) ext in
       let x = list-proper l i agree grown good in

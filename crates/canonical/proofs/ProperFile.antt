@@ -41,7 +41,7 @@ use Rattle.canonical.proofs.ContentsAgain.{scalars-agree, named-from}
 use Rattle.canonical.proofs.Walking.{Walks}
 use Rattle.canonical.proofs.LayoutFile.{file-walks}
 use Rattle.canonical.proofs.LayoutWritten.{tokens-writable}
-use Rattle.canonical.proofs.Proper.{Proper, nothing_proper, proper-none, ◌then◌, ◌cons◌, space, marked, worded, apart, lined, Good, good-skip, good-block, name-written, number-written, expression-proper, close_proper, block-proper}
+use Rattle.canonical.proofs.Proper.{Proper, nothing-proper, proper-none, ◌then◌, ◌cons◌, space, marked, worded, apart, lined, Good, good-skip, good-block, name-written, number-written, expression-proper, close-proper, block-proper}
 
 -- Lists
 
@@ -49,9 +49,9 @@ all-snoc : {X : Type 0} (P : X → Type 0) (xs : List X) (x : X) → AllByRecurs
 all-snoc P [] x h k = (k, tt)
 all-snoc P (y ∷ ys) x h k = (h.0, all-snoc P ys x h.1 k)
 
-each_proper : {X : Type 0} (f : X → List Piece) (xs : List X) → AllByRecursion (λ x. Proper (f x)) xs → Proper (flat_map f xs)
-each_proper f [] h = proper-none
-each_proper f (x ∷ xs) h = h.0 then each_proper f xs h.1
+each-proper : {X : Type 0} (f : X → List Piece) (xs : List X) → AllByRecursion (λ x. Proper (f x)) xs → Proper (flat_map f xs)
+each-proper f [] h = proper-none
+each-proper f (x ∷ xs) h = h.0 then each-proper f xs h.1
 
 -- Numbers
 
@@ -61,18 +61,18 @@ Fits n = IsWritten (token.Number n)
 numbered : (n : ℕ) → Fits n → Proper (number n ∷ [])
 numbered n h = worded (token.Number n) h
 
-operand_proper : (n : ℕ) → Fits n → Proper (operand n)
-operand_proper n h = space cons numbered n h
+operand-proper : (n : ℕ) → Fits n → Proper (operand n)
+operand-proper n h = space cons numbered n h
 
-signed_by : (n : ℕ) → Fits n → Proper (signed (with_sign true n))
+signed-by : (n : ℕ) → Fits n → Proper (signed (with_sign true n))
 unfolding signed
-signed_by zero h = numbered zero h
-signed_by (suc n) h = marked mark.Minus cons numbered (suc n) h
+signed-by zero h = numbered zero h
+signed-by (suc n) h = marked mark.Minus cons numbered (suc n) h
 
 signed-proper : {s : Sight} {v : ℤ} {t : Sight} → IsSigned s v t → Good s → Proper (signed v) × Good t
 unfolding signed
 signed-proper (unsigned {n} {s} h) g = (numbered n (number-written s n g h), good-skip s g)
-signed-proper (negative {n} {s} h k) g = (signed_by n (number-written (skip s) n (good-skip s g) k), good-skip (skip s) (good-skip s g))
+signed-proper (negative {n} {s} h k) g = (signed-by n (number-written (skip s) n (good-skip s g) k), good-skip (skip s) (good-skip s g))
 
 -- Loops
 
@@ -112,7 +112,7 @@ loops-proper : (l : Labels) {d level : ℕ} {names : Names} {s : Sight} {ls : Li
 unfolding loop_lines
 loops-proper l (innermost {d} {level} {names} {h} {n} {pre} {lets} {s} {t} {u} i o b ne c) agree named g =
     let x = begun-proper l level names (record { counter = n; pre = lets; post = [] }) pre agree named.0 i b g in
-    (((x.0 then proper-none) then nothing_proper (in_post l level) (level + 1)) then lined level close_line close_proper, good-skip u x.1)
+    (((x.0 then proper-none) then nothing-proper (in_post l level) (level + 1)) then lined level close_line close-proper, good-skip u x.1)
 loops-proper l (outer {d} {level} {names} {h} {n} {pre} {post} {lets} {post_lets} {ls} {ns} {s} {t} {u} {v} {w} i o b j c z) agree named g =
     let ln : LoopNames = record { counter = n; pre = lets; post = post_lets } in
     let x = begun-proper l level names ln pre agree named.0 i b g in
@@ -121,7 +121,7 @@ loops-proper l (outer {d} {level} {names} {h} {n} {pre} {post} {lets} {post_lets
     let e = block-proper l (inside names level n) v post post_lets w c (within post_lets) y.1 in
     let k : in_post l level ≡ with_lets l post_lets = ap (λ (q : Option LoopNames). with_lets l (post_names q)) named.0 in
     let y0 : Proper (loop_lines l (level + 1) ls) = subst (λ (m : ℕ). Proper (loop_lines l m ls)) (sym (add-one level)) y.0 in
-    (((x.0 then y0) then subst (λ (q : Labels). Proper (statement_lines q post (level + 1))) (sym k) (e.0 (level + 1))) then lined level close_line close_proper, good-skip w e.1)
+    (((x.0 then y0) then subst (λ (q : Labels). Proper (statement_lines q post (level + 1))) (sym k) (e.0 (level + 1))) then lined level close_line close-proper, good-skip w e.1)
 
 -- Scripts
 
@@ -138,48 +138,48 @@ verb : (w : CommandWord) → Proper (command_name w ∷ [])
 verb w = worded (token.Name (name_of (word_spelling w))) (verb-written w)
 
 rows-proper : {depth : ℕ} {s : Sight} {ns : List ℕ} {t : Sight} → IsRows depth s ns t → Good s → AllByRecursion (λ n. Proper (operand n)) ns × Good t
-rows-proper (row_one {n} {s} h r) g = ((operand_proper n (number-written s n g h), tt), good-skip s g)
-rows-proper (row_more {n} {ns} {s} {t} i len h r) g = let x = rows-proper i g in (all-snoc (λ n. Proper (operand n)) ns n x.0 (operand_proper n (number-written t n x.1 h)), good-skip t x.1)
+rows-proper (row_one {n} {s} h r) g = ((operand-proper n (number-written s n g h), tt), good-skip s g)
+rows-proper (row_more {n} {ns} {s} {t} i len h r) g = let x = rows-proper i g in (all-snoc (λ n. Proper (operand n)) ns n x.0 (operand-proper n (number-written t n x.1 h)), good-skip t x.1)
 
 command-proper : {depth : ℕ} {cs : Script} {s : Sight} {c : Command} {t : Sight} → IsCommand depth cs s c t → Good s → Proper (command_of c) × Good t
 unfolding command_of signed
-command-proper (seq {n} {s} a b h k) g = let g1 = good-skip s g in (verb word.Seq cons operand_proper n (number-written (skip s) n g1 h), good-skip (skip s) g1)
+command-proper (seq {n} {s} a b h k) g = let g1 = good-skip s g in (verb word.Seq cons operand-proper n (number-written (skip s) n g1 h), good-skip (skip s) g1)
 command-proper (swap {a} {b} {s} {t} k ha ra q hb rb ne) g =
     let g1 = good-skip s g in
     let gt : Good t = subst Good (sym q) (good-skip (skip s) g1) in
-    (verb word.Swap cons (operand_proper a (number-written (skip s) a g1 ha) then operand_proper b (number-written t b gt hb)), good-skip t gt)
+    (verb word.Swap cons (operand-proper a (number-written (skip s) a g1 ha) then operand-proper b (number-written t b gt hb)), good-skip t gt)
 command-proper (skew {a} {b} {m} {s} {t} {u} k may ha ra q hb rb ne i r) g =
     let g1 = good-skip s g in
     let gt : Good t = subst Good (sym q) (good-skip (skip s) g1) in
     let x = signed-proper i (good-skip t gt) in
-    (verb word.Skew cons ((operand_proper a (number-written (skip s) a g1 ha) then operand_proper b (number-written t b gt hb)) then (space cons x.0)), x.1)
+    (verb word.Skew cons ((operand-proper a (number-written (skip s) a g1 ha) then operand-proper b (number-written t b gt hb)) then (space cons x.0)), x.1)
 command-proper (tile {a} {n} {s} {t} k ha ra q hn rn) g =
     let g1 = good-skip s g in
     let gt : Good t = subst Good (sym q) (good-skip (skip s) g1) in
-    (verb word.Tile cons (operand_proper a (number-written (skip s) a g1 ha) then operand_proper n (number-written t n gt hn)), good-skip t gt)
-command-proper (par {ns} {s} {t} k i) g = let x = rows-proper i (good-skip s g) in (verb word.Par cons each_proper operand ns x.0, x.1)
-command-proper (wave {ns} {s} {t} k i) g = let x = rows-proper i (good-skip s g) in (verb word.Wave cons each_proper operand ns x.0, x.1)
+    (verb word.Tile cons (operand-proper a (number-written (skip s) a g1 ha) then operand-proper n (number-written t n gt hn)), good-skip t gt)
+command-proper (par {ns} {s} {t} k i) g = let x = rows-proper i (good-skip s g) in (verb word.Par cons each-proper operand ns x.0, x.1)
+command-proper (wave {ns} {s} {t} k i) g = let x = rows-proper i (good-skip s g) in (verb word.Wave cons each-proper operand ns x.0, x.1)
 
 commands-proper : {depth : ℕ} {s : Sight} {cs : Script} {t : Sight} → IsCommands depth s cs t → Good s → AllByRecursion (λ c. Proper (command_of c)) cs × Good t
 commands-proper (command_one {c} i) g = let x = command-proper i g in ((x.0, tt), x.1)
 commands-proper (command_more {cs} {c} {s} {t} {u} i k len j) g = let x = commands-proper i g in let y = command-proper j (good-skip t x.1) in (all-snoc (λ c. Proper (command_of c)) cs c x.0 y.0, y.1)
 
-next_all : (cs : Script) → AllByRecursion (λ c. Proper (command_of c)) cs → AllByRecursion (λ c. Proper (next_command c)) cs
-next_all [] h = tt
-next_all (c ∷ cs) h = (marked mark.Semicolon cons space cons h.0, next_all cs h.1)
+next-all : (cs : Script) → AllByRecursion (λ c. Proper (command_of c)) cs → AllByRecursion (λ c. Proper (next_command c)) cs
+next-all [] h = tt
+next-all (c ∷ cs) h = (marked mark.Semicolon cons space cons h.0, next-all cs h.1)
 
-written_commands : (cs : Script) → AllByRecursion (λ c. Proper (command_of c)) cs → Proper (commands_of cs)
+written-commands : (cs : Script) → AllByRecursion (λ c. Proper (command_of c)) cs → Proper (commands_of cs)
 unfolding commands_of
-written_commands [] h = proper-none
-written_commands (c ∷ cs) h = (h.0 then each_proper next_command cs (next_all cs h.1)) then space
+written-commands [] h = proper-none
+written-commands (c ∷ cs) h = (h.0 then each-proper next_command cs (next-all cs h.1)) then space
 
-candidate_proper : (cs : Script) → Proper (commands_of cs) → Proper (candidate_line cs)
+candidate-proper : (cs : Script) → Proper (commands_of cs) → Proper (candidate_line cs)
 unfolding candidate_line
-candidate_proper cs h = lined 0 _ (marked mark.Candidate cons space cons marked mark.OpenBrace cons space cons (h then marked mark.CloseBrace))
+candidate-proper cs h = lined 0 _ (marked mark.Candidate cons space cons marked mark.OpenBrace cons space cons (h then marked mark.CloseBrace))
 
 script-proper : {depth : ℕ} {s : Sight} {cs : Script} {t : Sight} → IsScript depth s cs t → Good s → Proper (candidate_line cs) × Good t
-script-proper (empty {s} o c) g = (candidate_proper [] (written_commands [] tt), good-skip (skip s) (good-skip s g))
-script-proper (script {cs} {s} {t} o i c) g = let x = commands-proper i (good-skip s g) in (candidate_proper cs (written_commands cs x.0), good-skip t x.1)
+script-proper (empty {s} o c) g = (candidate-proper [] (written-commands [] tt), good-skip (skip s) (good-skip s g))
+script-proper (script {cs} {s} {t} o i c) g = let x = commands-proper i (good-skip s g) in (candidate-proper cs (written-commands cs x.0), good-skip t x.1)
 
 candidates-proper : {depth : ℕ} {s : Sight} {scripts : List Script} {t : Sight} → IsCandidates depth s scripts t → Good s → AllByRecursion (λ cs. Proper (candidate_line cs)) scripts × Good t
 candidates-proper candidates_none g = (tt, g)
@@ -193,7 +193,7 @@ unit-proper cs (unit {ls} {ns} {scripts} {s} {t} {u} i c) g =
     let l : Labels = labels_in cs ns in
     let x = loops-proper l i (scalars-agree cs ns) (named-from l [] ns refl) g in
     let y = candidates-proper c x.1 in
-    (x.0 then each_proper candidate_line scripts y.0, y.1)
+    (x.0 then each-proper candidate_line scripts y.0, y.1)
 
 units-proper : (cs : List Scalar) {version : Version} {s : Sight} {us : List NestUnit} {t : Sight} → IsUnits (names_of cs) version s us t → Good s → AllByRecursion (λ u. Proper (unit_lines cs u)) us × Good t
 units-proper cs (units_one i) g = let x = unit-proper cs i g in ((x.0, tt), x.1)
@@ -212,14 +212,14 @@ values-proper : {words first : ℕ} {s : Sight} {vs : List ℤ} {t : Sight} → 
 values-proper (values_one r i) g = let x = signed-proper i g in ((x.0, tt), x.1)
 values-proper (values_more {vs} {v} {s} {t} {u} i k r j) g = let x = values-proper i g in let y = signed-proper j (good-skip t x.1) in (all-snoc (λ v. Proper (signed v)) vs v x.0 y.0, y.1)
 
-next_values : (vs : List ℤ) → AllByRecursion (λ v. Proper (signed v)) vs → AllByRecursion (λ v. Proper (next_value v)) vs
-next_values [] h = tt
-next_values (v ∷ vs) h = (marked mark.Comma cons space cons h.0, next_values vs h.1)
+next-values : (vs : List ℤ) → AllByRecursion (λ v. Proper (signed v)) vs → AllByRecursion (λ v. Proper (next_value v)) vs
+next-values [] h = tt
+next-values (v ∷ vs) h = (marked mark.Comma cons space cons h.0, next-values vs h.1)
 
-written_values : (vs : List ℤ) → AllByRecursion (λ v. Proper (signed v)) vs → Proper (value_list vs)
+written-values : (vs : List ℤ) → AllByRecursion (λ v. Proper (signed v)) vs → Proper (value_list vs)
 unfolding value_list
-written_values [] h = proper-none
-written_values (v ∷ vs) h = (space cons h.0) then each_proper next_value vs (next_values vs h.1)
+written-values [] h = proper-none
+written-values (v ∷ vs) h = (space cons h.0) then each-proper next_value vs (next-values vs h.1)
 
 item-proper : {words : ℕ} {s : Sight} {i : Item} {t : Sight} → IsItem words s i t → Good s → Proper (item_line i) × Good t
 unfolding item_line
@@ -227,31 +227,31 @@ item-proper (data_ {first} {vs} {s} {t} {u} a h q c i) g =
     let g1 = good-skip s g in
     let gt : Good t = subst Good (sym q) (good-skip (skip s) g1) in
     let x = values-proper i (good-skip t gt) in
-    (lined 0 _ (marked mark.Data cons (operand_proper first (number-written (skip s) first g1 h) then (marked mark.Colon cons written_values vs x.0))), x.1)
+    (lined 0 _ (marked mark.Data cons (operand-proper first (number-written (skip s) first g1 h) then (marked mark.Colon cons written-values vs x.0))), x.1)
 item-proper (ramp {first} {count} {stride} {start} {growth} {s} {t} {u} {v} {w} a h q h2 q2 h3 ne i j r) g =
     let g1 = good-skip s g in
     let gt : Good t = subst Good (sym q) (good-skip (skip s) g1) in
     let gu : Good u = subst Good (sym q2) (good-skip t gt) in
     let x = signed-proper i (good-skip u gu) in
     let y = signed-proper j x.1 in
-    (lined 0 _ (marked mark.Ramp cons ((((operand_proper first (number-written (skip s) first g1 h) then operand_proper count (number-written t count gt h2)) then operand_proper stride (number-written u stride gu h3)) then (space cons x.0)) then (space cons y.0))), y.1)
+    (lined 0 _ (marked mark.Ramp cons ((((operand-proper first (number-written (skip s) first g1 h) then operand-proper count (number-written t count gt h2)) then operand-proper stride (number-written u stride gu h3)) then (space cons x.0)) then (space cons y.0))), y.1)
 
 items-proper : {words : ℕ} {s : Sight} {is : List Item} {t : Sight} → IsItems words s is t → Good s → AllByRecursion (λ i. Proper (item_line i)) is × Good t
 items-proper items_none g = (tt, g)
 items-proper (items_more {is} {i} i1 j) g = let x = items-proper i1 g in let y = item-proper j x.1 in (all-snoc (λ i. Proper (item_line i)) is i x.0 y.0, y.1)
 
-version_proper : (v : Version) → Proper (version_line v)
+version-proper : (v : Version) → Proper (version_line v)
 unfolding version_line
-version_proper One = lined 0 _ (marked mark.Nest cons operand_proper 1 (small 1 (omega arith)))
-version_proper Several = lined 0 _ (marked mark.Nest cons operand_proper 2 (small 2 (omega arith)))
+version-proper One = lined 0 _ (marked mark.Nest cons operand-proper 1 (small 1 (omega arith)))
+version-proper Several = lined 0 _ (marked mark.Nest cons operand-proper 2 (small 2 (omega arith)))
 
 version-good : {s : Sight} {v : Version} {t : Sight} → IsVersion s v t → Good s → Good t
 version-good (version_one {s} a h) g = let x = good-skip (skip s) (good-skip s g) in record { tokens = x.tokens }
 version-good (version_two {s} a h) g = let x = good-skip (skip s) (good-skip s g) in record { tokens = x.tokens }
 
-memory_proper : (n : ℕ) → Fits n → Proper (memory_line n)
+memory-proper : (n : ℕ) → Fits n → Proper (memory_line n)
 unfolding memory_line
-memory_proper n h = lined 0 _ (marked mark.Memory cons operand_proper n h)
+memory-proper n h = lined 0 _ (marked mark.Memory cons operand-proper n h)
 
 file-proper : (text : List ℕ) (f : File) → Reads text f → Proper (pieces f)
 unfolding pieces
@@ -261,7 +261,7 @@ file-proper text _ (file {version} {scalars} {words} {items} {units} {s} {t} {u}
     let g1 = good-skip t x.1 in
     let y = items-proper its (good-skip (skip t) g1) in
     let z = units-proper scalars us y.1 in
-    (((version_proper version then each_proper scalar_line scalars x.0) then memory_proper words (number-written (skip t) words g1 wd)) then each_proper item_line items y.0) then each_proper (unit_lines scalars) units z.0
+    (((version-proper version then each-proper scalar_line scalars x.0) then memory-proper words (number-written (skip t) words g1 wd)) then each-proper item_line items y.0) then each-proper (unit_lines scalars) units z.0
 
 -- The words of the canonical pieces of a file that was read are written as tokens are.
 pub reads-written : (text : List ℕ) (f : File) → Reads text f → AllWritten (pieces f)

@@ -26,11 +26,11 @@ use Rattle.canonical.proofs.Printing.{printed-number, printed-var, printed-load,
 use Rattle.canonical.proofs.Walking.{Walks, walks-append, Counts, counts}
 
 -- the part of the grammar that a group is
-abbrev pub part_of : Group → Precedence
-part_of Unary = AsUnary
-part_of Term = AsTerm
-part_of Sum = AsSum
-part_of Whole = AsWhole
+abbrev pub part-of : Group → Precedence
+part-of Unary = AsUnary
+part-of Term = AsTerm
+part-of Sum = AsSum
+part-of Whole = AsWhole
 
 -- each visible name is the label of its place
 abbrev pub Agrees : Names → Labels → Type 0
@@ -42,7 +42,7 @@ Arrives names p d s e m b v = (t : Sight) × Is names p d s e t × (t.size ≡ s
 
 -- The pieces without parentheses round them are read, where d more may be open, the counters from a to b.
 abbrev pub Bare : Labels → Names → ℕ → Expr → Counts → Counts → ℕ → ℕ → Type 0
-Bare l names d e a b u v = (s : Sight) (m : List Spot) → counts s ≡ a → s.spent ≤ u → Walks (printed l e).pieces s.size s.left m → Arrives names (part_of (printed l e).group) d s e m b v
+Bare l names d e a b u v = (s : Sight) (m : List Spot) → counts s ≡ a → s.spent ≤ u → Walks (printed l e).pieces s.size s.left m → Arrives names (part-of (printed l e).group) d s e m b v
 
 -- They are read where this group is wanted. Where they need parentheses, the text had some.
 pub data Again (l : Labels) (names : Names) (g : Group) (e : Expr) (a b : Counts) (u v : ℕ) : ℕ → Type 0 where
@@ -64,7 +64,7 @@ deeper names (side i) = side (deeper names i)
 deeper names (comparison i k r j) = comparison (deeper names i) k r (deeper names j)
 
 -- a group that fits is the part that is wanted
-pub fit : (names : Names) (d : ℕ) (s : Sight) (e : Expr) (t : Sight) (g w : Group) → fits g w ≡ true → Is names (part_of g) d s e t → Is names (part_of w) d s e t
+pub fit : (names : Names) (d : ℕ) (s : Sight) (e : Expr) (t : Sight) (g w : Group) → fits g w ≡ true → Is names (part-of g) d s e t → Is names (part-of w) d s e t
 unfolding fits
 fit names d s e t Unary Unary h i = i
 fit names d s e t Unary Term h i = factor i
@@ -128,7 +128,7 @@ bare-looser l names d e a b u v u2 v2 h k x s m c r w =
     (y.0, deeper names y.1, y.2, y.3, y.4, omega (arith, y.5))
 
 -- the pieces where a group is wanted are read as it
-pub again-read : (l : Labels) (names : Names) (g : Group) (e : Expr) (a b : Counts) (u v d : ℕ) → Again l names g e a b u v d → (s : Sight) (m : List Spot) → counts s ≡ a → s.spent ≤ u → Walks (as_group g (printed l e)) s.size s.left m → Arrives names (part_of g) d s e m b v
+pub again-read : (l : Labels) (names : Names) (g : Group) (e : Expr) (a b : Counts) (u v d : ℕ) → Again l names g e a b u v d → (s : Sight) (m : List Spot) → counts s ≡ a → s.spent ≤ u → Walks (as_group g (printed l e)) s.size s.left m → Arrives names (part-of g) d s e m b v
 unfolding skip here fits
 again-read l names g e a b u v _ (bare {d} f x) s m c r w =
     let y = x s m c r (subst (λ (ps : List Piece). Walks ps s.size s.left m) (as-fit g (printed l e) f) w) in
@@ -142,8 +142,8 @@ again-read l names g e a b u v _ (held {d} {n} f k x o h) s m c r w =
     let i : Is names AsUnary (suc d) s e (spend t) = parens w2.0 (omega arith) (fit names d (spend s) e t (printed l e).group Whole (fits-whole (printed l e).group) y.1) z (omega (arith, y.5)) in
     (spend t, fit names (suc d) s e (spend t) Unary g refl i, y.2, ap rest y.3 ∙ sym q.2.1, y.4, omega (arith, y.5))
 
-again-of : (l : Labels) (names : Names) (g : Group) (e : Expr) (a b : Counts) (u v d : ℕ) (x : Printed) → printed l e ≡ x → fits x.group g ≡ true → ((s : Sight) (m : List Spot) → counts s ≡ a → s.spent ≤ u → Walks x.pieces s.size s.left m → Arrives names (part_of x.group) d s e m b v) → Again l names g e a b u v d
-again-of l names g e a b u v d x q f y = bare (rw q f) (subst (λ (z : Printed). (s : Sight) (m : List Spot) → counts s ≡ a → s.spent ≤ u → Walks z.pieces s.size s.left m → Arrives names (part_of z.group) d s e m b v) (sym q) y)
+again-of : (l : Labels) (names : Names) (g : Group) (e : Expr) (a b : Counts) (u v d : ℕ) (x : Printed) → printed l e ≡ x → fits x.group g ≡ true → ((s : Sight) (m : List Spot) → counts s ≡ a → s.spent ≤ u → Walks x.pieces s.size s.left m → Arrives names (part-of x.group) d s e m b v) → Again l names g e a b u v d
+again-of l names g e a b u v d x q f y = bare (rw q f) (subst (λ (z : Printed). (s : Sight) (m : List Spot) → counts s ≡ a → s.spent ≤ u → Walks z.pieces s.size s.left m → Arrives names (part-of z.group) d s e m b v) (sym q) y)
 
 weaker : (l : Labels) (names : Names) (g w : Group) (e : Expr) (a b : Counts) (u v d : ℕ) → fits g w ≡ true → Again l names g e a b u v d → Again l names w e a b u v d
 weaker l names g w e a b u v _ h (bare {d} f x) = bare (fits-through (printed l e).group g w f h) x
@@ -165,7 +165,7 @@ parens-again l names e a b u v d r o x =
 
 two-again : (l : Labels) (names : Names) (o : Op) (x y : Expr) (a b c : Counts) (u v z d : ℕ)
     → v < most_tokens
-    → ((s t k : Sight) → Is names (part_of (left_of o)) d s x t → Sees (mark_of o) t → Room t → Is names (part_of (right_of o)) d (spend t) y k → Is names (part_of (made_by o)) d s (Two o x y) k)
+    → ((s t k : Sight) → Is names (part-of (left_of o)) d s x t → Sees (mark_of o) t → Room t → Is names (part-of (right_of o)) d (spend t) y k → Is names (part-of (made_by o)) d s (Two o x y) k)
     → Again l names (left_of o) x a b u v d → Again l names (right_of o) y b c (v + 1) z d → Again l names (made_by o) (Two o x y) a c u z d
 unfolding skip here
 two-again l names o x y a b c u v z d r join f g =
@@ -210,13 +210,13 @@ comparison-table _ o h = absurd (cc)
 -- an operator of a table joins what stands on its sides
 tabled : (l : Labels) (names : Names) (o : Op) (made lft rgt : Group) (operator : Token → Option Op) (x y : Expr) (a b c : Counts) (u v z d : ℕ)
     → IsIn o made lft rgt operator → v < most_tokens
-    → ((s t k : Sight) → Is names (part_of lft) d s x t → operator (stands t) ≡ Some o → Room t → Is names (part_of rgt) d (spend t) y k → Is names (part_of made) d s (Two o x y) k)
+    → ((s t k : Sight) → Is names (part-of lft) d s x t → operator (stands t) ≡ Some o → Room t → Is names (part-of rgt) d (spend t) y k → Is names (part-of made) d s (Two o x y) k)
     → Again l names lft x a b u v d → Again l names rgt y b c (v + 1) z d → Again l names made (Two o x y) a c u z d
 tabled l names o made lft rgt operator x y a b c u v z d h r join f g =
     subst (λ (k : Group). Again l names k (Two o x y) a c u z d) h.0
     (two-again l names o x y a b c u v z d r (λ s t k i at q j.
-    subst (λ (n : Group). Is names (part_of n) d s (Two o x y) k) (sym h.0)
-    (join s t k (subst (λ (n : Group). Is names (part_of n) d s x t) h.1 i) (ap operator at ∙ h.3) q (subst (λ (n : Group). Is names (part_of n) d (spend t) y k) h.2 j)))
+    subst (λ (n : Group). Is names (part-of n) d s (Two o x y) k) (sym h.0)
+    (join s t k (subst (λ (n : Group). Is names (part-of n) d s x t) h.1 i) (ap operator at ∙ h.3) q (subst (λ (n : Group). Is names (part-of n) d (spend t) y k) h.2 j)))
     (subst (λ (k : Group). Again l names k x a b u v d) (sym h.1) f)
     (subst (λ (k : Group). Again l names k y b c (v + 1) z d) (sym h.2) g))
 

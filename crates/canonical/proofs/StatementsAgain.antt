@@ -99,8 +99,8 @@ agrees-more names x l agree h n p k = elim (place-more names x n p k) [
   | inr q ↦ ap (label l) (sym q.1) ∙ h ∙ q.0
 ]
 
-abbrev one_local : Name → Counts → Counts
-one_local n c = record { version = c.version; opened = c.opened; accesses = c.accesses; lets = c.lets ++ n ∷ [] }
+abbrev one-local : Name → Counts → Counts
+one-local n c = record { version = c.version; opened = c.opened; accesses = c.accesses; lets = c.lets ++ n ∷ [] }
 
 -- a statement is read up to these spots, with these counters then
 abbrev pub StatementArrives : ℕ → Names → Sight → Stmt → Names → List Spot → Counts → Type 0
@@ -114,7 +114,7 @@ unfolding skip here line let_line
 let-again l d names n e s u agree lab r f i depth s2 m c w =
     let t2 : Sight = bound n (skip (skip s2)) in
     let q = walks-append (expression_of l e) (Newline ∷ []) s2.size (rest (rest (rest s2.left))) m w.1.1.1 in
-    let y = expression-again l names agree (skip (bound n (skip (skip s)))) e u i (skip t2) q.0 (ap (one_local n) c) q.1 in
+    let y = expression-again l names agree (skip (bound n (skip (skip s)))) e u i (skip t2) q.0 (ap (one-local n) c) q.1 in
     let k : s2.lets ≡ s.lets = ap (λ (x : Counts). x.lets) c in
     let j : IsStmt d names s2 (Let (length s2.lets) e) (names ++ declared n (place.Local (length s2.lets)) ∷ []) y.0 = let_ w.0 (rw k r) (w.1.0 ∙ ap token.Name lab) f refl w.1.1.0 y.1 in
     (y.0, subst (λ (xs : List Name). IsStmt d names s2 (Let (length xs) e) (names ++ declared n (place.Local (length xs)) ∷ []) y.0) k j, y.2, y.3 ∙ sym q.2, y.4)
@@ -160,7 +160,7 @@ record Opened (l : Labels) (d : ℕ) (names : Names) (e : Expr) (xs : List Stmt)
   u : Sight
   begins : Sees mark.If s2
   is : IsExpression names (skip s2) e t
-  opens_at : Sees mark.OpenBrace t
+  opens-at : Sees mark.OpenBrace t
   list : IsList d names (skip t) xs ns u
   size : u.size ≡ s2.size
   left : u.left ≡ m
@@ -184,7 +184,7 @@ opened-again l d names e xs s t b agree i inner depth s2 m c w =
       u = x.0;
       begins = q3.1.0;
       is = y.1;
-      opens_at = z;
+      opens-at = z;
       list = x.1;
       size = x.2 ∙ y.2;
       left = x.3;
@@ -200,7 +200,7 @@ when-again l d names e xs s t b agree i inner depth s2 m c w =
     let o = opened-again l d names e xs s t b agree i inner depth s2 q2.0 c q2.1 in
     let k : o.u.left ≡ q1.0 = o.left ∙ sym q2.2 in
     let z : (first o.u.size o.u.left).token ≡ token.Plain mark.CloseBrace = rw (k, o.size) q1.2.0 in
-    (skip o.u, when o.begins o.is (braced o.opens_at o.list z), o.size, ap rest k ∙ sym q1.2.1, o.counted)
+    (skip o.u, when o.begins o.is (braced o.opens-at o.list z), o.size, ap rest k ∙ sym q1.2.1, o.counted)
 
 either-again : (l : Labels) (d : ℕ) (names : Names) (e : Expr) (xs : List Stmt) (y : Stmt) (ys : List Stmt) (s t : Sight) (a b : Counts) → Agrees names l → IsExpression names (skip s) e t → InnerClaim l d names xs (counts t) a → InnerClaim l d names (y ∷ ys) a b → StatementClaim l (suc d) names (If e xs (y ∷ ys)) names (counts s) b
 unfolding skip here line
@@ -218,7 +218,7 @@ either-again l d names e xs y ys s t a b agree i inner inner2 depth s2 m c w =
     let w6 : Walks (statement_lines l (y ∷ ys) (depth + 1)) o.u.size (rest (rest (rest o.u.left))) q1.0 = rw (lft, o.size) q6.2 in
     let x = inner2.1 (depth + 1) (skip (skip (skip o.u))) q1.0 o.counted w6 in
     let z4 : (first x.0.size x.0.left).token ≡ token.Plain mark.CloseBrace = rw (x.3, x.2, o.size) q1.2.0 in
-    (skip x.0, either o.begins o.is (braced o.opens_at o.list z1) z2 (braced z3 x.1 z4), x.2 ∙ o.size, ap rest x.3 ∙ sym q1.2.1, x.4)
+    (skip x.0, either o.begins o.is (braced o.opens-at o.list z1) z2 (braced z3 x.1 z4), x.2 ∙ o.size, ap rest x.3 ∙ sym q1.2.1, x.4)
 
 snoc-some : (xs : List Stmt) (st : Stmt) → xs ++ st ∷ [] ≡ [] → ⊥
 snoc-some [] st h = absurd (cc)

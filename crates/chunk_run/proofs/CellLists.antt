@@ -8,8 +8,8 @@ use Rattle.std.proofs.lemmas.List.{length-map}
 use Rattle.plain_lemmas.proofs.OrderLaws.{slice_cmp-exact}
 use Rattle.orders.specs.Orders.{Ordered, Has, sorted}
 use Rattle.orders.specs.Tiles.{flat}
-use Rattle.orders.proofs.Lists.{all_has, all_from, has_from_contains, contains_from_has}
-use Rattle.orders.proofs.Sorts.{ordering_unique, never_itself, never_both, sorted_is_ordering, has_flat}
+use Rattle.orders.proofs.Lists.{all_has, all-from, has-from-contains, contains-from-has}
+use Rattle.orders.proofs.Sorts.{ordering-unique, never-itself, never-both, sorted-is-ordering, has-flat}
 use Rattle.domain.specs.Tables.{IsTable}
 use Rattle.domain.specs.Instances.{Instance, Predicted, Precedes, IsOriginal, original_key, padded, Ordered as InOrder}
 use Rattle.transform.specs.Schedules.{IsSchedule, along, place}
@@ -23,7 +23,7 @@ use Rattle.skeletons.proofs.ListLaws.{chosen-has, has-chosen, chosen-ordered, sa
 
 list-unique : (e : Extent) (cell : Cell) (xs ys : List Instance) → IsListOf e cell xs → IsListOf e cell ys → xs ≡ ys
 list-unique e cell xs ys f g =
-    ordering_unique (Comes e) (never_both (slice_cmp int_cmp) (lists_total int_cmp_total) (place_key e)) xs ys f.ordered g.ordered (record {
+    ordering-unique (Comes e) (never-both (slice_cmp int_cmp) (lists_total int_cmp_total) (place_key e)) xs ys f.ordered g.ordered (record {
       there = λ x h. (g.has x).1 ((f.has x).0 h);
       back = λ x h. (f.has x).1 ((g.has x).0 h);
     })
@@ -71,7 +71,7 @@ list-cell e (c ∷ cells) (ys ∷ lists) xs f (inr k) = let (cell, there, is) = 
 -- what the lists have is predicted
 pub flat-predicted : (e : Extent) (cells : List Cell) (lists : List (List Instance)) (x : Instance) → AreListsOf e cells lists → Has (flat lists) x → Predicted e.table e.chunk x
 flat-predicted e cells lists x f h =
-    let (xs, there, at) = has_flat lists x h in
+    let (xs, there, at) = has-flat lists x h in
     let (cell, found, is) = list-cell e cells lists xs f there in
     ((is.has x).0 at).predicted
 
@@ -91,7 +91,7 @@ in-order R (x ∷ xs) h = (h.0, in-order R xs h.1)
 -- what holds of the pairs of a list
 pub ordered-into : {X : Type 0} (R S : X → X → Type 0) (xs : List X) → ((x y : X) → Has xs x → Has xs y → R x y → S x y) → Ordered R xs → Ordered S xs
 ordered-into R S [] into h = tt
-ordered-into R S (x ∷ xs) into h = (all_from (S x) xs (λ y k. into x y (inl refl) (inr k) (all_has (R x) xs y h.0 k)), ordered-into R S xs (λ u v k l. into u v (inr k) (inr l)) h.1)
+ordered-into R S (x ∷ xs) into h = (all-from (S x) xs (λ y k. into x y (inl refl) (inr k) (all_has (R x) xs y h.0 k)), ordered-into R S xs (λ u v k l. into u v (inr k) (inr l)) h.1)
 
 -- two lists with a number behind each
 pub push-same : (us vs : List ℤ) (m n : ℤ) → length us ≡ length vs → us ++ m ∷ [] ≡ vs ++ n ∷ [] → (us ≡ vs) × (m ≡ n)
@@ -131,7 +131,7 @@ module _ (D : ℕ) (e : Extent) (shape : IsTable D e.table) (sched : IsSchedule 
           let parts = push-same (place e.schedule (padded e.table x)) (place e.schedule (padded e.table y)) (pos x.block) (pos y.block) (place-long x y) (slice_cmp-exact (place_key e x) (place_key e y) equal) in
           let points = sched.one (padded e.table x) (padded e.table y) (long x) (long y) (sym (place-product e.schedule (padded e.table x)) ∙ parts.0 ∙ place-product e.schedule (padded e.table y)) in
           let key : original_key e.table x ≡ original_key e.table y = ap₂ (λ (p : List ℤ) (b : ℤ). p ++ b ∷ []) points parts.1 in
-          never_itself (slice_cmp int_cmp) (lists_total int_cmp_total) (λ (k : List ℤ). k) (original_key e.table x) (subst (λ (k : List ℤ). slice_cmp int_cmp (original_key e.table x) k ≡ Less) (sym key) before)
+          never-itself (slice_cmp int_cmp) (lists_total int_cmp_total) (λ (k : List ℤ). k) (original_key e.table x) (subst (λ (k : List ℤ). slice_cmp int_cmp (original_key e.table x) k ≡ Less) (sym key) before)
 
   abbrev inside : Cell → Instance → Bool
   inside cell x = is_cell cell (cell_of e.schedule (padded e.table x))
@@ -139,15 +139,15 @@ module _ (D : ℕ) (e : Extent) (shape : IsTable D e.table) (sched : IsSchedule 
   list-is : (cell : Cell) → IsListOf e cell (chosen (inside cell) (sorted cmp xs))
   list-is cell =
       let ys = sorted cmp xs in
-      let is = sorted_is_ordering cmp total xs apart in
+      let is = sorted-is-ordering cmp total xs apart in
       record {
         ordered = chosen-ordered (inside cell) (Comes e) ys is.ordered;
         has = λ x. (
           λ h. let a = chosen-has (inside cell) ys x h in record {
-            predicted = (original.has x).0 (contains_from_has xs x (is.same.back x a.0));
+            predicted = (original.has x).0 (contains-from-has xs x (is.same.back x a.0));
             inside = sym (same-cell cell (cell_of e.schedule (padded e.table x)) a.1);
           },
-          λ l. has-chosen (inside cell) ys x (is.same.there x (has_from_contains xs x ((original.has x).1 l.predicted))) (cell-same cell (cell_of e.schedule (padded e.table x)) (sym l.inside)),
+          λ l. has-chosen (inside cell) ys x (is.same.there x (has-from-contains xs x ((original.has x).1 l.predicted))) (cell-same cell (cell_of e.schedule (padded e.table x)) (sym l.inside)),
         );
       }
 

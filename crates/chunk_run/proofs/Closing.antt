@@ -7,8 +7,8 @@ use Rattle.nest_lang.specs.declared.tree.Loop.{Loop}
 use Rattle.nest_lang.specs.declared.state.Outer.{Outer}
 use Rattle.orders.specs.Orders.{Ordered, Has}
 use Rattle.orders.specs.Chains.{last}
-use Rattle.orders.proofs.Lists.{all_has, has_from_contains, contains_from_has}
-use Rattle.orders.proofs.Sorts.{never_itself, never_both}
+use Rattle.orders.proofs.Lists.{all_has, has-from-contains, contains-from-has}
+use Rattle.orders.proofs.Sorts.{never-itself, never-both}
 use Rattle.domain.specs.declared.chunk.Chunk.{Chunk}
 use Rattle.domain.specs.Tables.{Table}
 use Rattle.domain.specs.Instances.{Instance, Precedes, IsOriginal, original_key}
@@ -20,7 +20,7 @@ use Rattle.follow_chunk.specs.Predicted.{scalars_at, forecast_of}
 use Rattle.follow_chunk.specs.Followed.{ClosesSmall}
 use Rattle.follow_chunk.specs.Tasks.{IsTask}
 use Rattle.compare.specs.ChainLaw.{behind}
-use Rattle.compare.proofs.PredictedChains.{planned-are_predicted, tasks-are_chunks}
+use Rattle.compare.proofs.PredictedChains.{planned-are-predicted, tasks-are-chunks}
 use Rattle.chunk_run.specs.Parts.{ClosingFits}
 use Rattle.chunk_run.proofs.CellLists.{in-order}
 
@@ -43,19 +43,19 @@ module _ (D scalars words : ℕ) (loops : List Loop) (t : Table) (o : Outer) (ch
   -- the last instance's successor
   last-next : (x : Instance) (xs : List Instance) → IsOriginal t chunk (x ∷ xs) → next t (last x xs) ≡ behind t chunk
   last-next x xs original =
-      let s = successor-law D t task.shape chunk (last x xs) ((original.has (last x xs)).0 (contains_from_has (x ∷ xs) (last x xs) (has-last x xs))) in
-      ⊎_elim (λ p. absurd (too-late s.after (last-after (Precedes t) x xs (next t (last x xs)) (in-order (Precedes t) (x ∷ xs) original.ordered) (has_from_contains (x ∷ xs) (next t (last x xs)) ((original.has (next t (last x xs))).1 p))))) (λ e. e) s.is
+      let s = successor-law D t task.shape chunk (last x xs) ((original.has (last x xs)).0 (contains-from-has (x ∷ xs) (last x xs) (has-last x xs))) in
+      ⊎_elim (λ p. absurd (too-late s.after (last-after (Precedes t) x xs (next t (last x xs)) (in-order (Precedes t) (x ∷ xs) original.ordered) (has-from-contains (x ∷ xs) (next t (last x xs)) ((original.has (next t (last x xs))).1 p))))) (λ e. e) s.is
     where
       too-late : Precedes t (last x xs) (next t (last x xs)) → (next t (last x xs) ≡ last x xs) ⊎ Precedes t (next t (last x xs)) (last x xs) → ⊥
-      too-late h (inl e) = never_itself (slice_cmp int_cmp) (lists_total int_cmp_total) (original_key t) (last x xs) (subst (Precedes t (last x xs)) e h)
-      too-late h (inr k) = never_both (slice_cmp int_cmp) (lists_total int_cmp_total) (original_key t) (last x xs) (next t (last x xs)) h k
+      too-late h (inl e) = never-itself (slice_cmp int_cmp) (lists_total int_cmp_total) (original_key t) (last x xs) (subst (Precedes t (last x xs)) e h)
+      too-late h (inr k) = never-both (slice_cmp int_cmp) (lists_total int_cmp_total) (original_key t) (last x xs) (next t (last x xs)) h k
 
   -- a chunk has an instance
-  not-empty : IsOriginal t chunk [] → ⊥
+  pub not-empty : IsOriginal t chunk [] → ⊥
   not-empty original =
-      let is = tasks-are_chunks D scalars loops t o chunk (pos words) task in
+      let is = tasks-are-chunks D scalars loops t o chunk (pos words) task in
       let (x, xs, e) = planned-some (forecast_of t) loops o (unsigned_abs chunk.turns) is.keeps (some-turns chunk.turns is.some) in
-      no x xs (sym e ∙ planned-are_predicted D scalars loops t o chunk task.shape is [] original)
+      no x xs (sym e ∙ planned-are-predicted D scalars loops t o chunk task.shape is [] original)
     where
       no : (x : Item) (xs : List Item) → ◌≡◌ {A = List Item} (x ∷ xs) [] → ⊥
       no x xs e = cc

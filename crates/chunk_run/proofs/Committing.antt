@@ -16,11 +16,11 @@ use Rattle.transform.specs.Schedules.{IsSchedule}
 use Rattle.skeletons.specs.Cells.{Cell, Extent, AreCellsOf}
 use Rattle.follow.specs.Deviations.{FollowsPrediction}
 use Rattle.follow.specs.ChainLaw.{Ends}
-use Rattle.follow.proofs.Deviating.{deviates-or_follows}
+use Rattle.follow.proofs.Deviating.{deviates-or-follows}
 use Rattle.follow_chunk.specs.Predicted.{scalars_at, forecast_of}
 use Rattle.follow_chunk.specs.Tasks.{IsTask}
 use Rattle.compare.specs.ChainLaw.{behind, Chained}
-use Rattle.compare.proofs.PredictedChains.{tasks-are_chunks, chain-at_predictions}
+use Rattle.compare.proofs.PredictedChains.{tasks-are-chunks, chain-at-predictions}
 use Rattle.chunk_run.specs.ScheduleLaw.{followed}
 use Rattle.chunk_run.specs.Parts.{IsPart, IsPartOf, Succeeds, Fails, IsAttempt}
 use Rattle.chunk_run.specs.ChunkEnds.{IsLegalFor, Between, between, store_in, turns_from, run_from, LeadsTo, Follows, Deviates}
@@ -49,7 +49,7 @@ module _ (D scalars words : ℕ) (loops : List Loop) (t : Table) (o : Outer) (ch
     -- the scheduled list of the chunk has the follow run of the original one
     record Scheduled (xs : List Instance) : Type 0 where
       ys : List Instance
-      part_of : (r : Option ℕ) → result ≡ r → IsPart t loops o ys m left r after
+      part-of : (r : Option ℕ) → result ≡ r → IsPart t loops o ys m left r after
       keeps : followed t loops o ys m ≡ followed t loops o xs m
       all : (x : Instance) → Has xs x → Has ys x
 
@@ -59,7 +59,7 @@ module _ (D scalars words : ℕ) (loops : List Loop) (t : Table) (o : Outer) (ch
         let is = lists-scheduled f xs cells lists original f-are are_lists in
         record {
           ys = flat lists;
-          part_of = λ r e. subst (λ (q : Option ℕ). IsPart t loops o (flat lists) m left q after) e (f-part lists are_lists);
+          part-of = λ r e. subst (λ (q : Option ℕ). IsPart t loops o (flat lists) m left q after) e (f-part lists are_lists);
           keeps = scheduled-keeps D scalars loops t o chunk legal.length e.schedule xs (flat lists) m (subst (λ (n : ℕ). IsTask D scalars loops t o chunk (pos n)) (sym long) task) sched legal.legal legal.turns original is;
           all = is.same.there;
         }
@@ -68,13 +68,13 @@ module _ (D scalars words : ℕ) (loops : List Loop) (t : Table) (o : Outer) (ch
     succeeds begins rest first e =
         let launched = (task.launched).1 in
         let here = scheduled launched.list launched.original in
-        let g = here.part_of (Some rest) e in
+        let g = here.part-of (Some rest) e in
         record {
           steps = g.steps;
           suffice = g.suffice;
           chained = λ xs original.
               let there = scheduled xs original in
-              let h = there.part_of (Some rest) e in
+              let h = there.part-of (Some rest) e in
               let few = h.suffice in
               record {
                 begins = first;
@@ -84,10 +84,10 @@ module _ (D scalars words : ℕ) (loops : List Loop) (t : Table) (o : Outer) (ch
           closes = closing-fits D scalars words loops t o chunk task launched.list launched.original (λ x h. g.closes x (here.all x h));
         }
 
-    fails : (begins : List ℤ) → result ≡ None → Fails t loops o chunk m begins left
+    pub fails : (begins : List ℤ) → result ≡ None → Fails t loops o chunk m begins left
     fails begins e xs r original chained =
         let here = scheduled xs original in
-        let l = here.part_of None e r (here.keeps ∙ chained.follows) in
+        let l = here.part-of None e r (here.keeps ∙ chained.follows) in
         let few = chained.suffice in
         omega (arith, l, few)
 
@@ -99,8 +99,8 @@ module _ (D scalars words : ℕ) (loops : List Loop) (t : Table) (o : Outer) (ch
         by (Some rest) e = succeeds begins rest first e
 
   -- a chunk that begins with other scalars
-  pub fails-at_once : (m begins : List ℤ) (left : ℕ) → (begins ≡ scalars_at t (opening_at t chunk.first) → ⊥) → Fails t loops o chunk m begins left
-  fails-at_once m begins left apart xs r original chained = apart chained.begins
+  pub fails-at-once : (m begins : List ℤ) (left : ℕ) → (begins ≡ scalars_at t (opening_at t chunk.first) → ⊥) → Fails t loops o chunk m begins left
+  fails-at-once m begins left apart xs r original chained = apart chained.begins
 
 -- ---- where the plain run of a chunk ends, with the steps that were used before
 
@@ -151,12 +151,12 @@ module _ (D scalars words : ℕ) (loops : List Loop) (t : Table) (o : Outer) (ch
       → (FollowsPrediction (forecast_of t) (run_from t loops o chunk a k) ↔ ((r : Outcome) × Chained t loops o chunk xs (store_in a) a.steps.left r))
       × ((r : Outcome) → Chained t loops o chunk xs (store_in a) a.steps.left r → Ends (turns_from loops o chunk a k) (store_in a) a.steps.left (scalars_at t (behind t chunk)) r)
   law xs original k less =
-      chain-at_predictions D scalars loops t o chunk xs k (store_in a) a.steps.left task.shape (tasks-are_chunks D scalars loops t o chunk (pos words) task) original size refl less
+      chain-at-predictions D scalars loops t o chunk xs k (store_in a) a.steps.left task.shape (tasks-are-chunks D scalars loops t o chunk (pos words) task) original size refl less
 
   pub deviates : Fails t loops o chunk a.words a.scalars a.steps.left → Deviates t loops o chunk a
   deviates fails k less =
       let launched = (task.launched).1 in
-      ⊎_elim (λ d. d) (λ f. let r = (law launched.list launched.original k less).0.0 f in absurd (fails launched.list r.0 launched.original r.1)) (deviates-or_follows (forecast_of t) (run_from t loops o chunk a k))
+      ⊎_elim (λ d. d) (λ f. let r = (law launched.list launched.original k less).0.0 f in absurd (fails launched.list r.0 launched.original r.1)) (deviates-or-follows (forecast_of t) (run_from t loops o chunk a k))
 
   module _ (after : List ℤ) (rest : ℕ) (s : Succeeds t loops o chunk a.words a.scalars a.steps.left after rest) where
     abbrev outcome : Outcome

@@ -5,7 +5,7 @@ use Rattle.std.specs.List.{All}
 use Rattle.nest_lang.specs.declared.tree.Loop.{Loop}
 use Rattle.nest_lang.specs.declared.state.Outer.{Outer}
 use Rattle.orders.specs.Orders.{Has}
-use Rattle.orders.proofs.Lists.{all_from, contains_from_has}
+use Rattle.orders.proofs.Lists.{all-from, contains-from-has}
 use Rattle.domain.specs.declared.chunk.Chunk.{Chunk}
 use Rattle.domain.specs.Tables.{Table}
 use Rattle.domain.specs.Launches.{IsLaunched}
@@ -22,7 +22,7 @@ use Rattle.chunk_run.proofs.Phasing.{keys-exist}
 
 -- what holds of all elements holds of each
 from-all : {X : Type 0} (P : X → Type 0) (xs : List X) (x : X) → All P xs → Has xs x → P x
-from-all P xs x all h = let (k, l, is) = contains_from_has xs x h in subst P is (all k x l)
+from-all P xs x all h = let (k, l, is) = contains-from-has xs x h in subst P is (all k x l)
 
 module _ (D scalars words : ℕ) (loops : List Loop) (t : Table) (s : Schedule) (o : Outer) (chunk : Chunk) (task : IsTask D scalars loops t o chunk (pos words)) (a : Between) (size : length a.scalars ≡ scalars) (long : length a.words ≡ words) where
   abbrev e : Extent
@@ -34,7 +34,7 @@ module _ (D scalars words : ℕ) (loops : List Loop) (t : Table) (s : Schedule) 
   module _ (plan : ChunkPlan) (planned : IsPlanOf e words plan) where
     numbers : HasNumbers e (pos (length a.words)) plan.instances (length plan.phases) plan.tiles
     numbers =
-        let (keys, are, many) = keys-exist e plan.phases planned.cells (all_from IsOnePhase plan.phases (λ phase h. (from-all (IsPhaseOf e words) plan.phases phase planned.phases h).one)) planned.rise in
+        let (keys, are, many) = keys-exist e plan.phases planned.cells (all-from IsOnePhase plan.phases (λ phase h. (from-all (IsPhaseOf e words) plan.phases phase planned.phases h).one)) planned.rise in
         record {
           launched = subst (λ (n : ℕ). IsLaunched t (pos n) chunk plan.instances) (sym long) planned.instances;
           keys = keys;

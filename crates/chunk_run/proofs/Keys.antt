@@ -5,7 +5,7 @@ use Rattle.std.specs.Ordering.{ordering_then}
 use Rattle.std.specs.Cmp.Lexicographic.{slice_cmp}
 use Rattle.std.proofs.lemmas.Cmp.{tied_itself, lists_total, int_cmp_total}
 use Rattle.std.proofs.lemmas.List.{length-map}
-use Rattle.plain_lemmas.proofs.OrderLaws.{slice_cmp-append_same, slice_cmp-exact}
+use Rattle.plain_lemmas.proofs.OrderLaws.{slice_cmp-append-same, slice_cmp-exact}
 use Rattle.transform.specs.Schedules.{Schedule, leading, band, lead, tile, wave, phase, place, wide_lead, wide_tile, along, tile_along}
 use Rattle.dependence.specs.Laws.{schedule_key}
 
@@ -49,7 +49,7 @@ module _ (s : Schedule) (p q : List ℤ) where
       ∙ then-equal (slice_cmp int_cmp (lead s p) (lead s q))
 
   cmp-wide_tile : slice_cmp int_cmp (wide_tile s p) (wide_tile s q) ≡ slice_cmp int_cmp (tile s p) (tile s q)
-  cmp-wide_tile = slice_cmp-append_same (replicate s.seq (pos 0)) (tile s p) (tile s q)
+  cmp-wide_tile = slice_cmp-append-same (replicate s.seq (pos 0)) (tile s p) (tile s q)
 
   pub cmp-phase : slice_cmp int_cmp (phase s p) (phase s q) ≡ ordering_then (slice_cmp int_cmp (wide_lead s p) (wide_lead s q)) (int_cmp (wave s p) (wave s q))
   cmp-phase =
@@ -59,8 +59,15 @@ module _ (s : Schedule) (p q : List ℤ) where
   phases-long : length (phase s p) ≡ length (phase s q)
   phases-long = long-append (lead s p) (lead s q) (wave s p ∷ []) (wave s q ∷ []) leads-long refl
 
-  pub wide_leads-long : length (wide_lead s p) ≡ length (wide_lead s q)
-  wide_leads-long = long-append (lead s p) (lead s q) zeros zeros leads-long refl
+  pub wide-leads-long : length (wide_lead s p) ≡ length (wide_lead s q)
+  wide-leads-long = long-append (lead s p) (lead s q) zeros zeros leads-long refl
+
+  -- what a cell has of the key is compared as the phase key is
+  pub cmp-cells : slice_cmp int_cmp (wide_lead s p ++ wave s p ∷ []) (wide_lead s q ++ wave s q ∷ []) ≡ slice_cmp int_cmp (phase s p) (phase s q)
+  cmp-cells =
+      cmp-append (wide_lead s p) (wide_lead s q) (wave s p ∷ []) (wave s q ∷ []) wide-leads-long
+      ∙ ap (ordering_then (slice_cmp int_cmp (wide_lead s p) (wide_lead s q))) (then-equal (int_cmp (wave s p) (wave s q)))
+      ∙ sym cmp-phase
 
   -- the key is compared by what a cell has, and then by the place and the rank
   pub cmp-key : (m n : ℤ) → slice_cmp int_cmp (schedule_key s p m) (schedule_key s q n)

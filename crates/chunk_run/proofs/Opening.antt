@@ -10,14 +10,14 @@ use Rattle.domain.proofs.OriginalLaws.{opening-is}
 use Rattle.follow_chunk.specs.Tasks.{IsTask}
 use Rattle.follow_chunk.specs.Predicted.{scalars_at}
 use Rattle.follow_chunk.proofs.Predicting.{length-scalars}
-use Rattle.follow_chunk.proofs.Standing.{block-of_rank}
+use Rattle.follow_chunk.proofs.Standing.{block-of-rank}
 use Rattle.chunk_run.proofs.Scheduled.{from-position}
 
 module _ (D scalars : ℕ) (loops : List Loop) (t : Table) (o : Outer) (chunk : Chunk) (words : ℤ) (task : IsTask D scalars loops t o chunk words) (turn : ℤ) (x : Instance) (is : x ≡ opening_at t turn) where
   pub count-opening : length (block_of t x).scalars ≡ scalars
   count-opening =
       ap (λ (y : Instance). length (block_of t y).scalars) is
-      ∙ (block-of_rank D scalars loops t o chunk words task 0 (opening-is D t task.shape chunk turn).0.block).forms
+      ∙ (block-of-rank D scalars loops t o chunk words task 0 (opening-is D t task.shape chunk turn).0.block).forms
 
   pub length-opening : length (scalars_at t x) ≡ scalars
   length-opening = length-scalars t x ∙ count-opening

@@ -1,21 +1,18 @@
 -- Parting: parts of a chunk that are followed one after another.
-use Rattle.std.proofs.Common.{◌≡◌, refl, sym, ap, ◌∙◌, subst, ℕ, ◌<◌, ◌≤◌, ◌+◌, ◌-◌, inl, inr, ⊎_elim, ℤ, List, [], ◌∷◌, ◌++◌, append_assoc, append-nil, Option, Some, None, arith}
+use Rattle.std.proofs.Common.{◌≡◌, refl, sym, ap, ◌∙◌, ℕ, ◌+◌, ⊎_elim, ℤ, List, [], ◌++◌, Option, Some, None, arith}
 use Rattle.std.proofs.lemmas.List.{map-append}
 use Rattle.nest_lang.specs.declared.tree.Loop.{Loop}
 use Rattle.nest_lang.specs.declared.state.Outer.{Outer}
-use Rattle.orders.specs.Orders.{Has}
 use Rattle.orders.specs.Runs.{Outcome, plus, and_then}
-use Rattle.orders.proofs.Lists.{has_cases, has_right}
-use Rattle.orders.proofs.Swaps.{some_injective}
+use Rattle.orders.proofs.Lists.{has-cases}
+use Rattle.orders.proofs.Swaps.{some-injective}
 use Rattle.domain.specs.declared.chunk.Chunk.{Chunk}
 use Rattle.domain.specs.Tables.{Table}
-use Rattle.domain.specs.Instances.{Instance, Predicted}
-use Rattle.follow.specs.declared.how.How.{How}
-use Rattle.follow.specs.FollowRuns.{follow_one, follow_run}
+use Rattle.domain.specs.Instances.{Instance}
+use Rattle.follow.specs.FollowRuns.{follow_run}
 use Rattle.follow.specs.Plans.{Item}
 use Rattle.follow_chunk.specs.Predicted.{forecast_of}
 use Rattle.follow_chunk.specs.Items.{item_at, items_at, scalars_after}
-use Rattle.follow_chunk.specs.Followed.{Follows, Deviates, ChangesWrites, ClosesSmall}
 use Rattle.follow_chunk.proofs.Listing.{run-append}
 use Rattle.chunk_run.specs.ScheduleLaw.{followed}
 use Rattle.chunk_run.specs.Parts.{FollowsWithin, FailsWithin, ChangesChunk}
@@ -27,12 +24,9 @@ and-then-some (Some a) go r e = by (go a.memory) refl e
   where
     by : (z : Option Outcome) → go a.memory ≡ z → plus a.steps z ≡ Some r → (c : Outcome) × (b : Outcome) × (Some a ≡ Some c) × (go c.memory ≡ Some b) × (r.steps ≡ c.steps + b.steps)
     by None f g = absurd (cc)
-    by (Some b) f g = (a, b, refl, f, sym (ap (λ (y : Outcome). y.steps) (some_injective _ _ g)))
+    by (Some b) f g = (a, b, refl, f, sym (ap (λ (y : Outcome). y.steps) (some-injective _ _ g)))
 
 module _ (t : Table) (loops : List Loop) (o : Outer) where
-  abbrev one : Instance → List ℤ → Option Outcome
-  one x m = follow_one (forecast_of t) (scalars_after t) (item_at t loops o x) m
-
   pub followed-append : (xs ys : List Instance) (m : List ℤ) → followed t loops o (xs ++ ys) m ≡ and_then (followed t loops o xs m) (followed t loops o ys)
   followed-append xs ys m =
       ap (λ (is : List Item). follow_run (forecast_of t) (scalars_after t) is m) (map-append (item_at t loops o) xs ys)
@@ -46,7 +40,7 @@ module _ (t : Table) (loops : List Loop) (o : Outer) where
     steps = f.steps + g.steps;
     run = followed-append xs ys m ∙ ap (λ (r : Option Outcome). and_then r (followed t loops o ys)) f.run ∙ ap (plus f.steps) g.run;
     suffice = let a = f.suffice in let b = g.suffice in omega (arith, a, b);
-    closes = λ x h. ⊎_elim (λ k. f.closes x k) (λ k. g.closes x k) (has_cases xs ys x h);
+    closes = λ x h. ⊎_elim (λ k. f.closes x k) (λ k. g.closes x k) (has-cases xs ys x h);
   }
 
   pub fails-first : (xs ys : List Instance) (m : List ℤ) (left : ℕ) → FailsWithin t loops o xs m left → FailsWithin t loops o (xs ++ ys) m left
@@ -58,55 +52,11 @@ module _ (t : Table) (loops : List Loop) (o : Outer) where
   pub fails-second : (xs ys : List Instance) (m w : List ℤ) (left mid : ℕ) → FollowsWithin t loops o xs m left w mid → FailsWithin t loops o ys w mid → FailsWithin t loops o (xs ++ ys) m left
   fails-second xs ys m w left mid f g r e =
       let (a, b, first, second, total) = and-then-some (followed t loops o xs m) (followed t loops o ys) r (sym (followed-append xs ys m) ∙ e) in
-      let same : a ≡ record { memory = w; steps = f.steps } = some_injective _ _ (sym first ∙ f.run) in
+      let same : a ≡ record { memory = w; steps = f.steps } = some-injective _ _ (sym first ∙ f.run) in
       let l = g b (ap (λ (z : Outcome). followed t loops o ys z.memory) (sym same) ∙ second) in
       let s = ap (λ (z : Outcome). z.steps) same in
       let suffice = f.suffice in
       omega (arith, l, s, total, suffice)
-
-  -- ---- one instance
-
-  module _ (x : Instance) (m : List ℤ) (left : ℕ) where
-    pub one-within : (w : List ℤ) (steps : ℕ) → Follows t loops o x steps m w → steps ≤ left → ClosesSmall t x → FollowsWithin t loops o (x ∷ []) m left w (left - steps)
-    one-within w steps f few small = record {
-      steps = steps;
-      run = ap (λ (r : Option Outcome). and_then r (followed t loops o [])) f.one ∙ (let e : steps + 0 ≡ steps = omega arith in ap (λ (n : ℕ). Some (record { memory = w; steps = n })) e);
-      suffice = omega (arith, few);
-      closes = closes;
-    }
-      where
-        closes : (y : Instance) → Has (x ∷ []) y → ClosesSmall t y
-        closes y (inl e) = subst (ClosesSmall t) (sym e) small
-        closes y (inr h) = absurd h
-
-    pub one-fails : (h : How) → Deviates t loops o x h m → FailsWithin t loops o (x ∷ []) m left
-    one-fails h d r e = absurd (let g : None ≡ Some r = sym (ap (λ (q : Option Outcome). and_then q (followed t loops o [])) d.none) ∙ e in cc)
-
-    pub one-long : (w : List ℤ) (steps : ℕ) → Follows t loops o x steps m w → left < steps → FailsWithin t loops o (x ∷ []) m left
-    one-long w steps f more r e =
-        let (a, b, first, second, total) = and-then-some (one x m) (followed t loops o []) r e in
-        let s = ap (λ (z : Outcome). z.steps) (some_injective _ _ (sym first ∙ f.one)) in
-        omega (arith, more, s, total)
-
-  -- ---- an instance of a list, behind those that were followed
-
-  module _ (xs front rest : List Instance) (x : Instance) (behind : List Instance) (m w : List ℤ) (left mid : ℕ) (are : xs ≡ front ++ rest) (next : rest ≡ x ∷ behind) (f : FollowsWithin t loops o front m left w mid) where
-    are-all : xs ≡ front ++ x ∷ behind
-    are-all = are ∙ ap (λ (zs : List Instance). front ++ zs) next
-
-    pub fails-here : FailsWithin t loops o (x ∷ []) w mid → FailsWithin t loops o xs m left
-    fails-here g = subst (λ (zs : List Instance). FailsWithin t loops o zs m left) (sym are-all) (fails-second front (x ∷ behind) m w left mid f (fails-first (x ∷ []) behind w mid g))
-
-    pub front-more : (v : List ℤ) (steps : ℕ) → Follows t loops o x steps w v → steps ≤ mid → ClosesSmall t x → (more : List Instance) × (xs ≡ more ++ behind) × FollowsWithin t loops o more m left v (mid - steps)
-    front-more v steps g few small =
-        (front ++ x ∷ [], are-all ∙ sym (append_assoc front (x ∷ []) behind), within-append front (x ∷ []) m w v left mid (mid - steps) f (one-within x w mid v steps g few small))
-
-  pub within-all : (xs front rest : List Instance) (m w : List ℤ) (left mid : ℕ) → xs ≡ front ++ rest → rest ≡ [] → FollowsWithin t loops o front m left w mid → FollowsWithin t loops o xs m left w mid
-  within-all xs front rest m w left mid are none f = subst (λ (zs : List Instance). FollowsWithin t loops o zs m left w mid) (sym (are ∙ ap (λ (zs : List Instance). front ++ zs) none ∙ append-nil front)) f
-
--- what holds of a list holds of the instance behind a part of it
-pub holds-here : (P : Instance → Type 0) (xs front rest : List Instance) (x : Instance) (behind : List Instance) → xs ≡ front ++ rest → rest ≡ x ∷ behind → ((y : Instance) → Has xs y → P y) → P x
-holds-here P xs front rest x behind are next all = all x (subst (λ (zs : List Instance). Has zs x) (sym (are ∙ ap (λ (zs : List Instance). front ++ zs) next)) (has_right front (x ∷ behind) x (inl refl)))
 
 -- ---- what changes
 
@@ -116,6 +66,3 @@ module _ (t : Table) (chunk : Chunk) where
 
   pub changes-then : (m w v : List ℤ) → ChangesChunk t chunk m w → ChangesChunk t chunk w v → ChangesChunk t chunk m v
   changes-then m w v f g = record { long = g.long ∙ f.long; others = λ a none. g.others a none ∙ f.others a none }
-
-  pub changes-one : (x : Instance) (m w : List ℤ) → Predicted t chunk x → ChangesWrites t x m w → ChangesChunk t chunk m w
-  changes-one x m w p h = record { long = h.long; others = λ a none. h.others a (none x p) }

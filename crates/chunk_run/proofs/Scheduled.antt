@@ -9,8 +9,8 @@ use Rattle.nest_lang.specs.Turns.{IsPosition, IsPositionIn}
 use Rattle.nest_lang.specs.declared.tree.Head.{Head}
 use Rattle.nest_lang.specs.declared.tree.Head.TheVariants.{For, While}
 use Rattle.orders.specs.Orders.{Ordered, Has, Before, Differ, Precedes as ByKey}
-use Rattle.orders.proofs.Lists.{contains_from_has, ordered_weaker}
-use Rattle.orders.proofs.Sorts.{never_itself}
+use Rattle.orders.proofs.Lists.{contains-from-has, ordered-weaker}
+use Rattle.orders.proofs.Sorts.{never-itself}
 use Rattle.domain.specs.Instances.{Instance, Predicted, Precedes, original_key, Ordered as InOrder}
 use Rattle.domain.specs.Footprints as table
 use Rattle.dependence.specs.Laws.{IsShortLaunch, KeepsConflicts, key_at}
@@ -20,7 +20,7 @@ use Rattle.follow.specs.ReorderLaws as list
 use Rattle.follow.proofs.Reordering.{permutation-keeps}
 use Rattle.follow_chunk.specs.Predicted.{instance_of, forecast_of}
 use Rattle.follow_chunk.specs.Items.{item_at, items_at, scalars_after}
-use Rattle.follow_chunk.proofs.Conflicts.{conflicts-agree, instances-have_items, instances-return}
+use Rattle.follow_chunk.proofs.Conflicts.{conflicts-agree, instances-have-items, instances-return}
 use Rattle.chunk_run.specs.ScheduleLaw.{ScheduledKeeps}
 use Rattle.chunk_run.proofs.Listed.{before-first, before-second, before-map, before-unmap, same-map, differ-map}
 
@@ -50,19 +50,19 @@ scheduled-keeps D scalars loops t o chunk L s xs ys words task sched legal most 
     kept = conflict_law D t L (pos (length words)) s chunk xs ys task.shape sched legal launch original scheduled
 
     predicted : (x : Instance) → Has xs x → Predicted t chunk x
-    predicted x h = (original.has x).0 (contains_from_has xs x h)
+    predicted x h = (original.has x).0 (contains-from-has xs x h)
 
     back-to : (x : Instance) → Predicted t chunk x → instance_of t (Run x).at ≡ x
-    back-to x p = ap (instance_of t) (instances-have_items D scalars (length words) loops t o chunk x task p).1 ∙ instances-return D t x task.shape p.is
+    back-to x p = ap (instance_of t) (instances-have-items D scalars (length words) loops t o chunk x task p).1 ∙ instances-return D t x task.shape p.is
 
     apart : (zs : List Instance) → ((x : Instance) → Has zs x → Has xs x) → (x y : Instance) → Has zs x → Has zs y → Run x ≡ Run y → x ≡ y
     apart zs there x y h k e = sym (back-to x (predicted x (there x h))) ∙ ap (λ (i : Item). instance_of t i.at) e ∙ back-to y (predicted y (there y k))
 
     xs-differ : Ordered Differ xs
-    xs-differ = ordered_weaker (Precedes t) Differ (λ x y r e. never_itself (slice_cmp int_cmp) (lists_total int_cmp_total) (original_key t) x (subst (Precedes t x) (sym e) r)) xs (in-order (Precedes t) xs original.ordered)
+    xs-differ = ordered-weaker (Precedes t) Differ (λ x y r e. never-itself (slice_cmp int_cmp) (lists_total int_cmp_total) (original_key t) x (subst (Precedes t x) (sym e) r)) xs (in-order (Precedes t) xs original.ordered)
 
     ys-differ : Ordered Differ ys
-    ys-differ = ordered_weaker (ByKey (slice_cmp int_cmp) (key_at t s)) Differ (λ x y r e. never_itself (slice_cmp int_cmp) (lists_total int_cmp_total) (key_at t s) x (subst (ByKey (slice_cmp int_cmp) (key_at t s) x) (sym e) r)) ys scheduled.ordered
+    ys-differ = ordered-weaker (ByKey (slice_cmp int_cmp) (key_at t s)) Differ (λ x y r e. never-itself (slice_cmp int_cmp) (lists_total int_cmp_total) (key_at t s) x (subst (ByKey (slice_cmp int_cmp) (key_at t s) x) (sym e) r)) ys scheduled.ordered
 
     keeps : (i j : Item) → list.Conflict (forecast_of t) (length words) i j → Before (items_at t loops o xs) i j → Before (items_at t loops o ys) i j
     keeps i j conflict h =

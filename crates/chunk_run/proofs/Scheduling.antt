@@ -3,14 +3,14 @@ use Rattle.std.proofs.Common.{◌≡◌, refl, sym, ap, ◌∙◌, subst, ℤ, p
 use Rattle.std.specs.List.{AllByRecursion}
 use Rattle.std.specs.Ordering.{ordering_then}
 use Rattle.std.specs.Cmp.Lexicographic.{slice_cmp}
-use Rattle.std.proofs.lemmas.Cmp.{tied_itself, int_cmp_total}
-use Rattle.orders.specs.Orders.{Ordered, Has, Across}
+use Rattle.std.proofs.lemmas.Cmp.{tied_itself, lists_total, int_cmp_total}
+use Rattle.orders.specs.Orders.{Ordered, Has, Differ, Across}
 use Rattle.orders.specs.Tiles.{flat}
-use Rattle.orders.proofs.Lists.{all_has, all_from, has_from_contains, contains_from_has}
-use Rattle.orders.proofs.Sorts.{flat_has, ordered_flat}
+use Rattle.orders.proofs.Lists.{all_has, all-from, has-from-contains, contains-from-has, ordered-weaker}
+use Rattle.orders.proofs.Sorts.{flat-has, ordered-flat, never-itself}
 use Rattle.domain.specs.Instances.{Instance, IsOriginal, padded}
 use Rattle.transform.specs.Schedules.{wave, wide_lead, wide_tile}
-use Rattle.dependence.specs.Laws.{ComesFirst, IsScheduled}
+use Rattle.dependence.specs.Laws.{ComesFirst, IsScheduled, key_at}
 use Rattle.skeletons.specs.Cells.{Cell, Extent, LiesIn, Comes, CellComes, AreListsOf, AreCellsOf, cell_of, place_key}
 use Rattle.chunk_run.proofs.Keys.{cmp-key, same-itself}
 use Rattle.chunk_run.proofs.CellLists.{ordered-into, cell-list, list-cell, flat-predicted}
@@ -32,14 +32,14 @@ module _ (e : Extent) where
   abbrev point : Instance → List ℤ
   point x = padded e.table x
 
-  abbrev by_lead : Instance → Instance → Ordering
-  by_lead x y = slice_cmp int_cmp (wide_lead e.schedule (point x)) (wide_lead e.schedule (point y))
+  abbrev by-lead : Instance → Instance → Ordering
+  by-lead x y = slice_cmp int_cmp (wide_lead e.schedule (point x)) (wide_lead e.schedule (point y))
 
-  abbrev by_wave : Instance → Instance → Ordering
-  by_wave x y = int_cmp (wave e.schedule (point x)) (wave e.schedule (point y))
+  abbrev by-wave : Instance → Instance → Ordering
+  by-wave x y = int_cmp (wave e.schedule (point x)) (wave e.schedule (point y))
 
-  abbrev by_tile : Instance → Instance → Ordering
-  by_tile x y = slice_cmp int_cmp (wide_tile e.schedule (point x)) (wide_tile e.schedule (point y))
+  abbrev by-tile : Instance → Instance → Ordering
+  by-tile x y = slice_cmp int_cmp (wide_tile e.schedule (point x)) (wide_tile e.schedule (point y))
 
   abbrev by_place : Instance → Instance → Ordering
   by_place x y = slice_cmp int_cmp (place_key e x) (place_key e y)
@@ -49,7 +49,7 @@ module _ (e : Extent) where
   within-cell cell x y f g h =
       let same : cell_of e.schedule (point x) ≡ cell_of e.schedule (point y) = f.inside ∙ sym g.inside in
       cmp-key e.schedule (point x) (point y) (pos x.block) (pos y.block)
-      ∙ tied (by_lead x y) (by_wave x y) (by_tile x y) (by_place x y) (same-itself (wide_lead e.schedule (point x)) (wide_lead e.schedule (point y)) (ap (λ (c : Cell). c.lead) same))
+      ∙ tied (by-lead x y) (by-wave x y) (by-tile x y) (by_place x y) (same-itself (wide_lead e.schedule (point x)) (wide_lead e.schedule (point y)) (ap (λ (c : Cell). c.lead) same))
       (subst (λ (z : ℤ). int_cmp (wave e.schedule (point x)) z ≡ Equal) (ap (λ (c : Cell). c.wave) same) (tied_itself int_cmp_total (wave e.schedule (point x))))
       (same-itself (wide_tile e.schedule (point x)) (wide_tile e.schedule (point y)) (ap (λ (c : Cell). c.tile) same))
       ∙ h
@@ -58,7 +58,7 @@ module _ (e : Extent) where
   across-cells : (c d : Cell) (x y : Instance) → CellComes c d → LiesIn e c x → LiesIn e d y → ComesFirst e.table e.schedule x y
   across-cells c d x y h f g =
       cmp-key e.schedule (point x) (point y) (pos x.block) (pos y.block)
-      ∙ decides (by_lead x y) (by_wave x y) (by_tile x y) (by_place x y) (subst (λ (b : Cell). CellComes (cell_of e.schedule (point x)) b) (sym g.inside) (subst (λ (b : Cell). CellComes b d) (sym f.inside) h))
+      ∙ decides (by-lead x y) (by-wave x y) (by-tile x y) (by_place x y) (subst (λ (b : Cell). CellComes (cell_of e.schedule (point x)) b) (sym g.inside) (subst (λ (b : Cell). CellComes b d) (sym f.inside) h))
 
   each-ordered : (cells : List Cell) (lists : List (List Instance)) → AreListsOf e cells lists → AllByRecursion (Ordered (ComesFirst e.table e.schedule)) lists
   each-ordered [] [] f = tt
@@ -72,20 +72,29 @@ module _ (e : Extent) where
   across [] (xs ∷ lists) ord f = absurd f
   across (c ∷ cells) [] ord f = absurd f
   across (c ∷ cells) (xs ∷ lists) ord f = (
-    all_from (Across (ComesFirst e.table e.schedule) xs) lists (λ ys there x y h k.
+    all-from (Across (ComesFirst e.table e.schedule) xs) lists (λ ys there x y h k.
         let (d, found, is) = list-cell e cells lists ys f.1 there in
         across-cells c d x y (all_has (CellComes c) cells d ord.0 found) ((f.0.has x).0 h) ((is.has y).0 k)),
     across cells lists ord.1 f.1,
   )
 
+  -- so no instance stands twice in the lists of cells in order
+  pub lists-once : (cells : List Cell) (lists : List (List Instance)) → Ordered CellComes cells → AreListsOf e cells lists → Ordered Differ (flat lists)
+  lists-once cells lists ord f =
+      ordered-weaker (ComesFirst e.table e.schedule) Differ (λ x y less same. itself x (subst (ComesFirst e.table e.schedule x) (sym same) less)) (flat lists)
+      (ordered-flat (ComesFirst e.table e.schedule) lists (each-ordered cells lists f) (across cells lists ord f))
+    where
+      itself : (x : Instance) → ComesFirst e.table e.schedule x x → ⊥
+      itself x less = never-itself (slice_cmp int_cmp) (lists_total int_cmp_total) (key_at e.table e.schedule) x less
+
   pub lists-scheduled : (xs : List Instance) (cells : List Cell) (lists : List (List Instance)) → IsOriginal e.table e.chunk xs → AreCellsOf e cells → AreListsOf e cells lists → IsScheduled e.table e.schedule xs (flat lists)
   lists-scheduled xs cells lists original are f = record {
-    ordered = ordered_flat (ComesFirst e.table e.schedule) lists (each-ordered cells lists f) (across cells lists are.ordered f);
-    same = record { there = there; back = λ x h. has_from_contains xs x ((original.has x).1 (flat-predicted e cells lists x f h)) };
+    ordered = ordered-flat (ComesFirst e.table e.schedule) lists (each-ordered cells lists f) (across cells lists are.ordered f);
+    same = record { there = there; back = λ x h. has-from-contains xs x ((original.has x).1 (flat-predicted e cells lists x f h)) };
   }
     where
       there : (x : Instance) → Has xs x → Has (flat lists) x
       there x h =
-          let lies : LiesIn e (cell_of e.schedule (point x)) x = record { predicted = (original.has x).0 (contains_from_has xs x h); inside = refl } in
+          let lies : LiesIn e (cell_of e.schedule (point x)) x = record { predicted = (original.has x).0 (contains-from-has xs x h); inside = refl } in
           let (ys, found, is) = cell-list e cells lists (cell_of e.schedule (point x)) f ((are.has (cell_of e.schedule (point x))).1 (x, lies)) in
-          flat_has lists ys x found ((is.has x).1 lies)
+          flat-has lists ys x found ((is.has x).1 lies)

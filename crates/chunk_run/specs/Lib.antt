@@ -1,4 +1,7 @@
 pub mod ScheduleLaw
 pub mod ChunkEnds
+pub mod Groups
 pub mod Parts
+pub mod Ready
+pub mod Walks
 pub mod Examples

@@ -10,7 +10,9 @@ use Rattle.domain.specs.Footprints.{Writes}
 use Rattle.orders.specs.Runs.{Outcome}
 use Rattle.orders.specs.Orders.{Has}
 use Rattle.orders.specs.Tiles.{flat}
+use Rattle.core_steps.specs.Plans.{no_plan}
 use Rattle.skeletons.specs.Cells.{Cell, Extent, AreListsOf}
+use Rattle.tiles.specs.Plans.{Phase}
 use Rattle.follow_chunk.specs.Predicted.{scalars_at}
 use Rattle.follow_chunk.specs.Followed.{ClosesSmall}
 use Rattle.nest_lang.specs.Stores.{store_of}
@@ -38,6 +40,20 @@ IsPart t loops o xs words left None after = FailsWithin t loops o xs words left
 abbrev pub IsPartOf : Extent → List Loop → Outer → List Cell → List ℤ → ℕ → Option ℕ → List ℤ → Type 0
 IsPartOf e loops o cells words left result after =
     (lists : List (List Instance)) → AreListsOf e cells lists → IsPart e.table loops o (flat lists) words left result after
+
+-- these instances were run: they were followed in so many steps, and each scalar that the successor of one of them begins
+-- with is an i64; or there is no follow run of them
+abbrev pub Takes : Table → List Loop → Outer → List Instance → List ℤ → Option ℕ → List ℤ → Type 0
+Takes t loops o xs words (Some steps) after = (followed t loops o xs words ≡ Some (record { memory = after; steps = steps })) × ((x : Instance) → Has xs x → ClosesSmall t x)
+Takes t loops o xs words None after = followed t loops o xs words ≡ None
+
+-- and so the instances of some cells, each cell by place and then by rank
+abbrev pub HasSteps : Extent → List Loop → Outer → List Cell → List ℤ → Option ℕ → List ℤ → Type 0
+HasSteps e loops o cells words result after = (lists : List (List Instance)) → AreListsOf e cells lists → Takes e.table loops o (flat lists) words result after
+
+-- the phase of this number
+abbrev pub phase_at : List Phase → ℕ → Phase
+phase_at phases number = slice_index_or phases number (record { cells = []; plan = no_plan })
 
 -- as many words, and each that no predicted instance of the chunk writes stays
 pub record ChangesChunk (t : Table) (chunk : Chunk) (words after : List ℤ) : Type 0 where

@@ -1,20 +1,22 @@
 //! One chunk of turns in the order of a schedule.
 //!
-//! `run_chunk` runs a launched chunk phase by phase and tile by tile, each instance verified against its prediction, and
-//! commits it or rolls it back. It commits exactly where the original order follows its prediction, and the state is then
-//! that of the plain run of the chunk's turns; otherwise all is as before.
+//! `run_chunk` runs a launched chunk phase by phase: all workers of a phase claim its tiles and verify each instance against
+//! its prediction, as a crew gives them turns. It commits the chunk or rolls it back. It commits exactly where the original
+//! order follows its prediction, and the state is then that of the plain run of the chunk's turns; otherwise all is as before.
 //!
-//! It stands on `tiles` (the plan of the chunk), `skeletons` (the instances of a tile), `follow_chunk` (one instance against
-//! its prediction), `backup` (the words that are predicted to be stored to), and `worker` (the port over the main seat).
+//! It stands on `tiles` (the plan of the chunk), `skeletons` (the instances of a tile), `phase_run` (one phase from its post
+//! to its settle), `crew` (what gives the workers their turns), and `backup` (the words that are predicted to be stored to).
 //! That the schedule's order may stand for the original one is the schedule law, from the conflict law of `dependence` and
 //! the permutation law of `follow`; that following the prediction is running plainly is the chain law of `compare`. The
 //! layer above goes from chunk to chunk.
 #![tactic(auto)]
 
+mod launch;
 pub mod laws;
-mod phases;
+mod prepared;
 mod run;
 mod scalars;
-mod tile;
+mod walks;
 
+pub use launch::Launch;
 pub use run::{ChunkEnd, run_chunk};

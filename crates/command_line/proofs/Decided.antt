@@ -18,7 +18,7 @@ use Rattle.command_line.specs.declared.invocation.Mode.TheVariants.{Plain, Run, 
 use Rattle.command_line.specs.declared.recipe.Recipe.{Recipe}
 use Rattle.command_line.specs.declared.recipe.Shape.{Shape}
 use Rattle.command_line.specs.declared.recipe.Shape.TheVariants as shape
-use Rattle.command_line.proofs.Found.{has_recipe, no_number, number_there, no_number_below, same_text, texts-same}
+use Rattle.command_line.proofs.Found.{has-recipe, no-number, number-there, no-number-below, same_text, texts-same}
 
 -- something is so, or nothing is
 abbrev Decided : {X : Type 0} → (X → Type 0) → Type 0
@@ -56,23 +56,23 @@ number_in least most text = elim (numeral text) [
   ]
 ]
 
-has_number : (rows : List Row) (option : Text) (least most : ℕ) → Decided (λ n. HasNumber rows option least most (pos n))
-has_number rows option least most = elim (first_of option rows) as (λ o. first_of option rows ≡ o → Decided (λ n. HasNumber rows option least most (pos n))) [
-  | None ↦ λ e. inr (λ n. no_number rows option least most e (pos n))
+has-number : (rows : List Row) (option : Text) (least most : ℕ) → Decided (λ n. HasNumber rows option least most (pos n))
+has-number rows option least most = elim (first_of option rows) as (λ o. first_of option rows ≡ o → Decided (λ n. HasNumber rows option least most (pos n))) [
+  | None ↦ λ e. inr (λ n. no-number rows option least most e (pos n))
   | Some text ↦ λ e. elim (number_in least most text) [
     | inl is ↦ inl (is.0, record { text = text; value = e; is = is.1 })
-    | inr never ↦ inr (λ n h. never n (number_there rows option text least most e (pos n) h))
+    | inr never ↦ inr (λ n h. never n (number-there rows option text least most e (pos n) h))
   ]
 ] refl
 
 options : (rows : List Row) → Decided (HasOptions rows)
-options rows = elim (has_number rows (codes "workers") 1 64) [
+options rows = elim (has-number rows (codes "workers") 1 64) [
   | inr never ↦ inr (λ o h. never o.workers h.workers)
-  | inl w ↦ elim (has_number rows (codes "chunk") 1 1024) [
-    | inr never ↦ inr (λ o h. no_number_below rows (codes "chunk") 1 1024 never o.chunk h.chunk)
-    | inl c ↦ elim (has_number rows (codes "sample") 2 64) [
-      | inr never ↦ inr (λ o h. no_number_below rows (codes "sample") 2 64 never o.sample h.sample)
-      | inl s ↦ elim (has_number rows (codes "steps") 0 4294967296) [
+  | inl w ↦ elim (has-number rows (codes "chunk") 1 1024) [
+    | inr never ↦ inr (λ o h. no-number-below rows (codes "chunk") 1 1024 never o.chunk h.chunk)
+    | inl c ↦ elim (has-number rows (codes "sample") 2 64) [
+      | inr never ↦ inr (λ o h. no-number-below rows (codes "sample") 2 64 never o.sample h.sample)
+      | inl s ↦ elim (has-number rows (codes "steps") 0 4294967296) [
         | inr never ↦ inr (λ o h. never o.steps h.steps)
         | inl n ↦ inl (record { workers = w.0; chunk = pos c.0; sample = pos s.0; steps = n.0 }, record { workers = w.1; chunk = c.1; sample = s.1; steps = n.1 })
       ]
@@ -81,8 +81,8 @@ options rows = elim (has_number rows (codes "workers") 1 64) [
 ]
 
 -- the shape of a word
-shape_named : (word : Text) → Decided (λ kind. word ≡ shape_word kind)
-shape_named word = at (bytes_eq word (codes "copy")) (bytes_eq word (codes "list")) (bytes_eq word (codes "grid")) refl refl refl
+shape-named : (word : Text) → Decided (λ kind. word ≡ shape_word kind)
+shape-named word = at (bytes_eq word (codes "copy")) (bytes_eq word (codes "list")) (bytes_eq word (codes "grid")) refl refl refl
   where
     at : (copy linked grid : Bool) → bytes_eq word (codes "copy") ≡ copy → bytes_eq word (codes "list") ≡ linked → bytes_eq word (codes "grid") ≡ grid → Decided (λ kind. word ≡ shape_word kind)
     at true linked grid c l g = inl (shape.Copy, (bytes_eq-Decides word (codes "copy")).0 c)
@@ -96,10 +96,10 @@ shape_named word = at (bytes_eq word (codes "copy")) (bytes_eq word (codes "list
         none shape.Grid h = let t : bytes_eq word (codes "grid") ≡ true = (bytes_eq-Decides word (codes "grid")).1 h in let bad : true ≡ false = sym t ∙ g in cc
 
 -- the recipe of three texts
-recipe_of : (seed kind size : Text) → Decided (IsRecipe (seed ∷ kind ∷ size ∷ []))
-recipe_of seed kind size = elim (number_in 0 4294967295 seed) [
+recipe-of : (seed kind size : Text) → Decided (IsRecipe (seed ∷ kind ∷ size ∷ []))
+recipe-of seed kind size = elim (number_in 0 4294967295 seed) [
   | inr never ↦ inr (λ r h. (let same = texts-same _ _ _ _ _ _ h.texts_are in never r.seed (subst (λ (t : Text). IsNumberIn 0 4294967295 t (pos r.seed)) (sym same.0) h.seed_is)))
-  | inl s ↦ elim (shape_named kind) [
+  | inl s ↦ elim (shape-named kind) [
     | inr never ↦ inr (λ r h. (let same = texts-same _ _ _ _ _ _ h.texts_are in never r.shape same.1))
     | inl k ↦ elim (number_in 1 256 size) [
       | inr never ↦ inr (λ r h. (let same = texts-same _ _ _ _ _ _ h.texts_are in never r.size (subst (λ (t : Text). IsNumberIn 1 256 t (pos r.size)) (sym same.2) h.size_is)))
@@ -112,12 +112,12 @@ recipe : (texts : List Text) → Decided (IsRecipe texts)
 recipe [] = inr (λ r h. (let bad : [] ≡ h.seed ∷ shape_word r.shape ∷ h.size ∷ [] = h.texts_are in cc))
 recipe (a ∷ []) = inr (λ r h. (let bad : a ∷ [] ≡ h.seed ∷ shape_word r.shape ∷ h.size ∷ [] = h.texts_are in cc))
 recipe (a ∷ b ∷ []) = inr (λ r h. (let bad : a ∷ b ∷ [] ≡ h.seed ∷ shape_word r.shape ∷ h.size ∷ [] = h.texts_are in cc))
-recipe (a ∷ b ∷ c ∷ []) = recipe_of a b c
+recipe (a ∷ b ∷ c ∷ []) = recipe-of a b c
 recipe (a ∷ b ∷ c ∷ d ∷ more) = inr (λ r h. (let bad : a ∷ b ∷ c ∷ d ∷ more ≡ h.seed ∷ shape_word r.shape ∷ h.size ∷ [] = h.texts_are in cc))
 
 -- the mode of a word without arguments
-mode_alone : (word : Text) → Decided (IsModeOf word None)
-mode_alone word = at (bytes_eq word (codes "plain")) (bytes_eq word (codes "run")) (bytes_eq word (codes "check")) (bytes_eq word (codes "deps")) refl refl refl refl
+mode-alone : (word : Text) → Decided (IsModeOf word None)
+mode-alone word = at (bytes_eq word (codes "plain")) (bytes_eq word (codes "run")) (bytes_eq word (codes "check")) (bytes_eq word (codes "deps")) refl refl refl refl
   where
     at : (plain run check deps : Bool) → bytes_eq word (codes "plain") ≡ plain → bytes_eq word (codes "run") ≡ run → bytes_eq word (codes "check") ≡ check → bytes_eq word (codes "deps") ≡ deps → Decided (IsModeOf word None)
     at true run check deps e r k l = inl (Plain, record { word_is = (bytes_eq-Decides word (codes "plain")).0 e; has = refl })
@@ -134,25 +134,25 @@ mode_alone word = at (bytes_eq word (codes "plain")) (bytes_eq word (codes "run"
         none (Gen r) h (texts, bad, is) = cc
 
 -- the mode of a word with arguments
-mode_with : (word : Text) (texts : List Text) → Decided (IsModeOf word (Some texts))
-mode_with word texts = elim (bytes_eq word (codes "gen")) as (λ b. bytes_eq word (codes "gen") ≡ b → Decided (IsModeOf word (Some texts))) [
+mode-with : (word : Text) (texts : List Text) → Decided (IsModeOf word (Some texts))
+mode-with word texts = elim (bytes_eq word (codes "gen")) as (λ b. bytes_eq word (codes "gen") ≡ b → Decided (IsModeOf word (Some texts))) [
   | true ↦ λ e. elim (recipe texts) [
     | inl is ↦ inl (Gen is.0, record { word_is = (bytes_eq-Decides word (codes "gen")).0 e; has = (texts, refl, is.1) })
-    | inr never ↦ inr (λ m h. (let r = has_recipe texts m h.has in never r.0 r.2))
+    | inr never ↦ inr (λ m h. (let r = has-recipe texts m h.has in never r.0 r.2))
   ]
   | false ↦ λ e. inr (λ m h. (
-      let r = has_recipe texts m h.has in
+      let r = has-recipe texts m h.has in
       let t : bytes_eq word (codes "gen") ≡ true = (bytes_eq-Decides word (codes "gen")).1 (h.word_is ∙ ap word_of r.1) in
       let bad : true ≡ false = sym t ∙ e in
       cc))
 ] refl
 
 mode : (word : Text) (arguments : Option (List Text)) → Decided (IsModeOf word arguments)
-mode word None = mode_alone word
-mode word (Some texts) = mode_with word texts
+mode word None = mode-alone word
+mode word (Some texts) = mode-with word texts
 
-found_mode : (rows : List Row) → Decided (IsFoundMode rows)
-found_mode rows = elim (first_of (codes "MODE") rows) as (λ o. first_of (codes "MODE") rows ≡ o → Decided (IsFoundMode rows)) [
+found-mode : (rows : List Row) → Decided (IsFoundMode rows)
+found-mode rows = elim (first_of (codes "MODE") rows) as (λ o. first_of (codes "MODE") rows ≡ o → Decided (IsFoundMode rows)) [
   | None ↦ λ e. inr (λ m h. (let bad : None ≡ Some h.word = sym e ∙ h.value in cc))
   | Some word ↦ λ e. elim (mode word (all_of (codes "ARGS") rows)) [
     | inl is ↦ inl (is.0, record { word = word; value = e; is = is.1 })
@@ -161,7 +161,7 @@ found_mode rows = elim (first_of (codes "MODE") rows) as (λ o. first_of (codes 
 ] refl
 
 found : (rows : List Row) → Decided (IsFoundInvocation rows)
-found rows = elim (found_mode rows) [
+found rows = elim (found-mode rows) [
   | inr never ↦ inr (λ i h. never i.mode h.mode)
   | inl m ↦ elim (options rows) [
     | inr never ↦ inr (λ i h. never i.options h.options)

@@ -20,36 +20,36 @@ is_digit c lt =
     let range = digit_from_value c lt in
     grind (arith, tests)
 
-pub AllDigits-from_list_all : (text : List ℕ) → list_all is_ascii_digit text ≡ true → AllDigits 10 text
-AllDigits-from_list_all [] e = tt
-AllDigits-from_list_all (x ∷ xs) e =
+pub AllDigits-from-list-all : (text : List ℕ) → list_all is_ascii_digit text ≡ true → AllDigits 10 text
+AllDigits-from-list-all [] e = tt
+AllDigits-from-list-all (x ∷ xs) e =
     let parts = both (is_ascii_digit x) (list_all is_ascii_digit xs) e in
-    (digit x parts.0, AllDigits-from_list_all xs parts.1)
+    (digit x parts.0, AllDigits-from-list-all xs parts.1)
 
-pub list_all-from_AllDigits : (text : List ℕ) → AllDigits 10 text → list_all is_ascii_digit text ≡ true
-list_all-from_AllDigits [] h = refl
-list_all-from_AllDigits (x ∷ xs) h = ap₂ (λ p q. p && q) (is_digit x h.0) (list_all-from_AllDigits xs h.1)
+pub list_all-from-AllDigits : (text : List ℕ) → AllDigits 10 text → list_all is_ascii_digit text ≡ true
+list_all-from-AllDigits [] h = refl
+list_all-from-AllDigits (x ∷ xs) h = ap₂ (λ p q. p && q) (is_digit x h.0) (list_all-from-AllDigits xs h.1)
 
 -- whether the text is a number in the range
 abbrev pub is_number_in : ℕ → ℕ → Text → Bool
 is_number_in least most text = (nat_lt 0 (length text) && list_all is_ascii_digit text)
     && (nat_le (length text) 10 && (nat_le least (digits_value 10 text) && nat_le (digits_value 10 text) most))
 
-pub IsNumberIn-from_test : (least most : ℕ) (text : Text) → is_number_in least most text ≡ true → IsNumberIn least most text (pos (digits_value 10 text))
-IsNumberIn-from_test least most text e =
+pub IsNumberIn-from-test : (least most : ℕ) (text : Text) → is_number_in least most text ≡ true → IsNumberIn least most text (pos (digits_value 10 text))
+IsNumberIn-from-test least most text e =
     let a = both (nat_lt 0 (length text) && list_all is_ascii_digit text) _ e in
     let b = both (nat_lt 0 (length text)) _ a.0 in
     let c = both (nat_le (length text) 10) _ a.1 in
     let d = both (nat_le least (digits_value 10 text)) _ c.1 in
     record {
-      numeral = (ltb-true 0 (length text) b.0, AllDigits-from_list_all text b.1);
+      numeral = (ltb-true 0 (length text) b.0, AllDigits-from-list-all text b.1);
       short = leb-true (length text) 10 c.0;
       value = refl;
       from = leb-true least (digits_value 10 text) d.0;
       upto = leb-true (digits_value 10 text) most d.1;
     }
 
-pub test-from_IsNumberIn : (least most : ℕ) (text : Text) (number : ℤ) → IsNumberIn least most text number → is_number_in least most text ≡ true
-test-from_IsNumberIn least most text number h =
-    ap₂ (λ p q. p && q) (ap₂ (λ p q. p && q) (lt-ltb 0 (length text) h.numeral.0) (list_all-from_AllDigits text h.numeral.1))
+pub test-from-IsNumberIn : (least most : ℕ) (text : Text) (number : ℤ) → IsNumberIn least most text number → is_number_in least most text ≡ true
+test-from-IsNumberIn least most text number h =
+    ap₂ (λ p q. p && q) (ap₂ (λ p q. p && q) (lt-ltb 0 (length text) h.numeral.0) (list_all-from-AllDigits text h.numeral.1))
     (ap₂ (λ p q. p && q) (le-leb (length text) 10 h.short) (ap₂ (λ p q. p && q) (le-leb least (digits_value 10 text) h.from) (le-leb (digits_value 10 text) most h.upto)))

@@ -22,13 +22,13 @@ use Rattle.command_line.specs.declared.recipe.Shape.TheVariants as shape
 pub nothing : {T : Type 0} (found : Option T) (P : T → Type 0) → found ≡ None → ((x : T) → P x → ⊥) → Finds found P
 nothing found P none h = subst (λ o. Finds o P) (sym none) h
 
-pub only_nothing : {T : Type 0} (found : Option T) (P : T → Type 0) → found ≡ None → Finds found P → (x : T) → P x → ⊥
-only_nothing found P none h = subst (λ o. Finds o P) none h
+pub only-nothing : {T : Type 0} (found : Option T) (P : T → Type 0) → found ≡ None → Finds found P → (x : T) → P x → ⊥
+only-nothing found P none h = subst (λ o. Finds o P) none h
 
 -- the same is found by a property that says the same
-pub finds_the_same : {T : Type 0} (found : Option T) (P Q : T → Type 0) → ((x : T) → P x → Q x) → ((x : T) → Q x → P x) → Finds found P → Finds found Q
-finds_the_same (Some x) P Q to back h = to x h
-finds_the_same None P Q to back h = λ x q. h x (back x q)
+pub finds-the-same : {T : Type 0} (found : Option T) (P Q : T → Type 0) → ((x : T) → P x → Q x) → ((x : T) → Q x → P x) → Finds found P → Finds found Q
+finds-the-same (Some x) P Q to back h = to x h
+finds-the-same None P Q to back h = λ x q. h x (back x q)
 
 pub same_text : {T : Type 0} (one other : T) → Some one ≡ Some other → one ≡ other
 same_text one other e = cc
@@ -37,39 +37,39 @@ same_text one other e = cc
 pub first_of-given : (found : Found) (id : Text) (given : Option (Bor Text)) → option_map (λ s. s.now) given ≡ first_value found id → first_of id (rows_of found) ≡ option_map (λ s. s.now) given
 first_of-given found id given is = sym (is ∙ first_value-rows found id)
 
-pub no_number : (rows : List Row) (option : Text) (least most : ℕ) → first_of option rows ≡ None → (number : ℤ) → HasNumber rows option least most number → ⊥
-no_number rows option least most none number h =
+pub no-number : (rows : List Row) (option : Text) (least most : ℕ) → first_of option rows ≡ None → (number : ℤ) → HasNumber rows option least most number → ⊥
+no-number rows option least most none number h =
     let bad : None ≡ Some h.text = sym none ∙ h.value in
     cc
 
-pub number_there : (rows : List Row) (option text : Text) (least most : ℕ) → first_of option rows ≡ Some text → (number : ℤ)
+pub number-there : (rows : List Row) (option text : Text) (least most : ℕ) → first_of option rows ≡ Some text → (number : ℤ)
     → HasNumber rows option least most number → IsNumberIn least most text number
-number_there rows option text least most given number h =
+number-there rows option text least most given number h =
     subst (λ (t : Text). IsNumberIn least most t number) (same_text h.text text (sym h.value ∙ given)) h.is
 
 -- a number is no less than 0
-pub no_number_below : (rows : List Row) (option : Text) (least most : ℕ) → ((n : ℕ) → HasNumber rows option least most (pos n) → ⊥) → (number : ℤ)
+pub no-number-below : (rows : List Row) (option : Text) (least most : ℕ) → ((n : ℕ) → HasNumber rows option least most (pos n) → ⊥) → (number : ℤ)
     → HasNumber rows option least most number → ⊥
-no_number_below rows option least most none number h =
+no-number-below rows option least most none number h =
     none _ (subst (λ (z : ℤ). HasNumber rows option least most z) h.is.value h)
 
-pub none_there : {T U : Type 0} (f : T → U) (o : Option T) → option_map f o ≡ None → is_some o ≡ true → ⊥
-none_there f None e h = cc
-none_there f (Some x) e h = cc
+pub none-there : {T U : Type 0} (f : T → U) (o : Option T) → option_map f o ≡ None → is_some o ≡ true → ⊥
+none-there f None e h = cc
+none-there f (Some x) e h = cc
 
-pub none_found : {T U : Type 0} (f : T → U) (o : Option T) (r : Option U) → option_map f o ≡ r → is_some o ≡ false → r ≡ None
-none_found f None r e h = sym e
-none_found f (Some x) r e h = cc
+pub none-found : {T U : Type 0} (f : T → U) (o : Option T) (r : Option U) → option_map f o ≡ r → is_some o ≡ false → r ≡ None
+none-found f None r e h = sym e
+none-found f (Some x) r e h = cc
 
 -- what was found is the one thing of which something holds
-pub some_that : {T : Type 0} (found : Option T) (x : T) → IsSomeAnd found (λ y. y ≡ x) → found ≡ Some x
-some_that None x h = absurd h
-some_that (Some y) x h = ap (λ z. Some z) h
+pub some-that : {T : Type 0} (found : Option T) (x : T) → IsSomeAnd found (λ y. y ≡ x) → found ≡ Some x
+some-that None x h = absurd h
+some-that (Some y) x h = ap (λ z. Some z) h
 
 -- ---- words are at most one command
 
-one_natural : (m n : ℕ) → pos m ≡ pos n → m ≡ n
-one_natural m n e = cc
+one-natural : (m n : ℕ) → pos m ≡ pos n → m ≡ n
+one-natural m n e = cc
 
 -- the mode of a word, with this recipe where it has one
 unfoldable pub mode_of : Recipe → Text → Option Mode
@@ -81,33 +81,33 @@ mode_of recipe word = if bytes_eq word (codes "plain") then Some Plain
     else None
 
 -- a mode, with this recipe where it has one
-abbrev with_recipe : Recipe → Mode → Mode
-with_recipe recipe (Gen other) = Gen recipe
-with_recipe recipe mode = mode
+abbrev with-recipe : Recipe → Mode → Mode
+with-recipe recipe (Gen other) = Gen recipe
+with-recipe recipe mode = mode
 
-pub mode_of-word_of : (recipe : Recipe) (mode : Mode) → mode_of recipe (word_of mode) ≡ Some (with_recipe recipe mode)
+pub mode-of-word_of : (recipe : Recipe) (mode : Mode) → mode_of recipe (word_of mode) ≡ Some (with-recipe recipe mode)
 unfolding mode_of
-mode_of-word_of recipe Plain = refl
-mode_of-word_of recipe Run = refl
-mode_of-word_of recipe Check = refl
-mode_of-word_of recipe Deps = refl
-mode_of-word_of recipe (Gen other) = refl
+mode-of-word_of recipe Plain = refl
+mode-of-word_of recipe Run = refl
+mode-of-word_of recipe Check = refl
+mode-of-word_of recipe Deps = refl
+mode-of-word_of recipe (Gen other) = refl
 
 -- a mode without arguments has no recipe
-has_no_recipe : (recipe : Recipe) (mode : Mode) → HasArguments mode None → with_recipe recipe mode ≡ mode
-has_no_recipe recipe Plain h = refl
-has_no_recipe recipe Run h = refl
-has_no_recipe recipe Check h = refl
-has_no_recipe recipe Deps h = refl
-has_no_recipe recipe (Gen other) (texts, bad, is) = absurd (cc)
+has-no-recipe : (recipe : Recipe) (mode : Mode) → HasArguments mode None → with-recipe recipe mode ≡ mode
+has-no-recipe recipe Plain h = refl
+has-no-recipe recipe Run h = refl
+has-no-recipe recipe Check h = refl
+has-no-recipe recipe Deps h = refl
+has-no-recipe recipe (Gen other) (texts, bad, is) = absurd (cc)
 
 -- a mode with arguments is that of their recipe
-pub has_recipe : (texts : List Text) (mode : Mode) → HasArguments mode (Some texts) → (recipe : Recipe) × (mode ≡ Gen recipe) × IsRecipe texts recipe
-has_recipe texts Plain bad = absurd (cc)
-has_recipe texts Run bad = absurd (cc)
-has_recipe texts Check bad = absurd (cc)
-has_recipe texts Deps bad = absurd (cc)
-has_recipe texts (Gen recipe) (given, same, is) = (recipe, refl, subst (λ (ts : List Text). IsRecipe ts recipe) (same_text given texts (sym same)) is)
+pub has-recipe : (texts : List Text) (mode : Mode) → HasArguments mode (Some texts) → (recipe : Recipe) × (mode ≡ Gen recipe) × IsRecipe texts recipe
+has-recipe texts Plain bad = absurd (cc)
+has-recipe texts Run bad = absurd (cc)
+has-recipe texts Check bad = absurd (cc)
+has-recipe texts Deps bad = absurd (cc)
+has-recipe texts (Gen recipe) (given, same, is) = (recipe, refl, subst (λ (ts : List Text). IsRecipe ts recipe) (same_text given texts (sym same)) is)
 
 -- the shape of a word
 unfoldable pub shape_of : Text → Option Shape
@@ -126,38 +126,38 @@ shape_of-shape_word shape.Grid = refl
 pub texts-same : (a b c d e f : Text) → ◌≡◌ {A = List Text} (a ∷ b ∷ c ∷ []) (d ∷ e ∷ f ∷ []) → (a ≡ d) × (b ≡ e) × (c ≡ f)
 texts-same a b c d e f h = (cc, cc, cc)
 
-same_number : (least most : ℕ) (text other : Text) (m n : ℕ) → text ≡ other → IsNumberIn least most text (pos m) → IsNumberIn least most other (pos n) → m ≡ n
-same_number least most text other m n same one two =
-    one_natural _ _ (one.value ∙ (ap (λ t. pos (digits_value 10 t)) same ∙ sym two.value))
+same-number : (least most : ℕ) (text other : Text) (m n : ℕ) → text ≡ other → IsNumberIn least most text (pos m) → IsNumberIn least most other (pos n) → m ≡ n
+same-number least most text other m n same one two =
+    one-natural _ _ (one.value ∙ (ap (λ t. pos (digits_value 10 t)) same ∙ sym two.value))
 
-one_recipe : (texts : List Text) (one other : Recipe) → IsRecipe texts one → IsRecipe texts other → one ≡ other
-one_recipe texts one other h k =
+one-recipe : (texts : List Text) (one other : Recipe) → IsRecipe texts one → IsRecipe texts other → one ≡ other
+one-recipe texts one other h k =
     let (seeds, shapes, sizes) = texts-same h.seed (shape_word one.shape) h.size k.seed (shape_word other.shape) k.size (sym h.texts_are ∙ k.texts_are) in
-    let seed : one.seed ≡ other.seed = same_number 0 4294967295 h.seed k.seed one.seed other.seed seeds h.seed_is k.seed_is in
-    let size : one.size ≡ other.size = same_number 1 256 h.size k.size one.size other.size sizes h.size_is k.size_is in
+    let seed : one.seed ≡ other.seed = same-number 0 4294967295 h.seed k.seed one.seed other.seed seeds h.seed_is k.seed_is in
+    let size : one.size ≡ other.size = same-number 1 256 h.size k.size one.size other.size sizes h.size_is k.size_is in
     let kind : one.shape ≡ other.shape = same_text one.shape other.shape (sym (shape_of-shape_word one.shape) ∙ (ap shape_of shapes ∙ shape_of-shape_word other.shape)) in
     λ i. record { seed = seed i; shape = kind i; size = size i }
 
 -- a word and its arguments are those of one mode
-one_mode : (word : Text) (arguments : Option (List Text)) (one other : Mode) → IsModeOf word arguments one → IsModeOf word arguments other → one ≡ other
-one_mode word None one other h k =
+one-mode : (word : Text) (arguments : Option (List Text)) (one other : Mode) → IsModeOf word arguments one → IsModeOf word arguments other → one ≡ other
+one-mode word None one other h k =
     let any : Recipe = record { seed = 0; shape = shape.Copy; size = 1 } in
-    let same : with_recipe any one ≡ with_recipe any other =
-    same_text _ _ (sym (mode_of-word_of any one) ∙ (ap (mode_of any) (sym h.word_is ∙ k.word_is) ∙ mode_of-word_of any other)) in
-    sym (has_no_recipe any one h.has) ∙ (same ∙ has_no_recipe any other k.has)
-one_mode word (Some texts) one other h k =
-    let (recipe, is, read) = has_recipe texts one h.has in
-    let (another, is', read') = has_recipe texts other k.has in
-    is ∙ (ap (λ (r : Recipe). Gen r) (one_recipe texts recipe another read read') ∙ sym is')
+    let same : with-recipe any one ≡ with-recipe any other =
+    same_text _ _ (sym (mode-of-word_of any one) ∙ (ap (mode_of any) (sym h.word_is ∙ k.word_is) ∙ mode-of-word_of any other)) in
+    sym (has-no-recipe any one h.has) ∙ (same ∙ has-no-recipe any other k.has)
+one-mode word (Some texts) one other h k =
+    let (recipe, is, read) = has-recipe texts one h.has in
+    let (another, is', read') = has-recipe texts other k.has in
+    is ∙ (ap (λ (r : Recipe). Gen r) (one-recipe texts recipe another read read') ∙ sym is')
 
 -- the mode that was found is one
-one_found_mode : (rows : List Row) (one other : Mode) → IsFoundMode rows one → IsFoundMode rows other → one ≡ other
-one_found_mode rows one other h k =
+one-found-mode : (rows : List Row) (one other : Mode) → IsFoundMode rows one → IsFoundMode rows other → one ≡ other
+one-found-mode rows one other h k =
     let same = same_text k.word h.word (sym k.value ∙ h.value) in
-    one_mode h.word _ one other h.is (subst (λ (word : Text). IsModeOf word _ other) same k.is)
+    one-mode h.word _ one other h.is (subst (λ (word : Text). IsModeOf word _ other) same k.is)
 
-one_number : (rows : List Row) (option : Text) (least most : ℕ) (one other : ℤ) → HasNumber rows option least most one → HasNumber rows option least most other → one ≡ other
-one_number rows option least most one other h k =
+one-number : (rows : List Row) (option : Text) (least most : ℕ) (one other : ℤ) → HasNumber rows option least most one → HasNumber rows option least most other → one ≡ other
+one-number rows option least most one other h k =
     let same = same_text h.text k.text (sym h.value ∙ k.value) in
     h.is.value ∙ (ap (λ t. pos (digits_value 10 t)) same ∙ sym k.is.value)
 
@@ -166,9 +166,9 @@ one_invocation words one other h k =
     let rows = matches_of syntax words in
     let options = h.found.options in
     let others = k.found.options in
-    let mode : one.mode ≡ other.mode = one_found_mode rows one.mode other.mode h.found.mode k.found.mode in
-    let workers : one.options.workers ≡ other.options.workers = one_natural _ _ (one_number rows _ _ _ _ _ options.workers others.workers) in
-    let chunk : one.options.chunk ≡ other.options.chunk = one_number rows _ _ _ _ _ options.chunk others.chunk in
-    let sample : one.options.sample ≡ other.options.sample = one_number rows _ _ _ _ _ options.sample others.sample in
-    let steps : one.options.steps ≡ other.options.steps = one_natural _ _ (one_number rows _ _ _ _ _ options.steps others.steps) in
+    let mode : one.mode ≡ other.mode = one-found-mode rows one.mode other.mode h.found.mode k.found.mode in
+    let workers : one.options.workers ≡ other.options.workers = one-natural _ _ (one-number rows _ _ _ _ _ options.workers others.workers) in
+    let chunk : one.options.chunk ≡ other.options.chunk = one-number rows _ _ _ _ _ options.chunk others.chunk in
+    let sample : one.options.sample ≡ other.options.sample = one-number rows _ _ _ _ _ options.sample others.sample in
+    let steps : one.options.steps ≡ other.options.steps = one-natural _ _ (one-number rows _ _ _ _ _ options.steps others.steps) in
     λ i. record { mode = mode i; options = record { workers = workers i; chunk = chunk i; sample = sample i; steps = steps i } }

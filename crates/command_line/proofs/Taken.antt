@@ -29,183 +29,183 @@ Passes kinds test = kinds ≡ [] → test ≡ true
 
 -- ---- steps put together
 
-first_empty : (a b : Kinds) → or_else a b ≡ [] → a ≡ []
-first_empty [] b e = refl
-first_empty (k ∷ ks) b e = e
+first-empty : (a b : Kinds) → or_else a b ≡ [] → a ≡ []
+first-empty [] b e = refl
+first-empty (k ∷ ks) b e = e
 
-next_empty : (a b : Kinds) → or_else a b ≡ [] → b ≡ []
-next_empty [] b e = e
-next_empty (k ∷ ks) b e = cc
+next-empty : (a b : Kinds) → or_else a b ≡ [] → b ≡ []
+next-empty [] b e = e
+next-empty (k ∷ ks) b e = cc
 
 in_turn : (a b : Kinds) (p q : Bool) → Passes a p → Passes b q → Passes (or_else a b) (p && q)
-in_turn a b p q one two e = ap₂ (λ x y. x && y) (one (first_empty a b e)) (two (next_empty a b e))
+in_turn a b p q one two e = ap₂ (λ x y. x && y) (one (first-empty a b e)) (two (next-empty a b e))
 
 unless : (c : Bool) (a : Kinds) (p : Bool) → Passes a p → Passes (if c then [] else a) (c || p)
 unless true a p h e = refl
 unless false a p h e = h e
 
-only_if : (c : Bool) (k : ErrorKind) → Passes (if c then [] else k ∷ []) c
-only_if true k e = refl
-only_if false k e = cc
+only-if : (c : Bool) (k : ErrorKind) → Passes (if c then [] else k ∷ []) c
+only-if true k e = refl
+only-if false k e = cc
 
-not_if : (c : Bool) (k : ErrorKind) (a : Kinds) (p : Bool) → Passes a p → Passes (if c then k ∷ [] else a) (not c && p)
-not_if true k a p h e = cc
-not_if false k a p h e = h e
+not-if : (c : Bool) (k : ErrorKind) (a : Kinds) (p : Bool) → Passes a p → Passes (if c then k ∷ [] else a) (not c && p)
+not-if true k a p h e = cc
+not-if false k a p h e = h e
 
 choice : (c : Bool) (a b : Kinds) (p q : Bool) → Passes a p → Passes b q → Passes (if c then a else b) (if c then p else q)
 choice true a b p q one two e = one e
 choice false a b p q one two e = two e
 
-if_some : {X : Type 0} (f : X → Kinds) (g : X → Bool) → ((x : X) → Passes (f x) (g x)) → (o : Option X) → Passes (option_map_or f o []) (option_map_or g o true)
-if_some f g h None e = refl
-if_some f g h (Some x) e = h x e
+if-some : {X : Type 0} (f : X → Kinds) (g : X → Bool) → ((x : X) → Passes (f x) (g x)) → (o : Option X) → Passes (option_map_or f o []) (option_map_or g o true)
+if-some f g h None e = refl
+if-some f g h (Some x) e = h x e
 
 -- ---- values
 
-value_taken : (a : Rule) (text : Text) → Passes (failing.values_fault a (text ∷ [])) (passing.value_passes a text)
-value_taken a text e = only_if (accepts a.ignore_case (parser_of_value a.parser) text) (refused_kind (parser_of_value a.parser)) (first_empty _ _ e)
+value-taken : (a : Rule) (text : Text) → Passes (failing.values_fault a (text ∷ [])) (passing.value_passes a text)
+value-taken a text e = only-if (accepts a.ignore_case (parser_of_value a.parser) text) (refused_kind (parser_of_value a.parser)) (first-empty _ _ e)
 
-values_taken : (a : Rule) (values : List Text) → Passes (failing.values_fault a values) (passing.values_pass a values)
-values_taken a [] e = refl
-values_taken a (v ∷ vs) e =
-    ap₂ (λ x y. x && y) (only_if (accepts a.ignore_case (parser_of_value a.parser) v) (refused_kind (parser_of_value a.parser)) (first_empty _ _ e)) (values_taken a vs (next_empty _ _ e))
+values-taken : (a : Rule) (values : List Text) → Passes (failing.values_fault a values) (passing.values_pass a values)
+values-taken a [] e = refl
+values-taken a (v ∷ vs) e =
+    ap₂ (λ x y. x && y) (only-if (accepts a.ignore_case (parser_of_value a.parser) v) (refused_kind (parser_of_value a.parser)) (first-empty _ _ e)) (values-taken a vs (next-empty _ _ e))
 
-count_taken : (a : Rule) (values : List Text) (rows : List Row) → Passes (failing.count_fault a values rows) (passing.count_passes a values rows)
-count_taken a [] rows e =
-    only_if (accepts a.ignore_case (parser_of_value a.parser) (count_text (min (count_of a.id rows + 1) 255))) (refused_kind (parser_of_value a.parser)) e
-count_taken a (v ∷ vs) rows e = values_taken a (v ∷ vs) e
+count-taken : (a : Rule) (values : List Text) (rows : List Row) → Passes (failing.count_fault a values rows) (passing.count_passes a values rows)
+count-taken a [] rows e =
+    only-if (accepts a.ignore_case (parser_of_value a.parser) (count_text (min (count_of a.id rows + 1) 255))) (refused_kind (parser_of_value a.parser)) e
+count-taken a (v ∷ vs) rows e = values-taken a (v ∷ vs) e
 
-not_again : (there again : Bool) (k : ErrorKind) → Passes (if (there && not again) then k ∷ [] else []) (not there || again)
-not_again true true k e = refl
-not_again true false k e = cc
-not_again false again k e = refl
+not-again : (there again : Bool) (k : ErrorKind) → Passes (if (there && not again) then k ∷ [] else []) (not there || again)
+not-again true true k e = refl
+not-again true false k e = cc
+not-again false again k e = refl
 
-set_taken : (again : Bool) (a : Rule) (values : List Text) (rows : List Row) → Passes (failing.set_fault again a values rows) (passing.set_passes again a values rows)
-set_taken again a values rows =
+set-taken : (again : Bool) (a : Rule) (values : List Text) (rows : List Row) → Passes (failing.set_fault again a values rows) (passing.set_passes again a values rows)
+set-taken again a values rows =
     in_turn (failing.repeat_fault again a.id rows) (failing.values_fault a values) (not (has_row a.id rows) || again) (passing.values_pass a values)
-    (not_again (has_row a.id rows) again _) (values_taken a values)
+    (not-again (has_row a.id rows) again _) (values-taken a values)
 
-action_taken : (x : ArgAction) (again : Bool) (a : Rule) (values : List Text) (rows : List Row) → Passes (failing.action_fault x again a values rows) (passing.action_passes x again a values rows)
-action_taken Set again a values rows e = set_taken again a values rows e
-action_taken SetTrue again a values rows e = set_taken again a values rows e
-action_taken SetFalse again a values rows e = set_taken again a values rows e
-action_taken Append again a values rows e = values_taken a values e
-action_taken Count again a values rows e = count_taken a values rows e
-action_taken Help again a values rows e = cc
-action_taken HelpShort again a values rows e = cc
-action_taken HelpLong again a values rows e = cc
-action_taken Version again a values rows e = cc
+action-taken : (x : ArgAction) (again : Bool) (a : Rule) (values : List Text) (rows : List Row) → Passes (failing.action_fault x again a values rows) (passing.action_passes x again a values rows)
+action-taken Set again a values rows e = set-taken again a values rows e
+action-taken SetTrue again a values rows e = set-taken again a values rows e
+action-taken SetFalse again a values rows e = set-taken again a values rows e
+action-taken Append again a values rows e = values-taken a values e
+action-taken Count again a values rows e = count-taken a values rows e
+action-taken Help again a values rows e = cc
+action-taken HelpShort again a values rows e = cc
+action-taken HelpLong again a values rows e = cc
+action-taken Version again a values rows e = cc
 
 -- ---- one use of an argument
 
 -- n values are from `least` to `most`, where their number is no fault
 module _ (least most n : ℕ) where
-  in_range : (some same is few many : Bool) (a b c d : ErrorKind)
+  in-range : (some same is few many : Bool) (a b c d : ErrorKind)
       → (if some then a ∷ [] else (if same then (if is then [] else b ∷ []) else (if few then c ∷ [] else (if many then d ∷ [] else [])))) ≡ []
       → (same ≡ true → least ≡ most) → (is ≡ true → least ≡ n) → (few ≡ false → least ≤ n) → (many ≡ false → n ≤ most)
       → (least ≤ n) × (n ≤ most)
-  in_range true same is few many a b c d e h i j k = cc
-  in_range false true true few many a b c d e h i j k =
+  in-range true same is few many a b c d e h i j k = cc
+  in-range false true true few many a b c d e h i j k =
       let ends : least ≡ most = h refl in
       let here : least ≡ n = i refl in (omega arith, omega arith)
-  in_range false true false few many a b c d e h i j k = cc
-  in_range false false is true many a b c d e h i j k = cc
-  in_range false false is false true a b c d e h i j k = cc
-  in_range false false is false false a b c d e h i j k = (j refl, k refl)
+  in-range false true false few many a b c d e h i j k = cc
+  in-range false false is true many a b c d e h i j k = cc
+  in-range false false is false true a b c d e h i j k = cc
+  in-range false false is false false a b c d e h i j k = (j refl, k refl)
 
-  range_taken : range_kinds least most n ≡ [] → (nat_le least n ≡ true) × (nat_le n most ≡ true)
-  range_taken e =
-      let within = in_range (nat_lt 0 least && n == 0) (least == most) (least == n) (nat_lt n least) (nat_lt most n) _ _ _ _ e
+  range-taken : range_kinds least most n ≡ [] → (nat_le least n ≡ true) × (nat_le n most ≡ true)
+  range-taken e =
+      let within = in-range (nat_lt 0 least && n == 0) (least == most) (least == n) (nat_lt n least) (nat_lt most n) _ _ _ _ e
       (eqb-true least most) (eqb-true least n) (ltb-false n least) (ltb-false most n) in
       (le-leb least n within.0, le-leb n most within.1)
 
-use_taken : (again : Bool) (a : Rule) (values : List Text) (rows : List Row) → Passes (failing.use_fault again a values rows) (passing.use_passes again a values rows)
-use_taken again a values rows e =
-    let range = range_taken (unwrap_or_range a.range).start_inclusive (most_values a) (length values) (first_empty _ _ e) in
-    let acted = action_taken (action_of a) again a (values_or_missing a values) rows (next_empty _ _ e) in
+use-taken : (again : Bool) (a : Rule) (values : List Text) (rows : List Row) → Passes (failing.use_fault again a values rows) (passing.use_passes again a values rows)
+use-taken again a values rows e =
+    let range = range-taken (unwrap_or_range a.range).start_inclusive (most_values a) (length values) (first-empty _ _ e) in
+    let acted = action-taken (action_of a) again a (values_or_missing a values) rows (next-empty _ _ e) in
     ap₂ (λ x y. x && y) range.0 (ap₂ (λ x y. x && y) range.1 acted)
 
 -- ---- the walk
 
 module _ (c : List Rule) (again : Bool) where
-  settle_taken : (h : Held) → Passes (failing.settle_fault c again h) (passing.settle_passes c again h)
-  settle_taken h = if_some _ _ (λ p. if_some _ _ (λ a. use_taken again a p.1 h.rows) (arg_by_id c p.0)) h.pending
+  settle-taken : (h : Held) → Passes (failing.settle_fault c again h) (passing.settle_passes c again h)
+  settle-taken h = if-some _ _ (λ p. if-some _ _ (λ a. use-taken again a p.1 h.rows) (arg_by_id c p.0)) h.pending
 
-  react_taken : (a : Rule) (values : List Text) (h : Held) → Passes (failing.react_fault c again a values h) (passing.react_passes c again a values h)
-  react_taken a values h = in_turn _ _ _ _ (settle_taken h) (use_taken again a values (settled c h).rows)
+  react-taken : (a : Rule) (values : List Text) (h : Held) → Passes (failing.react_fault c again a values h) (passing.react_passes c again a values h)
+  react-taken a values h = in_turn _ _ _ _ (settle-taken h) (use-taken again a values (settled c h).rows)
 
-  option_taken : (a : Rule) (v : Option Text) (h : Held) → Passes (failing.option_fault c again a v h) (passing.option_passes c again a v h)
-  option_taken a None h e = settle_taken h e
-  option_taken a (Some v) h e = react_taken a (v ∷ []) h e
+  option-taken : (a : Rule) (v : Option Text) (h : Held) → Passes (failing.option_fault c again a v h) (passing.option_passes c again a v h)
+  option-taken a None h e = settle-taken h e
+  option-taken a (Some v) h e = react-taken a (v ∷ []) h e
 
-  long_taken : (found : Option Rule) (v : Option Text) (h : Held) → Passes (failing.long_fault c again found v h) (passing.long_passes c again found v h)
-  long_taken None v h e = cc
-  long_taken (Some a) v h e =
-      choice (takes_values a) _ _ _ _ (option_taken a v h) (not_if (is_some v) _ _ _ (react_taken a [] h)) e
+  long-taken : (found : Option Rule) (v : Option Text) (h : Held) → Passes (failing.long_fault c again found v h) (passing.long_passes c again found v h)
+  long-taken None v h e = cc
+  long-taken (Some a) v h e =
+      choice (takes_values a) _ _ _ _ (option-taken a v h) (not-if (is_some v) _ _ _ (react-taken a [] h)) e
 
-  short_taken : (found : Option Rule) (rest : Text) (h : Held) (failed : Held → Kinds) (passed : Held → Bool) → ((k : Held) → Passes (failed k) (passed k))
+  short-taken : (found : Option Rule) (rest : Text) (h : Held) (failed : Held → Kinds) (passed : Held → Bool) → ((k : Held) → Passes (failed k) (passed k))
       → Passes (failing.short_fault c again found rest h failed) (passing.short_passes c again found rest h passed)
-  short_taken None rest h failed passed more e = cc
-  short_taken (Some a) rest h failed passed more e =
-      choice (takes_values a) _ _ _ _ (option_taken a (attached_value rest) h) (in_turn _ _ _ _ (react_taken a [] h) (more (reacted c a [] h))) e
+  short-taken None rest h failed passed more e = cc
+  short-taken (Some a) rest h failed passed more e =
+      choice (takes_values a) _ _ _ _ (option-taken a (attached_value rest) h) (in_turn _ _ _ _ (react-taken a [] h) (more (reacted c a [] h))) e
 
-  step_taken : (x : Option ℕ) (flags : Text) (skip : ℕ) (h : Held) (failed : Text → ℕ → Held → Kinds) (passed : Text → ℕ → Held → Bool)
+  step-taken : (x : Option ℕ) (flags : Text) (skip : ℕ) (h : Held) (failed : Text → ℕ → Held → Kinds) (passed : Text → ℕ → Held → Bool)
       → ((t : Text) (i : ℕ) (k : Held) → Passes (failed t i k) (passed t i k))
       → Passes (failing.bundle_step_fault c again x flags skip h failed) (passing.bundle_step_passes c again x flags skip h passed)
-  step_taken None flags skip h failed passed more e = refl
-  step_taken (Some x) flags zero h failed passed more e =
+  step-taken None flags skip h failed passed more e = refl
+  step-taken (Some x) flags zero h failed passed more e =
       let rest = drop (length (encode_utf8 x)) flags in
-      short_taken (arg_by_short c x) rest h (failed rest 0) (passed rest 0) (more rest 0) e
-  step_taken (Some x) flags (suc skip) h failed passed more e = more (drop (length (encode_utf8 x)) flags) skip h e
+      short-taken (arg_by_short c x) rest h (failed rest 0) (passed rest 0) (more rest 0) e
+  step-taken (Some x) flags (suc skip) h failed passed more e = more (drop (length (encode_utf8 x)) flags) skip h e
 
-  flags_taken : (k : ℕ) (flags : Text) (skip : ℕ) (h : Held) → Passes (flags_fault c again k flags skip h) (flags_pass c again k flags skip h)
+  flags-taken : (k : ℕ) (flags : Text) (skip : ℕ) (h : Held) → Passes (flags_fault c again k flags skip h) (flags_pass c again k flags skip h)
   unfolding flags_fault flags_pass
-  flags_taken zero flags skip h e = refl
-  flags_taken (suc k) flags skip h e = step_taken (slice_get (chars flags) 0) flags skip h (flags_fault c again k) (flags_pass c again k) (flags_taken k) e
+  flags-taken zero flags skip h e = refl
+  flags-taken (suc k) flags skip h e = step-taken (slice_get (chars flags) 0) flags skip h (flags_fault c again k) (flags_pass c again k) (flags-taken k) e
 
-  flag_word_taken : (long : Option (Text × Option Text)) (word : Text) (h : Held) → Passes (failing.flag_word_fault c again long word h) (passing.flag_word_passes c again long word h)
-  flag_word_taken (Some p) word h e = long_taken (arg_by_long c p.0) p.1 h e
-  flag_word_taken None word h e = if_some _ _ (λ flags. flags_taken (length flags) flags h.skip (record h { skip = 0 })) (short_of word) e
+  flag-word-taken : (long : Option (Text × Option Text)) (word : Text) (h : Held) → Passes (failing.flag_word_fault c again long word h) (passing.flag_word_passes c again long word h)
+  flag-word-taken (Some p) word h e = long-taken (arg_by_long c p.0) p.1 h e
+  flag-word-taken None word h e = if-some _ _ (λ flags. flags-taken (length flags) flags h.skip (record h { skip = 0 })) (short_of word) e
 
 module _ (s : Shape) (names : Names) where
-  help_taken : (is hidden : Bool) (k l : ErrorKind) → Passes (if (is && not hidden) then k ∷ l ∷ [] else []) (not is || hidden)
-  help_taken true true k l e = refl
-  help_taken true false k l e = cc
-  help_taken false hidden k l e = refl
+  help-taken : (is hidden : Bool) (k l : ErrorKind) → Passes (if (is && not hidden) then k ∷ l ∷ [] else []) (not is || hidden)
+  help-taken true true k l e = refl
+  help-taken true false k l e = cc
+  help-taken false hidden k l e = refl
 
-  other_taken : (met : Option Text) (word : Text) (h : Held) → Passes (failing.other_fault s met word h) (passing.other_passes s met word h)
-  other_taken (Some name) word h e = help_taken (bytes_eq name (codes "help")) s.disable_help_subcommand _ _ e
-  other_taken None word h e =
-      unless (bytes_eq word (45 ∷ 45 ∷ [])) _ _ (flag_word_taken s.rules s.args_override_self (long_of word) word h) e
+  other-taken : (met : Option Text) (word : Text) (h : Held) → Passes (failing.other_fault s met word h) (passing.other_passes s met word h)
+  other-taken (Some name) word h e = help-taken (bytes_eq name (codes "help")) s.disable_help_subcommand _ _ e
+  other-taken None word h e =
+      unless (bytes_eq word (45 ∷ 45 ∷ [])) _ _ (flag-word-taken s.rules s.args_override_self (long_of word) word h) e
 
-  word_taken : (is_trailing : Bool) (waiting : Waiting) (word : Text) (h : Held) → Passes (failing.word_fault s names is_trailing waiting word h) (passing.word_passes s names is_trailing waiting word h)
-  word_taken is_trailing waiting word h = unless is_trailing _ _ (other_taken (subcommand_met names waiting word) word h)
+  word-taken : (is_trailing : Bool) (waiting : Waiting) (word : Text) (h : Held) → Passes (failing.word_fault s names is_trailing waiting word h) (passing.word_passes s names is_trailing waiting word h)
+  word-taken is_trailing waiting word h = unless is_trailing _ _ (other-taken (subcommand_met names waiting word) word h)
 
-  positional_taken : (a : Rule) (h : Held) → Passes (failing.positional_fault s.rules s.args_override_self a h) (passing.positional_passes s.rules s.args_override_self a h)
-  positional_taken a h = unless (is_pending a h.pending && takes_several a) _ _ (settle_taken s.rules s.args_override_self h)
+  positional-taken : (a : Rule) (h : Held) → Passes (failing.positional_fault s.rules s.args_override_self a h) (passing.positional_passes s.rules s.args_override_self a h)
+  positional-taken a h = unless (is_pending a h.pending && takes_several a) _ _ (settle-taken s.rules s.args_override_self h)
 
-  at_position : (leaf : Bool) (k l m : ErrorKind) (f : Rule → Kinds) (g : Rule → Bool) → ((a : Rule) → Passes (f a) (g a)) → (o : Option Rule)
+  at-position : (leaf : Bool) (k l m : ErrorKind) (f : Rule → Kinds) (g : Rule → Bool) → ((a : Rule) → Passes (f a) (g a)) → (o : Option Rule)
       → Passes (option_map_or f o (if leaf then k ∷ [] else l ∷ m ∷ [])) (option_map_or g o false)
-  at_position true k l m f g h None e = cc
-  at_position false k l m f g h None e = cc
-  at_position leaf k l m f g h (Some a) e = h a e
+  at-position true k l m f g h None e = cc
+  at-position false k l m f g h None e = cc
+  at-position leaf k l m f g h (Some a) e = h a e
 
-  taken_up : (position : ℕ) (h : Held) (step : Step) → Passes (failing.step_fault s position h step) (passing.step_passes s position h step)
-  taken_up position h value e = at_position s.is_leaf _ _ _ _ _ (λ a. positional_taken a h) (arg_by_index s.rules position) e
-  taken_up position h (next waiting) e = refl
-  taken_up position h (trailing p) e = refl
-  taken_up position h (subcommand name) e = refl
+  taken-up : (position : ℕ) (h : Held) (step : Step) → Passes (failing.step_fault s position h step) (passing.step_passes s position h step)
+  taken-up position h value e = at-position s.is_leaf _ _ _ _ _ (λ a. positional-taken a h) (arg_by_index s.rules position) e
+  taken-up position h (next waiting) e = refl
+  taken-up position h (trailing p) e = refl
+  taken-up position h (subcommand name) e = refl
 
-  turn_taken : (w : Walk) (word : Text) → Passes (failing.turn_fault s names w word) (passing.turn_passes s names w word)
-  turn_taken w word =
+  turn-taken : (w : Walk) (word : Text) → Passes (failing.turn_fault s names w word) (passing.turn_passes s names w word)
+  turn-taken w word =
       let met = word_met s.rules names w.is_trailing w.waiting w.position word w.held in
-      unless (is_some w.stopped) _ _ (in_turn _ _ _ _ (word_taken w.is_trailing w.waiting word w.held) (taken_up w.position met.0 met.1))
+      unless (is_some w.stopped) _ _ (in_turn _ _ _ _ (word-taken w.is_trailing w.waiting word w.held) (taken-up w.position met.0 met.1))
 
-  walk_taken : (w : Walk) (words : List Text) → Passes (walk_fault s names w words) (walk_passes s names w words)
+  walk-taken : (w : Walk) (words : List Text) → Passes (walk_fault s names w words) (walk_passes s names w words)
   unfolding walk_fault walk_passes
-  walk_taken w [] e = refl
-  walk_taken w (word ∷ rest) e =
-      ap₂ (λ x y. x && y) (turn_taken w word (first_empty _ _ e)) (walk_taken (walked s.rules names w word) rest (next_empty _ _ e))
+  walk-taken w [] e = refl
+  walk-taken w (word ∷ rest) e =
+      ap₂ (λ x y. x && y) (turn-taken w word (first-empty _ _ e)) (walk-taken (walked s.rules names w word) rest (next-empty _ _ e))
 
 -- ---- after the walk
 
@@ -215,9 +215,9 @@ checked false true arg e = cc
 checked false false true e = cc
 checked false false false e = (refl, refl, refl)
 
-none_missing : (f g : Rule → Bool) (rules : List Rule) → list_any (λ a. f a && not (g a)) rules ≡ false → list_all (λ a. not (f a) || g a) rules ≡ true
-none_missing f g [] e = refl
-none_missing f g (a ∷ rest) e = one (f a) (g a) _ _ (none_missing f g rest) e
+none-missing : (f g : Rule → Bool) (rules : List Rule) → list_any (λ a. f a && not (g a)) rules ≡ false → list_all (λ a. not (f a) || g a) rules ≡ true
+none-missing f g [] e = refl
+none-missing f g (a ∷ rest) e = one (f a) (g a) _ _ (none-missing f g rest) e
   where
     one : (x y missing there : Bool) → (missing ≡ false → there ≡ true) → ((x && not y) || missing) ≡ false → ((not x || y) && there) ≡ true
     one true true missing there h e = h e
@@ -243,24 +243,24 @@ module _ (s : Shape) (rows : List Row) (free : list_all (λ a. a.is_free) s.rule
       let none = checked _ _ _ e in
       ap₂ (λ x y. x && y) (helped s.arg_required_else_help _ none.0)
       (ap₂ (λ x y. x && y) (entered s.subcommand_required none.1)
-      (ap₂ (λ x y. x && y) free (spared s.subcommand_negates_reqs _ _ (none_missing (λ a. a.required) (λ a. is_given a.id rows) s.rules) none.2)))
+      (ap₂ (λ x y. x && y) free (spared s.subcommand_negates_reqs _ _ (none-missing (λ a. a.required) (λ a. is_given a.id rows) s.rules) none.2)))
 
 -- a command without subcommands, whose arguments have no rule on one another and defaults that pass,
 -- takes the words where no step of the parse fails
-pub takes-no_fault : (a : App) (words : List Text) → is_simple a ≡ true → (built a).subs ≡ []
+pub takes-no-fault : (a : App) (words : List Text) → is_simple a ≡ true → (built a).subs ≡ []
     → list_all (λ r. r.is_free) (built a).top.rules ≡ true → list_all passing.default_passes (built a).top.rules ≡ true
     → fault_of a words ≡ [] → takes a words ≡ true
-takes-no_fault a words simple leaf free defaults e =
+takes-no-fault a words simple leaf free defaults e =
     let s = (built a).top in
     let given = argument_words a words in
     let end = (walk s.rules [] nothing_held given).held in
     let level : failing.level_fault s [] nothing_held given false [] ≡ [] = sym (leaf_fault (built a) nothing_held given leaf) ∙ e in
-    let walking = first_empty _ _ level in
-    let after = next_empty _ _ level in
-    let settling = first_empty _ _ after in
-    let checking = next_empty _ _ (next_empty _ _ after) in
+    let walking = first-empty _ _ level in
+    let after = next-empty _ _ level in
+    let settling = first-empty _ _ after in
+    let checking = next-empty _ _ (next-empty _ _ after) in
     ap₂ (λ x y. x && y) simple
     (leaf_takes (built a) nothing_held given leaf
-    (ap₂ (λ x y. x && y) (walk_taken s [] (walk_from nothing_held) given walking)
-    (ap₂ (λ x y. x && y) (settle_taken s.rules s.args_override_self end settling)
+    (ap₂ (λ x y. x && y) (walk-taken s [] (walk_from nothing_held) given walking)
+    (ap₂ (λ x y. x && y) (settle-taken s.rules s.args_override_self end settling)
     (ap₂ (λ x y. x && y) defaults (valid s (finished s.rules end) free checking)))))

@@ -13,7 +13,7 @@ use Rattle.nest_lang.specs.declared.tree.Part.TheVariants.{Head}
 use Rattle.nest_lang.specs.Traces.{Occurrence}
 use Rattle.nest_lang.specs.Blocks.{present_blocks, block_ref}
 use Rattle.nest_lang.specs.Blocks as blocks
-use Rattle.nest_lang.proofs.Ranks.{ranks-are_numbers}
+use Rattle.nest_lang.proofs.Ranks.{ranks-are-numbers}
 use Rattle.domain.specs.declared.prediction.What.TheVariants.{Trip}
 use Rattle.domain.specs.Tables.{Table, Block, Level, no_block, no_level, block_at, level_at, rank_of, depth, cut, trip, head_level_by, loop_of, IsTable}
 use Rattle.domain.specs.Shapes.{IsTableOf}
@@ -67,12 +67,12 @@ module _ (D n : ℕ) (t : Table) (loops : List Loop) (is : IsTable D t) (of : Is
   ranks-same b = by (rank_of t b.part b.level) refl (blocks.rank_of loops b) refl
     where
       by : (o : Option ℕ) → rank_of t b.part b.level ≡ o → (q : Option ℕ) → blocks.rank_of loops b ≡ q → blocks.rank_of loops b ≡ rank_of t b.part b.level
-      by (Some r) e q f = (ranks-are_numbers loops b r).1 (stands-present D n t loops is of b.part b.level r (stands t b.part b.level r e)) ∙ sym e
+      by (Some r) e q f = (ranks-are-numbers loops b r).1 (stands-present D n t loops is of b.part b.level r (stands t b.part b.level r e)) ∙ sym e
       by None e None f = f ∙ sym e
       by None e (Some r) f =
-          let there = (ranks-are_numbers loops b r).0 f in
+          let there = (ranks-are-numbers loops b r).0 f in
           let same = of.each r b there in
-          let s : Stands t b.part b.level r = record { inside = slice-inside r there; part_is = same.part; level_is = same.level } in
+          let s : Stands t b.part b.level r = record { inside = slice-inside r there; part-is = same.part; level-is = same.level } in
           f ∙ sym (rank-here D n t loops is of b.part b.level r s)
         where
           slice-inside : (r : ℕ) → slice_get (present_blocks loops) r ≡ Some b → r < length t.blocks
@@ -117,9 +117,9 @@ module _ (D n : ℕ) (t : Table) (loops : List Loop) (is : IsTable D t) (of : Is
           → unwrap_or (option_map (λ form. value_at form (point (depth t) (take k cs))) (form_by t (block_at t (unwrap_or (rank_of t Head (suc k)) (length t.blocks))) Trip)) (pos 0) ≡ trip t k (point (depth t) cs)
       by (Some r) e =
           let s = stands t Head (suc k) r e in
-          let deep : k < depth t = let a = (is.blocks r s.inside).to in let b = s.level_is in let d = is.deep in omega arith in
+          let deep : k < depth t = let a = (is.blocks r s.inside).to in let b = s.level-is in let d = is.deep in omega arith in
           ap (λ (o : Option ℕ). unwrap_or (option_map (λ form. value_at form (point (depth t) (take k cs))) (form_by t (block_at t (unwrap_or o (length t.blocks))) Trip)) (pos 0)) e
-          ∙ abbreviated r (level_at t k).trip (form-trip (block_at t r) k s.part_is s.level_is ∙ ap (option_and_then (λ (l : Level). l.trip)) (slice_get-get_or t.levels k no_level deep)) refl
+          ∙ abbreviated r (level_at t k).trip (form-trip (block_at t r) k s.part-is s.level-is ∙ ap (option_and_then (λ (l : Level). l.trip)) (slice_get-get_or t.levels k no_level deep)) refl
       by None e =
           let outside : length t.levels ≤ k = ⊎_elim (λ l. absurd (missing l)) (λ l. l) (cases_lt k (length t.levels)) in
           let none : block_at t (length t.blocks) ≡ no_block = get_or-eq_default t.blocks no_block (omega arith) in

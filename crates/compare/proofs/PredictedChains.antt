@@ -34,17 +34,17 @@ use Rattle.compare.proofs.Standing.{block-of}
 use Rattle.compare.proofs.Walking.{IsItem, Walks}
 use Rattle.compare.proofs.Predicting.{original, predicted-items, occurs, successor-scalars, next-opens, afters, chunk-walk, walk, is-instance, items-by}
 
-pub planned-are_original : PlannedAreOriginal
-planned-are_original D n loops t o chunk is c = original D n t loops is c.table o chunk c
+pub planned-are-original : PlannedAreOriginal
+planned-are-original D n loops t o chunk is c = original D n t loops is c.table o chunk c
 
-pub planned-are_predicted : PlannedArePredicted
-planned-are_predicted D n loops t o chunk is c = predicted-items D n t loops is c.table o chunk c
+pub planned-are-predicted : PlannedArePredicted
+planned-are-predicted D n loops t o chunk is c = predicted-items D n t loops is c.table o chunk c
 
 pub predicted-occur : PredictedOccur
 predicted-occur D n loops t o chunk is c = occurs D n t loops is c.table o chunk c
 
-pub successors-are_planned : SuccessorsArePlanned
-successors-are_planned D n loops t o chunk is c = successor-scalars D n t loops is c.table o chunk c
+pub successors-are-planned : SuccessorsArePlanned
+successors-are-planned D n loops t o chunk is c = successor-scalars D n t loops is c.table o chunk c
 
 pub next_turn-opens : NextTurnOpens
 next_turn-opens D n loops t o chunk is c = next-opens D n t loops is c.table o chunk c
@@ -57,8 +57,8 @@ position-from (l ∷ ls) o h = at l.head h
     at (For lower upper stride) p = let e : o.next ≡ pos p.0 = p.2 in omega (arith, ints)
     at (While condition) p = let e : o.next ≡ pos p.0 = p.1 in omega (arith, ints)
 
-pub tasks-are_chunks : TasksAreChunks
-tasks-are_chunks D n loops t o chunk words h = record {
+pub tasks-are-chunks : TasksAreChunks
+tasks-are-chunks D n loops t o chunk words h = record {
   keeps = h.keeps.loops_keep;
   table = h.table;
   first = h.first;
@@ -131,8 +131,8 @@ module _ (D n : ℕ) (loops : List Loop) (t : Table) (is : IsTable D t) (o : Out
       from-chained : (r : Outcome) → Chained t loops o chunk predicted s left r → Chains p loops o turns s left x r
       from-chained r h = record { begins = h.begins ∙ sym (ap (scalars_at t) first-is); follows = same-run s.memory ∙ h.follows; suffice = h.suffice }
 
-pub chain-at_predictions : ChainAtPredictions
-chain-at_predictions D n loops t o chunk predicted k s left is c original_list size bare bound =
+pub chain-at-predictions : ChainAtPredictions
+chain-at-predictions D n loops t o chunk predicted k s left is c original_list size bare bound =
     let turns : ℕ = unsigned_abs chunk.turns in
     let some : 0 < turns = positive chunk.turns c.some in
     let (x, xs, e) = planned-some (forecast_of t) loops o turns c.keeps some in

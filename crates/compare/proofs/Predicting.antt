@@ -5,7 +5,7 @@ use Rattle.std.specs.List.{AllByRecursion}
 use Rattle.std.specs.Cmp.Lexicographic.{slice_cmp}
 use Rattle.std.proofs.lemmas.Cmp.{lists_total, int_cmp_total}
 use Rattle.std.proofs.lemmas.Int.{ints}
-use Rattle.plain_lemmas.proofs.MembershipLaws.{Has, contains_from_has, has_from_contains, all_has}
+use Rattle.plain_lemmas.proofs.MembershipLaws.{Has, contains-from-has, has-from-contains, all_has}
 use Rattle.nest_lang.specs.declared.tree.BlockRef.{BlockRef}
 use Rattle.nest_lang.specs.declared.tree.Loop.{Loop}
 use Rattle.nest_lang.specs.declared.tree.Part.{Part}
@@ -33,7 +33,7 @@ use Rattle.follow.proofs.Standing.{all-map, planned-in_order}
 use Rattle.follow.proofs.Having.{planned-some}
 use Rattle.follow.proofs.Chaining.{same_all-exact}
 use Rattle.follow.proofs.Closing.{same_all-self}
-use Rattle.follow.proofs.Finding.{planned-by_instance}
+use Rattle.follow.proofs.Finding.{planned-by-instance}
 use Rattle.follow_chunk.specs.Predicted.{padded_to as point, occurrence_of, instance_of, scalars_at, forecast_of}
 use Rattle.follow_chunk.specs.Items.{idle, item_at, items_at, scalars_after}
 use Rattle.compare.specs.Chunks.{IsNextChunk}
@@ -62,7 +62,7 @@ module _ (D n : ℕ) (t : Table) (loops : List Loop) (is : IsTable D t) (of : Is
   counters-within by level rank s = at by (counters-of t by level rank s)
     where
       to : level ≤ D
-      to = let a = (is.blocks rank s.inside).to in let b = s.level_is in omega arith
+      to = let a = (is.blocks rank s.inside).to in let b = s.level-is in omega arith
 
       at : (q : Part) → counters t (block_at t rank) ≡ counters_by q (repeats t (level - 1)) level → counters t (block_at t rank) ≤ D
       at part.Head e = let m = head-most (repeats t (level - 1)) level in let l = to in omega arith
@@ -80,7 +80,7 @@ module _ (D n : ℕ) (t : Table) (loops : List Loop) (is : IsTable D t) (of : Is
   pub is-occurrence : (x : Instance) (i : Item) → At x i → occurrence_of t x ≡ i.at
   unfolding occurrence_of
   is-occurrence x i a =
-      ap₂ (λ (b : BlockRef) (cs : List ℤ). let o : Occurrence = record { block = b; counters = cs } in o) (ap₂ block_ref a.stands.part_is a.stands.level_is)
+      ap₂ (λ (b : BlockRef) (cs : List ℤ). let o : Occurrence = record { block = b; counters = cs } in o) (ap₂ block_ref a.stands.part-is a.stands.level-is)
       (ap₂ (λ (k : ℕ) (cs : List ℤ). take k cs) (sym a.size) a.at ∙ point-take D i.at.counters (let m = counters-within i.at.block.part i.at.block.level x.block a.stands in let e = a.size in omega arith))
 
   -- the items are those of their instances
@@ -104,7 +104,7 @@ module _ (D n : ℕ) (t : Table) (loops : List Loop) (is : IsTable D t) (of : Is
     pub items-planned : (c : ℕ) → items_at t loops o (map (λ (i : Item). instance_of t i.at) (planned (forecast_of t) loops o c)) ≡ planned (forecast_of t) loops o c
     items-planned c =
         items-own (planned (forecast_of t) loops o c) (items-by (planned (forecast_of t) loops o c) (opening_at t (pos (unsigned_abs o.next))) (opening_at t (pos (unsigned_abs o.next + c))) (walk o c))
-        (planned-by_instance (forecast_of t) loops o c)
+        (planned-by-instance (forecast_of t) loops o c)
 
   -- ---- original order
 
@@ -190,8 +190,8 @@ module _ (D n : ℕ) (t : Table) (loops : List Loop) (is : IsTable D t) (of : Is
     original = record {
       ordered = plan-goods.ordered;
       has = λ x. (
-        λ h. all_has (Predicted t chunk) (Instances chunk Plan) x plan-goods.predicted (has_from_contains (Instances chunk Plan) x h),
-        λ p. contains_from_has (Instances chunk Plan) x (plan-goods.all x p (opening-first D t is chunk x p)),
+        λ h. all_has (Predicted t chunk) (Instances chunk Plan) x plan-goods.predicted (has-from-contains (Instances chunk Plan) x h),
+        λ p. contains-from-has (Instances chunk Plan) x (plan-goods.all x p (opening-first D t is chunk x p)),
       );
     }
 
@@ -214,7 +214,7 @@ module _ (D n : ℕ) (t : Table) (loops : List Loop) (is : IsTable D t) (of : Is
 
     found-in : (x : Instance) → Predicted t chunk x → Found Plan x
     found-in x p =
-        find Plan x (items-by Plan (opening_at t chunk.first) (opening_at t (chunk.first +ℤ chunk.turns)) chunk-walk) (planned-by_instance (forecast_of t) loops o (unsigned_abs chunk.turns))
+        find Plan x (items-by Plan (opening_at t chunk.first) (opening_at t (chunk.first +ℤ chunk.turns)) chunk-walk) (planned-by-instance (forecast_of t) loops o (unsigned_abs chunk.turns))
         (plan-goods.all x p (opening-first D t is chunk x p))
 
     found-item : (x : Instance) (f : Found Plan x) → item_at t loops o x ≡ f.found
@@ -328,7 +328,7 @@ module _ (D n : ℕ) (t : Table) (loops : List Loop) (is : IsTable D t) (of : Is
     successor-scalars x y p s =
         let e = occurs x p in
         after-found (λ i. successor_scalars (forecast_of t) loops o (unsigned_abs chunk.turns) i ≡ scalars_after t i) Plan x afters
-        (items-by Plan (opening_at t chunk.first) (opening_at t (chunk.first +ℤ chunk.turns)) chunk-walk) (planned-by_instance (forecast_of t) loops o (unsigned_abs chunk.turns))
+        (items-by Plan (opening_at t chunk.first) (opening_at t (chunk.first +ℤ chunk.turns)) chunk-walk) (planned-by-instance (forecast_of t) loops o (unsigned_abs chunk.turns))
         (plan-goods.all x p (opening-first D t is chunk x p))
         ∙ ap (λ (z : Instance). scalars_at t (next t z)) (ap (instance_of t) e.1 ∙ e.0)
         ∙ ap (scalars_at t) (sym (successor-one x y p s))

@@ -8,12 +8,12 @@ use Rattle.nest_lang.specs.declared.tree.Part.TheVariants.{Pre}
 use Rattle.nest_lang.specs.declared.tree.BlockRef.{BlockRef}
 use Rattle.nest_lang.specs.Blocks.{present_blocks, block_ref, loop_at}
 use Rattle.nest_lang.specs.BlockLaws.{IsPresentPart}
-use Rattle.nest_lang.proofs.Ranks.{ranks-are_numbers, present_blocks-have_ranks}
+use Rattle.nest_lang.proofs.Ranks.{ranks-are-numbers, present_blocks-have-ranks}
 use Rattle.domain.specs.declared.table.LoopKind.{LoopKind}
 use Rattle.domain.specs.Tables.{Table, Block, Level, block_at, level_at, no_level, repeats, is_while, IsTable}
 use Rattle.domain.specs.Tables as tables
 use Rattle.domain.specs.Shapes.{IsTableOf, IsBlockOf, kind_of}
-use Rattle.domain.proofs.RankLaws.{Stands, stands, has_rank, is_some-stands, same-rank, text-stands}
+use Rattle.domain.proofs.RankLaws.{Stands, stands, has-rank, is_some-stands, same-rank, text-stands}
 
 module _ (D n : ℕ) (t : Table) (loops : List Loop) (is : IsTable D t) (of : IsTableOf n loops t) where
   -- the present block of a rank
@@ -27,20 +27,20 @@ module _ (D n : ℕ) (t : Table) (loops : List Loop) (is : IsTable D t) (of : Is
   pub stands-present : (part : Part) (level rank : ℕ) → Stands t part level rank → slice_get (present_blocks loops) rank ≡ Some (block_ref part level)
   stands-present part level rank s =
       let (b, e, same) = block-of rank s.inside in
-      let f : b ≡ block_ref part level = ap₂ block_ref (sym same.part ∙ s.part_is) (sym same.level ∙ s.level_is) in
+      let f : b ≡ block_ref part level = ap₂ block_ref (sym same.part ∙ s.part-is) (sym same.level ∙ s.level-is) in
       e ∙ ap (λ (z : BlockRef). Some z) f
 
   -- a block stands in the table where the nest has that part
   pub stands-part : (part : Part) (level rank : ℕ) → Stands t part level rank → (l : Loop) × (loop_at loops level ≡ Some l) × IsPresentPart part level l
   stands-part part level rank s =
-      (present_blocks-have_ranks loops (block_ref part level)).1 (rank, (ranks-are_numbers loops (block_ref part level) rank).1 (stands-present part level rank s))
+      (present_blocks-have-ranks loops (block_ref part level)).1 (rank, (ranks-are-numbers loops (block_ref part level) rank).1 (stands-present part level rank s))
 
   pub part-stands : (part : Part) (level : ℕ) (l : Loop) → loop_at loops level ≡ Some l → IsPresentPart part level l → (rank : ℕ) × Stands t part level rank
   part-stands part level l e present =
-      let found = (present_blocks-have_ranks loops (block_ref part level)).0 (l, e, present) in
-      let here = (ranks-are_numbers loops (block_ref part level) found.0).0 found.1 in
+      let found = (present_blocks-have-ranks loops (block_ref part level)).0 (l, e, present) in
+      let here = (ranks-are-numbers loops (block_ref part level) found.0).0 found.1 in
       let same = of.each found.0 (block_ref part level) here in
-      (found.0, record { inside = let w = slice_get_within (present_blocks loops) found.0 (block_ref part level) here in let c = of.count in omega arith; part_is = same.part; level_is = same.level })
+      (found.0, record { inside = let w = slice_get_within (present_blocks loops) found.0 (block_ref part level) here in let c = of.count in omega arith; part-is = same.part; level-is = same.level })
 
   -- the part of the loop at this level
   pub part-here : (part : Part) (level rank : ℕ) (l : Loop) → loop_at loops level ≡ Some l → Stands t part level rank → IsPresentPart part level l
@@ -67,7 +67,7 @@ module _ (D n : ℕ) (t : Table) (loops : List Loop) (is : IsTable D t) (of : Is
   -- a block that stands somewhere has that rank
   pub rank-here : (part : Part) (level rank : ℕ) → Stands t part level rank → tables.rank_of t part level ≡ Some rank
   rank-here part level rank s =
-      let (r, e) = has_rank t part level (is_some-stands t part level rank s) in
+      let (r, e) = has-rank t part level (is_some-stands t part level rank s) in
       let there = stands t part level r e in
       let same : r ≡ rank = same-rank D t is r rank there.inside s.inside (text-stands D t is part level r there ∙ sym (text-stands D t is part level rank s)) in
       e ∙ ap (λ (z : ℕ). Some z) same

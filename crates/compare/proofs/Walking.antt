@@ -65,16 +65,16 @@ module _ (D n : ℕ) (t : Table) (loops : List Loop) (is : IsTable D t) (of : Is
   -- ---- steps, by the block
 
   step : (x : Instance) (part : Part) (level : ℕ) → Stands t part level x.block → next t x ≡ next_by t (block_at t x.block).part level x.block x.at
-  step x part level s = next-of t x x (block_at t x.block) (block_at t x.block) refl refl refl ∙ ap (λ (l : ℕ). next_by t (block_at t x.block).part l x.block x.at) s.level_is
+  step x part level s = next-of t x x (block_at t x.block) (block_at t x.block) refl refl refl ∙ ap (λ (l : ℕ). next_by t (block_at t x.block).part l x.block x.at) s.level-is
 
   step-head : (x : Instance) (level : ℕ) (ends : Bool) → Stands t part.Head level x.block → ends_loop t level x.at ≡ ends → next t x ≡ (if ends then after_loop t (level - 1) x.at else instance (x.block + 1) x.at)
-  step-head x level ends s e = step x part.Head level s ∙ next-head t level x.block x.at ends (block_at t x.block).part s.part_is e
+  step-head x level ends s e = step x part.Head level s ∙ next-head t level x.block x.at ends (block_at t x.block).part s.part-is e
 
   step-pre : (x : Instance) (level : ℕ) (more : Bool) → Stands t part.Pre level x.block → nat_lt level (depth t) ≡ more → next t x ≡ (if more then instance (x.block + 1) x.at else next_turn t (level - 1) x.at)
-  step-pre x level more s e = step x part.Pre level s ∙ next-pre t level x.block x.at more (block_at t x.block).part s.part_is e
+  step-pre x level more s e = step x part.Pre level s ∙ next-pre t level x.block x.at more (block_at t x.block).part s.part-is e
 
   step-post : (x : Instance) (level : ℕ) → Stands t part.Post level x.block → next t x ≡ next_turn t (level - 1) x.at
-  step-post x level s = step x part.Post level s ∙ next-post t level x.block x.at (block_at t x.block).part s.part_is
+  step-post x level s = step x part.Post level s ∙ next-post t level x.block x.at (block_at t x.block).part s.part-is
 
   -- ---- where a turn begins
 
@@ -162,8 +162,8 @@ module _ (D n : ℕ) (t : Table) (loops : List Loop) (is : IsTable D t) (of : Is
         no-post (q ∷ qs) e =
             let some : l.post ≢ [] = λ f. let g : q ∷ qs ≡ [] = sym e ∙ f in cc in
             let (r, k) = part-stands D n t loops is of part.Post level l here some in
-            let outer = (is.blocks r k.inside).outer k.part_is in
-            let f = k.level_is in
+            let outer = (is.blocks r k.inside).outer k.part-is in
+            let f = k.level-is in
             let g = last.0 in
             absurd (omega arith)
 
@@ -179,7 +179,7 @@ module _ (D n : ℕ) (t : Table) (loops : List Loop) (is : IsTable D t) (of : Is
             (alone k l.pre refl) (subst (λ (is : List Item). Walks (next_turn t (level - 1) (point D a.counters)) is (next_turn t (level - 1) (point D a.counters))) (sym (ap₂ (λ (us vs : List Item). us ++ vs) last.1 (no-post l.post refl))) refl)
         by (inr k) =
             let low = (is.blocks x.block k.0.inside).to in
-            let f = k.0.level_is in
+            let f = k.0.level-is in
             let g = last.0 in
             absurd (omega arith)
 

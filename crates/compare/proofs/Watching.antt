@@ -32,30 +32,30 @@ module _ (t : Table) (chunk : Chunk) where
   abbrev p : Forecast
   p = forecast_of t
 
-  abbrev at_state : Instance → Option Found → Comparison
-  at_state x first = record { table = t; chunk = chunk; at = x; first = first }
+  abbrev at-state : Instance → Option Found → Comparison
+  at-state x first = record { table = t; chunk = chunk; at = x; first = first }
 
   abbrev found : Observation → Found
   found o = record { at = instance_of t o.at; how = how_seen (forecast_of t) (kept o) }
 
   -- what was found stays
-  stays : (shown : List Observation) (x : Instance) (f : Found) (new : Comparison) → AllByRecursion IsOfTurns shown → Chain MayCompare (at_state x (Some f)) shown new → new ≡ at_state x (Some f)
+  stays : (shown : List Observation) (x : Instance) (f : Found) (new : Comparison) → AllByRecursion IsOfTurns shown → Chain MayCompare (at-state x (Some f)) shown new → new ≡ at-state x (Some f)
   stays [] x f new all same = same
   stays (o ∷ os) x f new all (mid, step, rest) = stays os x f new all.1 (subst (λ (c : Comparison). Chain MayCompare c os new) (step all.0) rest)
 
   -- all agrees, or the first observation that doesn't was found
   abbrev Shown : List Observation → Instance → Comparison → Type 0
   Shown shown x new =
-      ((all_agree (forecast_of t) shown ≡ true) × (new ≡ at_state (due_after t x shown) None))
-      ⊎ ((o : Observation) × IsFirst (forecast_of t) shown o × ((y : Instance) × (new ≡ at_state y (Some (found o)))))
+      ((all_agree (forecast_of t) shown ≡ true) × (new ≡ at-state (due_after t x shown) None))
+      ⊎ ((o : Observation) × IsFirst (forecast_of t) shown o × ((y : Instance) × (new ≡ at-state y (Some (found o)))))
 
   abbrev after : Observation → Option How → Comparison
-  after o h = at_state (instance_of t o.at) (option_map (found_at (instance_of t o.at)) h)
+  after o h = at-state (instance_of t o.at) (option_map (found_at (instance_of t o.at)) h)
 
   choose : (o : Observation) (b : Bool) → agrees (forecast_of t) o ≡ b → difference t o ≡ (if b then None else Some (how_seen (forecast_of t) (kept o)))
   choose o b e = ap (λ (b : Bool). if b then None else Some (how_seen (forecast_of t) (kept o))) e
 
-  pub shows : (shown : List Observation) (x : Instance) (new : Comparison) → AllByRecursion IsOfTurns shown → Chain MayCompare (at_state x None) shown new → Shown shown x new
+  pub shows : (shown : List Observation) (x : Instance) (new : Comparison) → AllByRecursion IsOfTurns shown → Chain MayCompare (at-state x None) shown new → Shown shown x new
   unfolding all_agree
   shows [] x new all same = inl (refl, same)
   shows (o ∷ os) x new all (mid, step, rest) = by (agrees (forecast_of t) o) refl (λ c. shows os (instance_of t o.at) new all.1 c)
@@ -63,7 +63,7 @@ module _ (t : Table) (chunk : Chunk) where
       moved : (h : Option How) → difference t o ≡ h → Chain MayCompare (after o h) os new
       moved h e = subst (λ (h : Option How). Chain MayCompare (after o h) os new) e (subst (λ (c : Comparison). Chain MayCompare c os new) (step all.0) rest)
 
-      by : (b : Bool) → agrees (forecast_of t) o ≡ b → (Chain MayCompare (at_state (instance_of t o.at) None) os new → Shown os (instance_of t o.at) new) → Shown (o ∷ os) x new
+      by : (b : Bool) → agrees (forecast_of t) o ≡ b → (Chain MayCompare (at-state (instance_of t o.at) None) os new → Shown os (instance_of t o.at) new) → Shown (o ∷ os) x new
       by true e more =
           ⊎_elim (λ h. inl (ap₂ (λ (a b : Bool). a && b) e h.0, h.1))
           (λ h. inr (h.0, record { before = o ∷ h.1.before; after = h.1.after; are = ap (λ (xs : List Observation). o ∷ xs) h.1.are; agree = ap₂ (λ (a b : Bool). a && b) e h.1.agree; differs = h.1.differs }, h.2))
@@ -81,8 +81,8 @@ module _ (t : Table) (chunk : Chunk) where
   -- ---- the run of the chunk, by what was shown and how it finished
 
   module _ (next : Occurrence) (next_is : instance_of t next ≡ behind t chunk) where
-    abbrev run_by : List Observation → Finish → List ℤ → ChunkRun
-    run_by os e scalars = record { observations = os ++ closing_at next e scalars; finish = e }
+    abbrev run-by : List Observation → Finish → List ℤ → ChunkRun
+    run-by os e scalars = record { observations = os ++ closing_at next e scalars; finish = e }
 
     agree-both : (xs ys : List Observation) → all_agree p xs ≡ true → all_agree p ys ≡ true → all_agree p (xs ++ ys) ≡ true
     agree-both xs ys h k = agree-append p xs ys ∙ ap₂ (λ (a b : Bool). a && b) h k
@@ -95,8 +95,8 @@ module _ (t : Table) (chunk : Chunk) where
     first-front xs ys o h k =
         record { before = xs ++ k.before; after = k.after; are = ap (λ (os : List Observation). xs ++ os) k.are ∙ sym (append_assoc xs k.before (o ∷ k.after)); agree = agree-both xs k.before h k.agree; differs = k.differs }
 
-    abbrev from_number : ℕ → List ℤ → List Observation
-    from_number n vs = scalars_from (frame_with next [] plain) n vs
+    abbrev from-number : ℕ → List ℤ → List Observation
+    from-number n vs = scalars_from (frame_with next [] plain) n vs
 
     abbrev closing : ℕ → ℤ → Observation
     closing n v = record { at = next; what = see.Scalar n; value = v }
@@ -108,12 +108,12 @@ module _ (t : Table) (chunk : Chunk) where
     scalar-at : (n : ℕ) (v : ℤ) (b : Bool) → agrees p (closing n v) ≡ b → scalar_difference t (behind t chunk) n v ≡ (if b then None else Some (how_seen p (kept (closing n v))))
     scalar-at n v b e = sym (closing-difference n v) ∙ choose (closing n v) b e
 
-    scalars-agree : (n : ℕ) (vs : List ℤ) → scalars_difference t (behind t chunk) n vs ≡ None → all_agree p (from_number n vs) ≡ true
+    scalars-agree : (n : ℕ) (vs : List ℤ) → scalars_difference t (behind t chunk) n vs ≡ None → all_agree p (from-number n vs) ≡ true
     unfolding all_agree
     scalars-agree n [] h = refl
     scalars-agree n (v ∷ vs) h = by (agrees p (closing n v)) refl (scalars-agree (suc n) vs)
       where
-        by : (b : Bool) → agrees p (closing n v) ≡ b → (scalars_difference t (behind t chunk) (suc n) vs ≡ None → all_agree p (from_number (suc n) vs) ≡ true) → agrees p (closing n v) && all_agree p (from_number (suc n) vs) ≡ true
+        by : (b : Bool) → agrees p (closing n v) ≡ b → (scalars_difference t (behind t chunk) (suc n) vs ≡ None → all_agree p (from-number (suc n) vs) ≡ true) → agrees p (closing n v) && all_agree p (from-number (suc n) vs) ≡ true
         by true e more =
             ap₂ (λ (a b : Bool). a && b) e
             (more (ap (λ (d : Option How). first_difference d (scalars_difference t (behind t chunk) (suc n) vs)) (sym (scalar-at n v true e)) ∙ h))
@@ -125,7 +125,7 @@ module _ (t : Table) (chunk : Chunk) where
     abbrev Differing : List Observation → How → Type 0
     Differing os h = (o : Observation) × IsFirst p os o × (h ≡ how_seen p (kept o)) × (o.at ≡ next)
 
-    scalars-differ : (n : ℕ) (vs : List ℤ) (h : How) → scalars_difference t (behind t chunk) n vs ≡ Some h → Differing (from_number n vs) h
+    scalars-differ : (n : ℕ) (vs : List ℤ) (h : How) → scalars_difference t (behind t chunk) n vs ≡ Some h → Differing (from-number n vs) h
     unfolding all_agree
     scalars-differ n [] h e = absurd (cc)
     scalars-differ n (v ∷ vs) h e = by (agrees p (closing n v)) refl (scalars-differ (suc n) vs h)
@@ -133,13 +133,13 @@ module _ (t : Table) (chunk : Chunk) where
         some-how : {a b : How} → ◌≡◌ {A = Option How} (Some a) (Some b) → a ≡ b
         some-how e = cc
 
-        by : (b : Bool) → agrees p (closing n v) ≡ b → (scalars_difference t (behind t chunk) (suc n) vs ≡ Some h → Differing (from_number (suc n) vs) h) → Differing (closing n v ∷ from_number (suc n) vs) h
+        by : (b : Bool) → agrees p (closing n v) ≡ b → (scalars_difference t (behind t chunk) (suc n) vs ≡ Some h → Differing (from-number (suc n) vs) h) → Differing (closing n v ∷ from-number (suc n) vs) h
         by true f more =
             let d = more (ap (λ (d : Option How). first_difference d (scalars_difference t (behind t chunk) (suc n) vs)) (sym (scalar-at n v true f)) ∙ e) in
-            (d.0, first-front (closing n v ∷ []) (from_number (suc n) vs) d.0 (ap (λ (b : Bool). b && true) f) d.1, d.2, d.3)
+            (d.0, first-front (closing n v ∷ []) (from-number (suc n) vs) d.0 (ap (λ (b : Bool). b && true) f) d.1, d.2, d.3)
         by false f more =
             let g : Some (how_seen p (kept (closing n v))) ≡ Some h = ap (λ (d : Option How). first_difference d (scalars_difference t (behind t chunk) (suc n) vs)) (sym (scalar-at n v false f)) ∙ e in
-            (closing n v, record { before = []; after = from_number (suc n) vs; are = refl; agree = refl; differs = f }, sym (some-how g), refl)
+            (closing n v, record { before = []; after = from-number (suc n) vs; are = refl; agree = refl; differs = f }, sym (some-how g), refl)
 
     -- ---- what was found, in a run that finished
 
@@ -148,7 +148,7 @@ module _ (t : Table) (chunk : Chunk) where
 
     module _ (D : ℕ) (os : List Observation) (scalars : List ℤ) (c : Comparison) (shown : Shown os start c) where
       abbrev Is : Finish → Option (code.Deviation D) → Type 0
-      Is e result = IsDeviationOf {D = D} t chunk (run_by os e scalars) result
+      Is e result = IsDeviationOf {D = D} t chunk (run-by os e scalars) result
 
       none-found : c.first ≡ None → (all_agree p os ≡ true) × (c.at ≡ due_after t start os)
       none-found e = ⊎_elim (λ h. (h.0, ap (λ (z : Comparison). z.at) h.1)) (λ h. absurd (let f : Some (found h.0) ≡ None = sym (ap (λ (z : Comparison). z.first) h.2.1) ∙ e in cc)) shown
@@ -178,10 +178,10 @@ module _ (t : Table) (chunk : Chunk) where
       closes-differ h d e differ at how =
           let n = none-found e in
           let (o, first, is, there) = scalars-differ 0 scalars h differ in
-          (Differs o, first-front os (from_number 0 scalars) o n.0 first, at ∙ sym (ap (instance_of t) there ∙ next_is), how ∙ is)
+          (Differs o, first-front os (from-number 0 scalars) o n.0 first, at ∙ sym (ap (instance_of t) there ∙ next_is), how ∙ is)
 
       pub closes-agree : c.first ≡ None → scalars_difference t (behind t chunk) 0 scalars ≡ None → Is Done None
-      closes-agree e agree = let n = none-found e in (agree-both os (from_number 0 scalars) n.0 (scalars-agree 0 scalars agree), refl)
+      closes-agree e agree = let n = none-found e in (agree-both os (from-number 0 scalars) n.0 (scalars-agree 0 scalars agree), refl)
 
 -- ---- a run that was watched
 

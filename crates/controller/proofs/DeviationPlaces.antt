@@ -11,7 +11,7 @@ use Rattle.nest_lang.specs.Blocks as blocks
 use Rattle.nest_lang.specs.Lookups.{plain}
 use Rattle.nest_lang.specs.Traces.{Occurrence, Observation, Finish, Done, Halted, Limited, cut, seen_in}
 use Rattle.nest_lang.specs.Statements.{scalars_from}
-use Rattle.nest_lang.proofs.Ranks.{ranks-are_numbers}
+use Rattle.nest_lang.proofs.Ranks.{ranks-are-numbers}
 use Rattle.domain.specs.declared.chunk.Chunk.{Chunk}
 use Rattle.domain.specs.Tables.{Table, Block, IsTable, block_at, rank_of}
 use Rattle.domain.specs.Instances.{Instance, opening_at}
@@ -27,7 +27,7 @@ use Rattle.compare.specs.ChainLaw.{behind}
 use Rattle.compare.specs.Compared.{due_after, instance_in, IsDeviationOf}
 use Rattle.journeys.specs.Settings.{Setting, Moment, next_turns, next_chunk, chunk_turns}
 use Rattle.journeys.specs.Stages.{chunk_run_from}
-use Rattle.controller.proofs.Present.{IsPresent, turns-show_present}
+use Rattle.controller.proofs.Present.{IsPresent, turns-show-present}
 
 all-middle : {A : Type 0} (P : A → Type 0) (xs : List A) (x : A) (ys : List A) → AllByRecursion P (xs ++ x ∷ ys) → P x
 all-middle P [] x ys h = h.0
@@ -45,7 +45,7 @@ module _ (scalars : ℕ) (loops : List Loop) (t : Table) (is : IsTableOf scalars
   unfolding instance_of
   present-place i p =
       let same : rank_of t i.block.part i.block.level ≡ Some p.0 = rank-same scalars loops t is i.block ∙ p.1 in
-      let number : slice_get (present_blocks loops) p.0 ≡ Some i.block = (ranks-are_numbers loops i.block p.0).0 p.1 in
+      let number : slice_get (present_blocks loops) p.0 ≡ Some i.block = (ranks-are-numbers loops i.block p.0).0 p.1 in
       subst (λ (r : Option ℕ). unwrap_or r (length t.blocks) < length (present_blocks loops)) (sym same) (slice_get_within (present_blocks loops) p.0 i.block number)
 
   due-place : (x : Instance) (shown : List Observation) → IsPlace x → AllByRecursion Present shown → IsPlace (due_after t x shown)
@@ -64,7 +64,7 @@ module _ (scalars : ℕ) (loops : List Loop) (t : Table) (is : IsTableOf scalars
       let at : slice_get (present_blocks loops) 0 ≡ Some first = slice_get-get_or (present_blocks loops) 0 (block_ref Pre 0) within in
       let block = is.each 0 first at in
       let same : block_ref (block_at t 0).part (block_at t 0).level ≡ first = ap₂ block_ref block.part block.level in
-      (0, ap (blocks.rank_of loops) same ∙ (ranks-are_numbers loops first 0).1 at)
+      (0, ap (blocks.rank_of loops) same ∙ (ranks-are-numbers loops first 0).1 at)
 
   scalars-present : (i : Occurrence) (number : ℕ) (vs : List ℤ) → IsPresent loops i → AllByRecursion Present (scalars_from (frame_with i [] plain) number vs)
   scalars-present i number [] p = tt
@@ -88,7 +88,7 @@ deviation-place scalars g m t d is some h =
     let chunk = next_chunk g m in
     let trace = next_turns g m (chunk_turns g m) in
     let end = cut trace m.store m.left 0 in
-    let shown : AllByRecursion (λ (o : Observation). IsPresent g.loops o.at) (seen_in trace m.left) = turns-show_present plain (m.left + 1) g.loops m.outer (chunk_turns g m) m.store m.left in
+    let shown : AllByRecursion (λ (o : Observation). IsPresent g.loops o.at) (seen_in trace m.left) = turns-show-present plain (m.left + 1) g.loops m.outer (chunk_turns g m) m.store m.left in
     let closing = closing-present scalars g.loops t is some (occurrence_of t (behind t chunk)) end.ending end.store.scalars (first-present scalars g.loops t is some (chunk.first +ℤ chunk.turns)) in
     let all = all-append (λ (o : Observation). IsPresent g.loops o.at) (seen_in trace m.left) (closing_at (occurrence_of t (behind t chunk)) end.ending end.store.scalars) shown closing in
     subst (λ (x : Instance). x.block < length (present_blocks g.loops)) (sym h.2) (instance-place scalars g.loops t is some chunk (chunk_run_from t g m) all h.0 h.1)

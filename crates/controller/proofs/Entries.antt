@@ -20,19 +20,19 @@ answer_in (entered.At o) = Ok o
 answer_in (entered.Trapped trap) = Err (Halted (Trapped trap))
 answer_in entered.Limited = Err Limited
 
-by_yield : (yields : Option (Result Yield Halt)) (e : Entered) → IsEntryBy yields e → answer_in e ≡ entry_by yields
-by_yield None e is = ap answer_in is
-by_yield (Some (Ok yield)) e is = ap answer_in is
-by_yield (Some (Err (Trapped trap))) e is = ap answer_in is
-by_yield (Some (Err (Stopped access seen expected))) e is = absurd is
-by_yield (Some (Err Over)) e is = absurd is
+by-yield : (yields : Option (Result Yield Halt)) (e : Entered) → IsEntryBy yields e → answer_in e ≡ entry_by yields
+by-yield None e is = ap answer_in is
+by-yield (Some (Ok yield)) e is = ap answer_in is
+by-yield (Some (Err (Trapped trap))) e is = ap answer_in is
+by-yield (Some (Err (Stopped access seen expected))) e is = absurd is
+by-yield (Some (Err Over)) e is = absurd is
 
-by_head : {W : Type 0} (may : W → Observation → W → Type 0) (head : Head) (a b : Moment W) (e : Entered) → IsEntryOf may head plain a b e → answer_in e ≡ entry_at head a.store a.left
-by_head may (For lower upper stride) a b e is = by_yield is.0 e is.2 ∙ ap entry_by is.1.value
-by_head may (While condition) a b e is = ap answer_in is.1
+by-head : {W : Type 0} (may : W → Observation → W → Type 0) (head : Head) (a b : Moment W) (e : Entered) → IsEntryOf may head plain a b e → answer_in e ≡ entry_at head a.store a.left
+by-head may (For lower upper stride) a b e is = by-yield is.0 e is.2 ∙ ap entry_by is.1.value
+by-head may (While condition) a b e is = ap answer_in is.1
 
 -- how the outermost loop is entered
 pub entry-answer : {W : Type 0} (may : W → Observation → W → Type 0) (loops : List Loop) (a b : Moment W) (e : Entered) → IsEntry may loops plain a b e → answer_in e ≡ entry loops a.store a.left
 unfolding entry
 entry-answer may [] a b e is = absurd is
-entry-answer may (l ∷ ls) a b e is = by_head may l.head a b e is
+entry-answer may (l ∷ ls) a b e is = by-head may l.head a b e is

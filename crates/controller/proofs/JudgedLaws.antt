@@ -6,7 +6,7 @@ use Rattle.std.proofs.lemmas.List.{length-take, length-take-le, take_more}
 use Rattle.std.proofs.lemmas.Int.{to_z_pos}
 use Rattle.std.proofs.lemmas.List.Quantifiers.{position-Some}
 use Rattle.std.proofs.lemmas.Option.{none-some}
-use Rattle.plain_lemmas.proofs.MembershipLaws.{Has, All_from, All_has}
+use Rattle.plain_lemmas.proofs.MembershipLaws.{Has, All-from, All-has}
 use Rattle.nest_lang.specs.declared.tree.Loop.{Loop}
 use Rattle.nest_lang.specs.Traces.{Observation}
 use Rattle.domain.specs.Tables.{Table, IsTable}
@@ -20,7 +20,7 @@ use Rattle.legality.specs.Laws.{IsRefusal}
 use Rattle.legality.proofs.NameLaws.{choices_name}
 use Rattle.profile.specs.declared.unfit.Unfit.{Unfit}
 use Rattle.profile.specs.Fits.{IsFitOf, IsUnfitAt}
-use Rattle.profile.proofs.BoundsLaws.{lowers-come_with_trips}
+use Rattle.profile.proofs.BoundsLaws.{lowers-come-with-trips}
 use Rattle.report.specs.declared.line.Line.{Line}
 use Rattle.journeys.specs.Settings.{Setting, Moment, observed}
 use Rattle.journeys.specs.Tellings.{illegal_line, illegal_lines, unfit_line}
@@ -52,11 +52,11 @@ refusals-told loops rs k d old before after less b a =
 
 -- each names accesses of present blocks
 pub refusals-present : (g : Setting) (t : Table) (L : ℕ) (ch : Choice) → IsTableOf g.scalars g.loops t → ch ≡ choice t (pos L) g.candidates → All (NamesPresent g.loops) ch.refusals
-refusals-present g t L ch of is = subst (λ (x : Choice). All (NamesPresent g.loops) x.refusals) (sym is) (All_from (NamesPresent g.loops) (choice t (pos L) g.candidates).refusals named)
+refusals-present g t L ch of is = subst (λ (x : Choice). All (NamesPresent g.loops) x.refusals) (sym is) (All-from (NamesPresent g.loops) (choice t (pos L) g.candidates).refusals named)
   where
     named : (r : Refusal) → Has (choice t (pos L) g.candidates).refusals r → NamesPresent g.loops r
     named r has =
-        let names : IsRefusal t r = All_has (IsRefusal t) (choice t (pos L) g.candidates).refusals r (choices_name t (pos L) g.candidates) has in
+        let names : IsRefusal t r = All-has (IsRefusal t) (choice t (pos L) g.candidates).refusals r (choices_name t (pos L) g.candidates) has in
         record {
           first = subst (λ (n : ℕ). r.first.block < n) of.count names.first.block;
           second = subst (λ (n : ℕ). r.second.block < n) of.count names.second.block;
@@ -95,7 +95,7 @@ legal-at ss P k h s is = subst (λ (o : Option Schedule). IfSome o P) is h
 
 -- the fit of what some turns show has a lower bound where it has a trip
 pub fit-lowers : (g : Setting) (m : Moment) (c : ℕ) (t : Table) → IsFitOf (length g.loops) g.scalars g.loops (observed g m c) t → LowersWithTrips t
-fit-lowers g m c t fit = lowers-come_with_trips (length g.loops) g.scalars (m.left + 1) c m.left g.loops m.outer m.store t fit
+fit-lowers g m c t fit = lowers-come-with-trips (length g.loops) g.scalars (m.left + 1) c m.left g.loops m.outer m.store t fit
 
 module _ (g : Setting) (t : Table) (ch : Choice) (is : ch ≡ choice t (pos g.chunk) g.candidates) (before lines : List Line) (are : lines ≡ before ++ illegal_lines g.loops 1 ch.refusals)
     (m : Moment) (c : ℕ) (fit : IsFitOf (length g.loops) g.scalars g.loops (observed g m c) t) where

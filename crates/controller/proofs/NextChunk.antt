@@ -30,13 +30,13 @@ pub turns_within-again : (left : Option ℕ) (c : ℕ) → turns_within left (tu
 turns_within-again None c = refl
 turns_within-again (Some n) c = omega arith
 
-has-turns_at : (h : Head) (o : Outer) (c : ℕ) → IsPosition h o → HasTurns h o (turns_within o.left c)
-has-turns_at (For lower upper stride) o c (t, n, next, left, fits) = subst (λ (l : Option ℕ). turns_within l c ≤ number_left l) (sym left) (omega arith)
-has-turns_at (While condition) o c p = tt
+has-turns-at : (h : Head) (o : Outer) (c : ℕ) → IsPosition h o → HasTurns h o (turns_within o.left c)
+has-turns-at (For lower upper stride) o c (t, n, next, left, fits) = subst (λ (l : Option ℕ). turns_within l c ≤ number_left l) (sym left) (omega arith)
+has-turns-at (While condition) o c p = tt
 
 has-turns : (loops : List Loop) (o : Outer) (c : ℕ) → IsPositionIn loops o → HasTurnsIn loops o (turns_within o.left c)
 has-turns [] o c p = tt
-has-turns (l ∷ ls) o c p = has-turns_at l.head o c p
+has-turns (l ∷ ls) o c p = has-turns-at l.head o c p
 
 -- the turns of the next chunk, as the code counts them
 pub turns-are : (g : Setting) (m : Moment) (chunk : Chunk) → pos 1 ≤ℤ chunk.turns → chunk.turns ≤ℤ pos 1024 → chunk ≡ next_chunk g m → unsigned_abs (to_z w64 (of_z w64 chunk.turns)) ≡ chunk_turns g m

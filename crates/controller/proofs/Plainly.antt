@@ -1,5 +1,5 @@
 -- Turns in original order, as a way from stage to stage.
-use Rattle.std.proofs.Common.{◌≡◌, refl, ap, ◌∙◌, sym, subst, ℕ, zero, suc, ◌+◌, ◌-◌, ◌<◌, ◌≤◌, ℤ, pos, ◌+ℤ◌, ◌-ℤ◌, List, [], ◌∷◌, ◌++◌, length, true, Option, Some, None, Result, Ok, Err, IfOk, FitsSigned, w64, ◌^◌, inl, inr, arith}
+use Rattle.std.proofs.Common.{◌≡◌, refl, ap, ◌∙◌, sym, subst, ℕ, zero, suc, ◌+◌, ◌-◌, ◌<◌, ◌≤◌, ℤ, pos, ◌+ℤ◌, ◌-ℤ◌, List, [], ◌∷◌, ◌++◌, length, true, Option, Some, None, Result, Ok, Err, IfOk, OnErr, FitsSigned, w64, ◌^◌, inl, inr, arith}
 use Rattle.std.proofs.lemmas.Int.{ints}
 use Rattle.std.proofs.lemmas.Bool.{cases_lt, false≢true}
 use Rattle.nest_lang.specs.declared.state.Outer.{Outer}
@@ -28,7 +28,8 @@ use Rattle.journeys.specs.Stages.Reaches.{begun, then}
 use Rattle.controller.specs.declared.stage.Stage.TheVariants.{Profiles, Plainly, Over}
 use Rattle.controller.specs.Machines.{IsPlaced}
 use Rattle.controller.specs.Courses.{Led, next_stage}
-use Rattle.controller.proofs.StepLaws.{turns-take_steps}
+use Rattle.journeys.specs.HandedRecords.{Launching}
+use Rattle.controller.proofs.StepLaws.{turns-take-steps}
 
 -- ---- whole turns and steps
 
@@ -36,7 +37,7 @@ use Rattle.controller.proofs.StepLaws.{turns-take_steps}
 all-whole : (turns : ℕ → Store → Trace) (s : Store) (left c j : ℕ) → AreWhole turns s left c j → (cut (turns c s) s left 0).ending ≡ Done → j ≡ c
 all-whole turns s left c j whole done = elim (cases_lt j c) [
   | inl less ↦ absurd (whole.most c less (omega arith) done)
-  | inr not_less ↦ let within = whole.within in omega arith
+  | inr not-less ↦ let within = whole.within in omega arith
 ]
 
 pub ending-alone : (t : Trace) (s : Store) (left used : ℕ) → (cut t s left used).ending ≡ (cut t s left 0).ending
@@ -82,7 +83,7 @@ ran-took g m after t c done finish keeps next r =
     ∙ cut-and_then (plain_turns g k m done m.store) go m.store m.left 0 in
     let rest : resumed first go ≡ cut (go first.store) first.store first.left first.used = ap (λ (f : Finish). resumed_at f first.store first.left first.used go) whole.done in
     let most = cut-left (go first.store) first.store first.left first.used in
-    let took : done + first.left ≤ m.left = turns-take_steps g.loops k done m.outer m.store m.left 0 keeps (omega arith) whole.done in
+    let took : done + first.left ≤ m.left = turns-take-steps g.loops k done m.outer m.store m.left 0 keeps (omega arith) whole.done in
     let here : after.left ≡ (cut (plain_turns g k m c m.store) m.store m.left m.used).left = ap (λ (x : Cut). x.left) run in
     let alone = left-alone (plain_turns g k m c m.store) m.store m.left m.used in
     let there = ap (λ (x : Cut). x.left) (split ∙ rest) in
@@ -139,9 +140,14 @@ pub if-ok : {A E : Type 0} (P Q : A → Type 0) → ((a : A) → P a → Q a) �
 if-ok P Q go (Ok a) p = go a p
 if-ok P Q go (Err e) p = tt
 
+-- a fact is one of the case of a refusal
+pub if-err : {A E P : Type 0} → P → (r : Result A E) → OnErr r P
+if-err p (Ok a) = tt
+if-err p (Err e) = p
+
 -- ---- the way
 
-pub one-step : (g : Setting) (from to : stages.Stage) (m after : Moment) (lines : List Line) → Leads g from m lines to after → Reaches g from m lines to after
+abbrev pub one-step : (g : Setting) (from to : stages.Stage) (m after : Moment) (lines : List Line) → Leads g from m lines to after → Reaches g from m lines to after
 one-step g from to m after lines way = then [] lines from to m after begun way
 
 line-told : (m after : Moment) (done : ℕ) (before lines : List Line) → lines ≡ before ++ said.Plain m.outer.next (after.outer.next -ℤ m.outer.next) ∷ [] → after.outer ≡ turns_later m.outer done
@@ -151,7 +157,7 @@ line-told m after done before lines are is = are ∙ ap (λ (z : ℤ). before ++
 module _ {D : ℕ} (g : Setting) (turns : ℕ) (m after : Moment) (done : ℕ) (before lines : List Line) (keeps : loops_keep g.loops ≡ true) (p : IsPlaced g m) (on : has_turn m.outer.left ≡ true) (some : 1 ≤ turns)
     (position : IsPositionIn g.loops after.outer) (count : length after.store.scalars ≡ length m.store.scalars)
     (are : lines ≡ before ++ said.Plain m.outer.next (after.outer.next -ℤ m.outer.next) ∷ []) where
-  went : Ran g m (turns_within m.outer.left turns) done Done after → Led {D = D} g (Plainly turns) m before Profiles after lines
+  went : Ran g m (turns_within m.outer.left turns) done Done after → Led {D = D} g (Plainly turns) m before Profiles after lines []
   went r =
       let c = turns_within m.outer.left turns in
       let same : done ≡ c = ran-whole g m after c done r in
@@ -161,7 +167,7 @@ module _ {D : ℕ} (g : Setting) (turns : ℕ) (m after : Moment) (done : ℕ) (
       record {
         told = said.Plain m.outer.next (pos c) ∷ [];
         are = line-told m after done before lines are r.outer ∙ ap (λ (n : ℕ). before ++ said.Plain m.outer.next (pos n) ∷ []) same;
-        reaches = one-step g (stages.Plainly turns) stages.Profiles m after (said.Plain m.outer.next (pos c) ∷ []) (plainly turns m after (said.Plain m.outer.next (pos c) ∷ []) stages.Profiles (gone_on after all));
+        reaches = (one-step g (stages.Plainly turns) stages.Profiles m after (said.Plain m.outer.next (pos c) ∷ []) (plainly turns m after (said.Plain m.outer.next (pos c) ∷ []) stages.Profiles (gone_on after all)), refl);
         nearer = omega (arith, took, least, same);
         due = tt;
         turn = tt;
@@ -169,22 +175,24 @@ module _ {D : ℕ} (g : Setting) (turns : ℕ) (m after : Moment) (done : ℕ) (
       }
 
   out : (e : Turned) (x : Ending) → over_is_done (finish_of_turned e) ≡ finish_of_ending x → (finish_of_turned e ≡ Done → ⊥) → Ran g m (turns_within m.outer.left turns) done (finish_of_turned e) after
-      → Led {D = D} g (Plainly turns) m before (Over x) after lines
+      → Led {D = D} g (Plainly turns) m before (Over x) after lines []
   out e x same other r =
       let took = (ran-took g m after p.turn (turns_within m.outer.left turns) done (finish_of_turned e) keeps p.next r).steps in
       record {
         told = said.Plain m.outer.next (pos done) ∷ [];
         are = line-told m after done before lines are r.outer;
-        reaches = subst (λ (f : Finish). Reaches g (stages.Plainly turns) m (said.Plain m.outer.next (pos done) ∷ []) (stages.Over f) after) same
-            (one-step g (stages.Plainly turns) (stages.Over (over_is_done (finish_of_turned e))) m after (said.Plain m.outer.next (pos done) ∷ [])
-            (plainly turns m after (said.Plain m.outer.next (pos done) ∷ []) (stages.Over (over_is_done (finish_of_turned e))) (stopped done (finish_of_turned e) after r other)));
+        reaches = subst (λ (f : Finish). Launching g (stages.Plainly turns) m (said.Plain m.outer.next (pos done) ∷ []) (stages.Over f) after []) same (
+          one-step g (stages.Plainly turns) (stages.Over (over_is_done (finish_of_turned e))) m after (said.Plain m.outer.next (pos done) ∷ [])
+              (plainly turns m after (said.Plain m.outer.next (pos done) ∷ []) (stages.Over (over_is_done (finish_of_turned e))) (stopped done (finish_of_turned e) after r other)),
+          refl,
+        );
         nearer = omega (arith, took);
         due = tt;
         turn = tt;
         placed = placed-on g m after (turns_within m.outer.left turns) done (finish_of_turned e) keeps p r position count;
       }
 
-  pub plain-led : (e : Turned) → Ran g m (turns_within m.outer.left turns) done (finish_of_turned e) after → Led {D = D} g (Plainly turns) m before (next_stage e) after lines
+  pub plain-led : (e : Turned) → Ran g m (turns_within m.outer.left turns) done (finish_of_turned e) after → Led {D = D} g (Plainly turns) m before (next_stage e) after lines []
   plain-led turned.Went r = went r
   plain-led turned.Ended r = out turned.Ended ending.Ended refl (λ is. cc) r
   plain-led (turned.Trapped trap) r = out (turned.Trapped trap) (ending.Trapped trap) refl (λ is. cc) r

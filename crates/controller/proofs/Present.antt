@@ -28,7 +28,7 @@ use Rattle.nest_lang.specs.Heads.{Yield, Bounds, Tested, Headed, then_head, head
 use Rattle.nest_lang.specs.Loops.{Around, inward, outside, frame_of, turn_trace, turns_from, turns_of, turn_if, whiles_from, loop_by, loops_trace}
 use Rattle.nest_lang.specs.Turns.{number_left, counted_turns, turn_or_over, tested_turns, turns_by, turns_trace, over}
 use Rattle.nest_lang.proofs.StepLaws.{told-rolled, statement-rolled}
-use Rattle.nest_lang.proofs.Ranks.{present_blocks-have_ranks}
+use Rattle.nest_lang.proofs.Ranks.{present_blocks-have-ranks}
 use Rattle.follow.proofs.Standing.{all-append}
 
 -- an occurrence of a present block
@@ -224,7 +224,7 @@ module _ (loops : List Loop) where
   -- ---- the blocks of a nest
 
   part-present : (p : Part) (level : ℕ) (l : Loop) (counters : List ℤ) → loop_at loops level ≡ Some l → IsPresentPart p level l → IsPresent loops (record { block = record { part = p; level = level }; counters = counters })
-  part-present p level l counters at is = (present_blocks-have_ranks loops (record { part = p; level = level })).0 (l, at, is)
+  part-present p level l counters at is = (present_blocks-have-ranks loops (record { part = p; level = level })).0 (l, at, is)
 
   -- a block without statements shows nothing
   block-shows : (x : Expectation) (p : Part) (level : ℕ) (a : Around) (block : List Stmt) → (block ≢ [] → IsPresent loops (frame_of x p level a).at) → (s : Store) → Shows (instance_trace (frame_of x p level a) block s)
@@ -291,6 +291,6 @@ turns-show x k (l ∷ ls) o c s =
     (turn_trace-shows loops x 1 l _ refl (loops_trace-shows loops x k 2 ls (omega arith) (are-inner loops 1 l ls first))) o c s
 
 -- each thing that turns show is of a present block
-pub turns-show_present : (x : Expectation) (k : ℕ) (loops : List Loop) (o : Outer) (c : ℕ) (s : Store) (left : ℕ) → AllByRecursion (λ shown. IsPresent loops shown.at) (seen_in (turns_trace x k loops o c s) left)
+pub turns-show-present : (x : Expectation) (k : ℕ) (loops : List Loop) (o : Outer) (c : ℕ) (s : Store) (left : ℕ) → AllByRecursion (λ shown. IsPresent loops shown.at) (seen_in (turns_trace x k loops o c s) left)
 unfolding seen_in
-turns-show_present x k loops o c s left = seen-each loops (turns_trace x k loops o c s).entries left (turns-show x k loops o c s)
+turns-show-present x k loops o c s left = seen-each loops (turns_trace x k loops o c s).entries left (turns-show x k loops o c s)

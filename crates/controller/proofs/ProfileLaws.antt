@@ -12,7 +12,7 @@ use Rattle.nest_lang.specs.TurnLaws.{over_is_done}
 use Rattle.block_exec.specs.Watches.{Chain}
 use Rattle.profile.specs.Sampled.{MayKeep}
 use Rattle.profiling.specs.FirstProfiles.{has_turn}
-use Rattle.profiling.proofs.ProfileLaws.{kept_all}
+use Rattle.profiling.proofs.ProfileLaws.{kept-all}
 use Rattle.report.specs.declared.line.Line.{Line}
 use Rattle.report.specs.declared.line.Line.TheVariants as said
 use Rattle.journeys.specs.Settings.{Setting, Moment, Ran, next_turns, observed, profile_turns}
@@ -24,6 +24,7 @@ use Rattle.journeys.specs.Tellings.{profile_line}
 use Rattle.controller.specs.declared.stage.Stage.{Stage}
 use Rattle.controller.specs.declared.stage.Stage.TheVariants.{Profiles, Chunks, Plainly, Over}
 use Rattle.controller.specs.Machines.{IsPlaced}
+use Rattle.journeys.specs.HandedRecords.{Launching}
 use Rattle.controller.specs.Courses.{HasTurn, IsJudged, Led, ending_of, stage_of, weight}
 use Rattle.controller.proofs.Plainly.{difference-fits, done-few, next-fits, one-step, placed-on, ran-took, ran-whole, some-turns, turns-told}
 
@@ -33,7 +34,7 @@ use Rattle.controller.proofs.Plainly.{difference-fits, done-few, next-fits, one-
 pub kept-observed : (g : Setting) (m : Moment) (c : ℕ) (begun ended : Option (List Observation)) (kept : List Observation) → begun ≡ Some [] → ended ≡ Some kept
     → Chain MayKeep begun (seen_in (next_turns g m c) m.left) ended → kept ≡ observed g m c
 kept-observed g m c begun ended kept b e chain =
-    kept_all (seen_in (next_turns g m c) m.left) kept
+    kept-all (seen_in (next_turns g m c) m.left) kept
     (subst (λ (x : Option (List Observation)). Chain MayKeep (Some []) (seen_in (next_turns g m c) m.left) x) e
     (subst (λ (x : Option (List Observation)). Chain MayKeep x (seen_in (next_turns g m c) m.left) ended) b chain))
 
@@ -54,11 +55,11 @@ turn-had (Over ending) m on = tt
 -- ---- the way
 
 -- where a `for` has no turn left, the run has ended
-pub profile-none : {D : ℕ} (g : Setting) (m : Moment) (before : List Line) → IsPlaced g m → has_turn m.outer.left ≡ false → Led {D = D} g Profiles m before (Over ending.Ended) m before
+pub profile-none : {D : ℕ} (g : Setting) (m : Moment) (before : List Line) → IsPlaced g m → has_turn m.outer.left ≡ false → Led {D = D} g Profiles m before (Over ending.Ended) m before []
 profile-none g m before p off = record {
   told = [];
   are = sym (append-nil before);
-  reaches = one-step g stages.Profiles (stages.Over Done) m m [] (no_profile m off);
+  reaches = (one-step g stages.Profiles (stages.Over Done) m m [] (no_profile m off), refl);
   nearer = omega arith;
   due = tt;
   turn = tt;
@@ -99,15 +100,17 @@ module _ (g : Setting) (m after : Moment) (done : ℕ) (before told : List Line)
   all-ran r = subst (λ (n : ℕ). Ran g m (profile_turns g m) n Done after) (ran-whole g m after (profile_turns g m) done r) r
 
   out : (D : ℕ) (e : Turned) → over_is_done (finish_of_turned e) ≡ finish_of_ending (ending_of e) → (finish_of_turned e ≡ Done → ⊥) → Ran g m (profile_turns g m) done (finish_of_turned e) after
-      → Led {D = D} g Profiles m before (Over (ending_of e)) after told
+      → Led {D = D} g Profiles m before (Over (ending_of e)) after told []
   out D e same other r =
       let took = (ran-took g m after p.turn (profile_turns g m) done (finish_of_turned e) p.keeps.loops_keep p.next r).steps in
       record {
         told = profile_line m done ∷ [];
         are = line-told r.outer;
-        reaches = subst (λ (f : Finish). Reaches g stages.Profiles m (profile_line m done ∷ []) (stages.Over f) after) same
-            (one-step g stages.Profiles (stages.Over (over_is_done (finish_of_turned e))) m after (profile_line m done ∷ [])
-            (profile m after (profile_line m done ∷ []) (stages.Over (over_is_done (finish_of_turned e))) on (stopped done (finish_of_turned e) after r other)));
+        reaches = subst (λ (f : Finish). Launching g stages.Profiles m (profile_line m done ∷ []) (stages.Over f) after []) same (
+          one-step g stages.Profiles (stages.Over (over_is_done (finish_of_turned e))) m after (profile_line m done ∷ [])
+              (profile m after (profile_line m done ∷ []) (stages.Over (over_is_done (finish_of_turned e))) on (stopped done (finish_of_turned e) after r other)),
+          refl,
+        );
         nearer = omega (arith, took);
         due = tt;
         turn = tt;
@@ -115,21 +118,24 @@ module _ (g : Setting) (m after : Moment) (done : ℕ) (before told : List Line)
       }
 
   -- where a profile ended, trapped or was limited, so did the run
-  pub profile-stopped : (D : ℕ) (e : Turned) → (e ≡ turned.Went → ⊥) → Ran g m (profile_turns g m) done (finish_of_turned e) after → Led {D = D} g Profiles m before (Over (ending_of e)) after told
+  pub profile-stopped : (D : ℕ) (e : Turned) → (e ≡ turned.Went → ⊥) → Ran g m (profile_turns g m) done (finish_of_turned e) after → Led {D = D} g Profiles m before (Over (ending_of e)) after told []
   profile-stopped D turned.Went other r = absurd (other refl)
   profile-stopped D turned.Ended other r = out D turned.Ended refl (λ is. cc) r
   profile-stopped D (turned.Trapped trap) other r = out D (turned.Trapped trap) refl (λ is. cc) r
   profile-stopped D turned.Limited other r = out D turned.Limited refl (λ is. cc) r
 
   -- where a `for` has no turn left after it, the run has ended
-  pub profile-used_up : (D : ℕ) → Ran g m (profile_turns g m) done Done after → has_turn after.outer.left ≡ false → Led {D = D} g Profiles m before (Over ending.Ended) after told
+  pub profile-used_up : (D : ℕ) → Ran g m (profile_turns g m) done Done after → has_turn after.outer.left ≡ false → Led {D = D} g Profiles m before (Over ending.Ended) after told []
   profile-used_up D r off =
       let took = (ran-took g m after p.turn (profile_turns g m) done Done p.keeps.loops_keep p.next r).steps in
       record {
         told = profile_line m (profile_turns g m) ∷ [];
         are = line-whole r;
-        reaches = one-step g stages.Profiles (stages.Over Done) m after (profile_line m (profile_turns g m) ∷ [])
-            (profile m after (profile_line m (profile_turns g m) ∷ []) (stages.Over Done) on (used_up after (all-ran r) off));
+        reaches = (
+          one-step g stages.Profiles (stages.Over Done) m after (profile_line m (profile_turns g m) ∷ [])
+              (profile m after (profile_line m (profile_turns g m) ∷ []) (stages.Over Done) on (used_up after (all-ran r) off)),
+          refl,
+        );
         nearer = omega (arith, took);
         due = tt;
         turn = tt;
@@ -138,7 +144,7 @@ module _ (g : Setting) (m after : Moment) (done : ℕ) (before told : List Line)
 
   -- else what was observed is judged
   pub profile-judged : (D : ℕ) (stage : Stage D) (lines : List Line) → 1 ≤ g.sample → Ran g m (profile_turns g m) done Done after → has_turn after.outer.left ≡ true
-      → IsJudged g (observed g m (profile_turns g m)) told stage lines → Led {D = D} g Profiles m before stage after lines
+      → IsJudged g (observed g m (profile_turns g m)) told stage lines → Led {D = D} g Profiles m before stage after lines []
   profile-judged D stage lines some r more j =
       let took = (ran-took g m after p.turn (profile_turns g m) done Done p.keeps.loops_keep p.next r).steps in
       let same = ran-whole g m after (profile_turns g m) done r in
@@ -147,8 +153,11 @@ module _ (g : Setting) (m after : Moment) (done : ℕ) (before told : List Line)
       record {
         told = profile_line m (profile_turns g m) ∷ j.told;
         are = j.are ∙ ap (λ (ls : List Line). ls ++ j.told) (line-whole r) ∙ append_assoc before (profile_line m (profile_turns g m) ∷ []) j.told;
-        reaches = one-step g stages.Profiles (stage_of stage) m after (profile_line m (profile_turns g m) ∷ j.told)
-            (profile m after (profile_line m (profile_turns g m) ∷ j.told) (stage_of stage) on (profiled after j.told (stage_of stage) (all-ran r) more j.judged));
+        reaches = (
+          one-step g stages.Profiles (stage_of stage) m after (profile_line m (profile_turns g m) ∷ j.told)
+              (profile m after (profile_line m (profile_turns g m) ∷ j.told) (stage_of stage) on (profiled after j.told (stage_of stage) (all-ran r) more j.judged)),
+          refl,
+        );
         nearer = omega (arith, took, least, same, light);
         due = j.due;
         turn = turn-had stage after more;

@@ -11,15 +11,15 @@ use Rattle.chunk_run.specs.ChunkEnds.{Between, IsCommitted, IsRolledBack, HasEnd
 use Rattle.journeys.specs.Settings.{Moment}
 use Rattle.controller.specs.Machines.{between_at, HasRun}
 
-abbrev moment_from : Outer → Between → List ℤ → Moment
-moment_from o b locals = record { outer = o; store = store_of b.words b.scalars locals; left = b.steps.left; used = b.steps.used }
+abbrev moment-from : Outer → Between → List ℤ → Moment
+moment-from o b locals = record { outer = o; store = store_of b.words b.scalars locals; left = b.steps.left; used = b.steps.used }
 
 -- a moment is its position, the state between two turns, and the locals
 moment-same : (m after : Moment) → after.outer ≡ m.outer → between_at after ≡ between_at m → after.store.locals ≡ m.store.locals → after ≡ m
 moment-same m after outer state locals =
-    ap (λ (o : Outer). moment_from o (between_at after) after.store.locals) outer
-    ∙ ap (λ (b : Between). moment_from m.outer b after.store.locals) state
-    ∙ ap (λ (ls : List ℤ). moment_from m.outer (between_at m) ls) locals
+    ap (λ (o : Outer). moment-from o (between_at after) after.store.locals) outer
+    ∙ ap (λ (b : Between). moment-from m.outer b after.store.locals) state
+    ∙ ap (λ (ls : List ℤ). moment-from m.outer (between_at m) ls) locals
 
 module _ (e : Extent) (loops : List Loop) (o : Outer) (m after : Moment) (old new : Between) (at : m.outer ≡ o) (before : between_at m ≡ old) (then : between_at after ≡ new) where
   committed-run : (instances phases tiles steps : ℕ) → IsCommitted e loops o old new instances phases tiles steps → IsCommitted e loops m.outer (between_at m) (between_at after) instances phases tiles steps
@@ -39,3 +39,7 @@ module _ (e : Extent) (loops : List Loop) (o : Outer) (m after : Moment) (old ne
       → (end ≡ RolledBack → after.outer ≡ m.outer) → HasRun e loops m after (Ok end)
   has-run (Committed instances phases tiles steps) ended locals moves stays = (committed-run instances phases tiles steps ended, moves instances phases tiles steps refl)
   has-run RolledBack ended locals moves stays = (rolled-run ended, moment-same m after (stays refl) (then ∙ ended.same ∙ sym before) locals)
+
+  -- where memory was wanting all is as before
+  pub has-run-none : new ≡ old → after.store.locals ≡ m.store.locals → after.outer ≡ m.outer → after ≡ m
+  has-run-none ended locals stays = moment-same m after stays (then ∙ ended ∙ sym before) locals

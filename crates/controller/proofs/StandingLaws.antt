@@ -6,7 +6,7 @@ use Rattle.std.specs.Prelude.{IfSome, if◌then◌else◌}
 use Rattle.std.specs.List.{All, cons_option, filter_map}
 use Rattle.std.specs.Option.{option_map}
 use Rattle.std.proofs.lemmas.Option.{get_or_from_slice_get, slice_get_within, slice_get-get_or}
-use Rattle.plain_lemmas.proofs.MembershipLaws.{Has, All_from, has_at, has_cases}
+use Rattle.plain_lemmas.proofs.MembershipLaws.{Has, All-from, has-at, has-cases}
 use Rattle.affine.specs.Forms.{Affine, value_at}
 use Rattle.nest_lang.specs.declared.tree.Loop.{Loop}
 use Rattle.nest_lang.specs.declared.tree.Part.{Part}
@@ -74,7 +74,7 @@ stand-one : (scalars : ℕ) (line : Line) → CanStand scalars line → Stand sc
 stand-one scalars line can = λ other h. ⊎_elim (λ e. subst (CanStand scalars) (sym e) can) (λ k. absurd k) h
 
 stand-both : (scalars : ℕ) (xs ys : List Line) → Stand scalars xs → Stand scalars ys → Stand scalars (xs ++ ys)
-stand-both scalars xs ys a b = λ line h. ⊎_elim (λ k. a line k) (λ k. b line k) (has_cases xs ys line h)
+stand-both scalars xs ys a b = λ line h. ⊎_elim (λ k. a line k) (λ k. b line k) (has-cases xs ys line h)
 
 stand-first : (scalars : ℕ) (line : Line) (lines : List Line) → CanStand scalars line → Stand scalars lines → Stand scalars (line ∷ lines)
 stand-first scalars line lines can a = stand-both scalars (line ∷ []) lines (stand-one scalars line can) a
@@ -91,7 +91,7 @@ profile-stands scalars m turns = record { named = tt; refuses = tt }
 unfit-stands : (D scalars : ℕ) (loops : List Loop) (observations : List Observation) (u : Unfit D) → IsUnfitAt D scalars loops observations u → CanStand scalars (unfit_line loops u)
 unfit-stands D scalars loops observations u h = record {
   named = named-data scalars loops h.block u.what
-      (has_at (data_of scalars loops h.block) h.first.place u.what (slice_get_within (data_of scalars loops h.block) h.first.place u.what h.first.datum) (get_or_from_slice_get (data_of scalars loops h.block) h.first.place u.what u.what h.first.datum));
+      (has-at (data_of scalars loops h.block) h.first.place u.what (slice_get_within (data_of scalars loops h.block) h.first.place u.what h.first.datum) (get_or_from_slice_get (data_of scalars loops h.block) h.first.place u.what u.what h.first.datum));
   refuses = tt;
 }
 
@@ -267,7 +267,7 @@ IsOf g (Over finish) = Unit {0}
 
 -- the lines of a way can be written, the store has the nest's scalars then, and the stage is one of the nest
 record Stood (g : Setting) (lines : List Line) (stage : Stage) (after : Moment) : Type 0 where
-  lines_stand : Stand g.scalars lines
+  lines-stand : Stand g.scalars lines
   count : length after.store.scalars ≡ g.scalars
   of : IsOf g stage
 
@@ -277,58 +277,58 @@ ran-count g m after c done finish count r =
     ap (λ (run : Cut). length run.store.scalars) (r.cut (suc m.left) few) ∙ cut-count (plain_turns g (suc m.left) m c m.store) m.store m.left m.used ∙ count
 
 judged-stood : (g : Setting) (observations : List Observation) (lines : List Line) (stage : Stage) (m : Moment) → length m.store.scalars ≡ g.scalars → AreJudged g observations lines stage → Stood g lines stage m
-judged-stood g observations lines stage m count (unfit u at) = record { lines_stand = stand-one g.scalars (unfit_line g.loops u) (unfit-stands (length g.loops) g.scalars g.loops observations u at); count = count; of = tt }
-judged-stood g observations lines stage m count (none_legal t fit none) = record { lines_stand = choice-stands t (pos g.chunk) g.scalars g.loops g.candidates; count = count; of = tt }
-judged-stood g observations lines stage m count (chosen t number fit some) = record { lines_stand = choice-stands t (pos g.chunk) g.scalars g.loops g.candidates; count = count; of = fit.shape }
+judged-stood g observations lines stage m count (unfit u at) = record { lines-stand = stand-one g.scalars (unfit_line g.loops u) (unfit-stands (length g.loops) g.scalars g.loops observations u at); count = count; of = tt }
+judged-stood g observations lines stage m count (none_legal t fit none) = record { lines-stand = choice-stands t (pos g.chunk) g.scalars g.loops g.candidates; count = count; of = tt }
+judged-stood g observations lines stage m count (chosen t number fit some) = record { lines-stand = choice-stands t (pos g.chunk) g.scalars g.loops g.candidates; count = count; of = fit.shape }
 
 profile-stood : (g : Setting) (m after : Moment) (lines : List Line) (stage : Stage) → length m.store.scalars ≡ g.scalars → ProfileLeads g m lines stage after → Stood g lines stage after
 profile-stood g m after lines stage count (profile_stopped done finish there r other) =
-    record { lines_stand = stand-one g.scalars (profile_line m done) (profile-stands g.scalars m done); count = ran-count g m there (profile_turns g m) done finish count r; of = tt }
+    record { lines-stand = stand-one g.scalars (profile_line m done) (profile-stands g.scalars m done); count = ran-count g m there (profile_turns g m) done finish count r; of = tt }
 profile-stood g m after lines stage count (used_up there r off) =
-    record { lines_stand = stand-one g.scalars (profile_line m (profile_turns g m)) (profile-stands g.scalars m (profile_turns g m)); count = ran-count g m there (profile_turns g m) (profile_turns g m) Done count r; of = tt }
+    record { lines-stand = stand-one g.scalars (profile_line m (profile_turns g m)) (profile-stands g.scalars m (profile_turns g m)); count = ran-count g m there (profile_turns g m) (profile_turns g m) Done count r; of = tt }
 profile-stood g m after lines stage count (profiled there more next r on are) =
     let j = judged-stood g (observed g m (profile_turns g m)) more next there (ran-count g m there (profile_turns g m) (profile_turns g m) Done count r) are in
-    record { lines_stand = stand-first g.scalars (profile_line m (profile_turns g m)) more (profile-stands g.scalars m (profile_turns g m)) j.lines_stand; count = j.count; of = j.of }
+    record { lines-stand = stand-first g.scalars (profile_line m (profile_turns g m)) more (profile-stands g.scalars m (profile_turns g m)) j.lines-stand; count = j.count; of = j.of }
 
 chunk-stood : (t : Table) (number : ℕ) (g : Setting) (m after : Moment) (lines : List Line) (stage : Stage) → length m.store.scalars ≡ g.scalars → IsTableOf g.scalars g.loops t → ChunkLeads t number g m lines stage after → Stood g lines stage after
 chunk-stood t number g m after lines stage count of (held at reason is) =
-    record { lines_stand = stand-one g.scalars (held_line g m at reason) (held-stands g m t at reason _ of is); count = count; of = tt }
-chunk-stood t number g m after lines stage count of (rolled_back instances at difference launched is) =
-    record { lines_stand = stand-one g.scalars (rollback_line g m at difference) (rollback-stands g m t at difference count is); count = count; of = tt }
+    record { lines-stand = stand-one g.scalars (held_line g m at reason) (held-stands g m t at reason _ of is); count = count; of = tt }
+chunk-stood t number g m after lines stage count of (rolled_back schedule instances at difference which launched is) =
+    record { lines-stand = stand-one g.scalars (rollback_line g m at difference) (rollback-stands g m t at difference count is); count = count; of = tt }
 chunk-stood t number g m after lines stage count of (committed s instances phases tiles there which numbers follows r) =
-    record { lines_stand = stand-one g.scalars (commit_line g m there number instances phases tiles) (record { named = tt; refuses = tt }); count = ran-count g m there (chunk_turns g m) (chunk_turns g m) Done count r; of = of }
+    record { lines-stand = stand-one g.scalars (commit_line g m there number instances phases tiles) (record { named = tt; refuses = tt }); count = ran-count g m there (chunk_turns g m) (chunk_turns g m) Done count r; of = of }
 
 plain-stood : (turns : ℕ) (g : Setting) (m after : Moment) (lines : List Line) (stage : Stage) → length m.store.scalars ≡ g.scalars → PlainLeads turns g m lines stage after → Stood g lines stage after
 plain-stood turns g m after lines stage count (plain_stopped done finish there r other) =
-    record { lines_stand = stand-one g.scalars (plain_line m done) (plainly-stands g.scalars m done); count = ran-count g m there _ done finish count r; of = tt }
+    record { lines-stand = stand-one g.scalars (plain_line m done) (plainly-stands g.scalars m done); count = ran-count g m there _ done finish count r; of = tt }
 plain-stood turns g m after lines stage count (gone_on there r) =
-    record { lines_stand = stand-one g.scalars (plain_line m _) (plainly-stands g.scalars m _); count = ran-count g m there _ _ Done count r; of = tt }
+    record { lines-stand = stand-one g.scalars (plain_line m _) (plainly-stands g.scalars m _); count = ran-count g m there _ _ Done count r; of = tt }
 
 leads-stood : (g : Setting) (from : Stage) (m after : Moment) (lines : List Line) (stage : Stage) → length m.store.scalars ≡ g.scalars → IsOf g from → Leads g from m lines stage after → Stood g lines stage after
-leads-stood g from m after lines stage count of (no_profile at off) = record { lines_stand = stand-none g.scalars; count = count; of = tt }
-leads-stood g from m after lines stage count of (no_chunk t number at off) = record { lines_stand = stand-none g.scalars; count = count; of = tt }
+leads-stood g from m after lines stage count of (no_profile at off) = record { lines-stand = stand-none g.scalars; count = count; of = tt }
+leads-stood g from m after lines stage count of (no_chunk t number at off) = record { lines-stand = stand-none g.scalars; count = count; of = tt }
 leads-stood g from m after lines stage count of (profile at there more next on leads) = profile-stood g at there more next count leads
 leads-stood g from m after lines stage count of (chunk t number at there more next on leads) = chunk-stood t number g at there more next count of leads
 leads-stood g from m after lines stage count of (plainly turns at there more next leads) = plain-stood turns g at there more next count leads
 
 reaches-stood : (g : Setting) (from : Stage) (start : Moment) (lines : List Line) (stage : Stage) (m : Moment) → length start.store.scalars ≡ g.scalars → IsOf g from → Reaches g from start lines stage m → Stood g lines stage m
-reaches-stood g from start lines stage m count of begun = record { lines_stand = stand-none g.scalars; count = count; of = of }
+reaches-stood g from start lines stage m count of begun = record { lines-stand = stand-none g.scalars; count = count; of = of }
 reaches-stood g from start lines stage m count of (further before more mid next at there r leads) =
     let one = reaches-stood g from start before mid at count of r in
     let two = leads-stood g mid at there more next one.count one.of leads in
-    record { lines_stand = stand-both g.scalars before more one.lines_stand two.lines_stand; count = two.count; of = two.of }
+    record { lines-stand = stand-both g.scalars before more one.lines-stand two.lines-stand; count = two.count; of = two.of }
 
 -- ---- nests
 
 record NestStood (scalars : ℕ) (lines : List Line) (end : Cut) : Type 0 where
-  lines_stand : Stand scalars lines
+  lines-stand : Stand scalars lines
   count : length end.store.scalars ≡ scalars
 
 nest-stood : (g : Setting) (s : Store) (left used : ℕ) (lines : List Line) (end : Cut) → length s.scalars ≡ g.scalars → IsNestJourney g s left used lines end → NestStood g.scalars lines end
-nest-stood g s left used lines end count (not_entered finish stops) = record { lines_stand = stand-none g.scalars; count = count }
+nest-stood g s left used lines end count (not_entered finish stops) = record { lines-stand = stand-none g.scalars; count = count }
 nest-stood g s left used lines end count (entered o told finish there enters r) =
     let stood = reaches-stood g Profiles (entered_at g o s left used) told (Over finish) there count tt r in
-    record { lines_stand = stood.lines_stand; count = stood.count }
+    record { lines-stand = stood.lines-stand; count = stood.count }
 
 heading-stands : (scalars : ℕ) (version : Version) (number : ℕ) → Stand scalars (heading version number)
 heading-stands scalars One number = stand-none scalars
@@ -349,10 +349,10 @@ nests-stand options version scalars (unit ∷ units) number s left used lines en
     let stood = nest-stood (setting_of options scalars unit) s left used own here count h.3 in
     subst (Stand scalars) (sym h.5)
     (stand-both scalars (heading version number) (own ++ rest) (heading-stands scalars version number)
-    (stand-both scalars own rest stood.lines_stand
+    (stand-both scalars own rest stood.lines-stand
     (rest-stands scalars here.ending (IsJourneyOf options version scalars units (suc number) here.store here.left here.used rest end) (end ≡ here) rest
     (λ k. nests-stand options version scalars units (suc number) here.store here.left here.used rest end stood.count k) h.4)))
 
 pub journey-stands : (options : Options) (file : File) (lines : List Line) (end : Cut) → length (first_store file).scalars ≡ length file.scalars → IsJourney options file lines end → All (CanStand (length file.scalars)) lines
 journey-stands options file lines end count h =
-    All_from (CanStand (length file.scalars)) lines (nests-stand options file.version (length file.scalars) file.units 1 (first_store file) options.steps 0 lines end count h)
+    All-from (CanStand (length file.scalars)) lines (nests-stand options file.version (length file.scalars) file.units 1 (first_store file) options.steps 0 lines end count h)

@@ -166,11 +166,11 @@ tested-falls (suc c) t frame head turn each s left used done =
     omega (arith, falls, same)
 
 -- c turns that are done take at least c steps
-pub turns-take_steps : (loops : List Loop) (k c : ℕ) (o : Outer) (s : Store) (left used : ℕ) → loops_keep loops ≡ true → 0 < k
+pub turns-take-steps : (loops : List Loop) (k c : ℕ) (o : Outer) (s : Store) (left used : ℕ) → loops_keep loops ≡ true → 0 < k
     → (cut (turns_trace plain k loops o c s) s left used).ending ≡ Done → c + (cut (turns_trace plain k loops o c s) s left used).left ≤ left
 unfolding turns_trace
-turns-take_steps [] k c o s left used keeps some done = absurd (loops_keep-some [] refl keeps)
-turns-take_steps (l ∷ ls) k c o s left used keeps some done = by l.head done
+turns-take-steps [] k c o s left used keeps some done = absurd (loops_keep-some [] refl keeps)
+turns-take-steps (l ∷ ls) k c o s left used keeps some done = by l.head done
   where
     each : (a : Around) → Falls (turn_trace plain 1 l (loops_trace plain k 2 ls) a)
     each a = turn-falls k l ls a some (loops_keep-inner (l ∷ ls) l ls refl keeps)

@@ -5,7 +5,7 @@ use Rattle.std.proofs.lemmas.Bool.{ltb-true}
 use Rattle.std.proofs.lemmas.Int.{ints}
 use Rattle.std.proofs.lemmas.List.Elements.{All-head, All-nil, All-push, All-set, All-tail}
 use Rattle.std.specs.Prelude.{slice_set}
-use Rattle.plain_lemmas.proofs.MembershipLaws.{Has, All_from}
+use Rattle.plain_lemmas.proofs.MembershipLaws.{Has, All-from}
 use Rattle.nest_tokens.specs.declared.token.Mark.{Mark}
 use Rattle.nest_tokens.specs.declared.token.Token.{Token}
 use Rattle.nest_tokens.specs.declared.token.Token.TheVariants as token
@@ -29,7 +29,7 @@ use Rattle.nest_grammar.specs.Grammar.{IsItem, IsItems, IsScalars, IsSigned, IsV
 use Rattle.nest_grammar.specs.Readings.{with_sign}
 use Rattle.grammar_laws.proofs.Contents.{reading-reads}
 use Rattle.nest_text.specs.Files.{IsOfText}
-use Rattle.nest_text.proofs.Stored.{ramp_from, ramp_from-all, ramp_from-next, ramp_from-start, ramp_fits-value}
+use Rattle.nest_text.proofs.Stored.{ramp_from, ramp-from-all, ramp-from-next, ramp-from-start, ramp_fits-value}
 
 -- ---- tokens
 
@@ -144,16 +144,16 @@ set_words-fit first (v ∷ vs) memory a m = set_words-fit (suc first) vs (slice_
 
 ramp-fit : (n i count first stride : ℕ) (start growth : ℤ) (memory : List ℤ) → n + i ≡ count → ((j : ℕ) → j < count → I64 (start +ℤ growth *ℤ pos j)) → All I64 memory
     → All I64 (ramp_from i count first stride start growth memory)
-ramp-fit zero i count first stride start growth memory is each m = subst (All I64) (sym (ramp_from-all i count first stride start growth memory (omega (arith, is)))) m
+ramp-fit zero i count first stride start growth memory is each m = subst (All I64) (sym (ramp-from-all i count first stride start growth memory (omega (arith, is)))) m
 ramp-fit (suc n) i count first stride start growth memory is each m =
     let less : i < count = omega (arith, is) in
-    subst (All I64) (sym (ramp_from-next i count first stride start growth memory less))
+    subst (All I64) (sym (ramp-from-next i count first stride start growth memory less))
     (ramp-fit n (i + 1) count first stride start growth (slice_set memory (first + stride * i) (start +ℤ growth *ℤ pos i)) (omega (arith, is)) each (All-set I64 memory (first + stride * i) (start +ℤ growth *ℤ pos i) (each i less) m))
 
 item-memory : (words : ℕ) (memory : List ℤ) (i : Item) → HasNumbers words i → All I64 memory → All I64 (after_item memory i)
 item-memory words memory (Data first values) a m = set_words-fit first values memory a m
 item-memory words memory (Ramp first count stride start growth) a m =
-    subst (All I64) (sym (ramp_from-start count first stride start growth memory))
+    subst (All I64) (sym (ramp-from-start count first stride start growth memory))
     (ramp-fit count 0 count first stride start growth memory (omega arith) (λ j less. ramp_fits-value words first count stride j start growth a.1 less a.0) m)
 
 items-memory : (words : ℕ) (memory : List ℤ) (items : List Item) → All (HasNumbers words) items → All I64 memory → All I64 (after_items memory items)
@@ -162,7 +162,7 @@ items-memory words memory (i ∷ is) a m =
     items-memory words (after_item memory i) is (All-tail (HasNumbers words) i is a) (item-memory words memory i (All-head (HasNumbers words) i is a) m)
 
 zeros-fit : (n : ℕ) → All I64 (replicate n (pos 0))
-zeros-fit n = All_from I64 (replicate n (pos 0)) (by n)
+zeros-fit n = All-from I64 (replicate n (pos 0)) (by n)
   where
     by : (k : ℕ) (z : ℤ) → Has (replicate k (pos 0)) z → I64 z
     by zero z h = absurd h

@@ -13,13 +13,15 @@ ghost use Rattle.profiling.specs.FirstProfiles.{has_turn};
 ghost use Rattle.shared_words.specs.Memories.{signed};
 ghost use Rattle.journeys.specs.Settings.{Ran, entry, next_turns, turns_within};
 ghost use Rattle.chunk_run.specs.ChunkEnds.{IsLegalFor};
+ghost use Rattle.chunk_run.specs.Groups.{GainsGroup};
 ghost use Rattle.follow_chunk.specs.Tasks.{IsTask};
 ghost use Rattle.worker.specs.Bases.{unstored};
-ghost use Rattle.controller.specs.Machines.{IsPlaced, HasRun, entered_or_ended};
+ghost use Rattle.controller.specs.Machines.{IsPlaced, HasRun, HavePosted, entered_or_ended};
 
 use crate::course::Course;
 use block_exec::{Blind, Halt, Port, Run, Watch};
-use chunk_run::{ChunkEnd, run_chunk};
+use chunk_run::{ChunkEnd, Launch, run_chunk};
+use crew::Crew;
 use follow_chunk::Task;
 use nest_lang::{Budget, Ending, Nest, Outer, State, Turned};
 use plain_interp::{Entered, enter, run_turns};
@@ -36,36 +38,46 @@ pub struct Place {
     pub steps: Budget,
 }
 
-/// What a run works on: the words behind the main seat, on which no plan is posted, the scalars, and where it stands.
-/// Contracts see it as a moment of the run.
+/// What a run works on: the words behind the main seat, on which no plan is posted, the scalars, and where it stands; and
+/// how many workers each phase of a chunk has. Contracts see it as a moment of the run, with the phases posted so far.
 #[derive(Drop)]
 pub struct Machine<'a> {
     words: &'a SharedWords,
     main: MainSeat,
     scalars: Vec<i64>,
     place: Place,
+    workers: u32,
 }
 
 impl<'a> Model for Machine<'a> {
-    ghost use Rattle.journeys.specs.Settings.{Moment};
-    ghost use Rattle.controller.specs.Machines.{IsMachine, moment_of};
+    ghost use Rattle.controller.specs.Machines.{IsMachine, MachineState, state_of};
 
-    ghost Value = { Moment };
+    ghost Value = { MachineState };
 
-    ghost view = { λ m. moment_of m.main m.scalars.items m.place };
+    ghost view = { λ m. state_of m.main m.scalars.items m.place m.workers };
 
-    ghost invariant = { λ m. IsMachine m.words.now m.main m.scalars.items m.place.steps };
+    ghost invariant = { λ m. IsMachine m.words.now m.main m.scalars.items m.place.steps m.workers };
 }
 
 impl<'a> Machine<'a> {
-    /// Over these words and their seat, with these scalars, at most 16, and so many steps left, at most 2^32.
-    pub fn new(words: &'a SharedWords, main: MainSeat, scalars: Vec<i64>, steps: u64) -> Machine<'a>
+    /// Over these words and their seat, with these scalars, at most 16, so many steps left, at most 2^32, and 1 to 64
+    /// workers for each phase.
+    pub fn new(
+        words: &'a SharedWords,
+        main: MainSeat,
+        scalars: Vec<i64>,
+        steps: u64,
+        workers: u32,
+    ) -> Machine<'a>
         requires table { main.table ≡ words.now }
         requires unposted { main.view.posted ≡ false }
         requires few { length scalars.items ≤ 16 }
         requires most { steps ≤ 2 ^ 32 }
-        ensures store { result.store ≡ store_of (signed main.view.base) scalars.items [] }
-        ensures steps { (result.left ≡ steps) × (result.used ≡ 0) }
+        requires workers_from { 1 ≤ workers }
+        requires workers_to { workers ≤ 64 }
+        ensures store { result.moment.store ≡ store_of (signed main.view.base) scalars.items [] }
+        ensures steps { (result.moment.left ≡ steps) × (result.moment.used ≡ 0) }
+        ensures posts { (result.posts.epoch ≡ main.view.epoch) × (result.posts.workers ≡ workers) }
     {
         Machine {
             words,
@@ -82,48 +94,49 @@ impl<'a> Machine<'a> {
                     used: 0,
                 },
             },
+            workers,
         }
     }
 
     /// The position of the outermost loop.
     pub fn outer(&self) -> Outer
-        ensures { result ≡ self.now.outer }
+        ensures { result ≡ self.now.moment.outer }
     {
         self.place.outer
     }
 
     /// The steps that are left.
     pub fn steps_left(&self) -> u64
-        ensures { result ≡ self.now.left }
+        ensures { result ≡ self.now.moment.left }
     {
         self.place.steps.left
     }
 
     /// The scalars, at most 16.
     pub fn scalars(&self) -> &[i64]
-        ensures value { result.now ≡ self.now.store.scalars }
-        ensures few { length self.now.store.scalars ≤ 16 }
+        ensures value { result.now ≡ self.now.moment.store.scalars }
+        ensures few { length self.now.moment.store.scalars ≤ 16 }
     {
         self.scalars.as_slice()
     }
 
     /// The number of words.
     pub fn word_count(&self) -> u64
-        ensures { result ≡ length self.now.store.memory }
+        ensures { result ≡ length self.now.moment.store.memory }
     {
         self.main.count(self.words)
     }
 
     /// Whether the outermost loop has a further turn, as far as one knows.
     pub fn has_turn(&self) -> bool
-        ensures { result ≡ has_turn self.now.outer.left }
+        ensures { result ≡ has_turn self.now.moment.outer.left }
     {
         self.place.outer.left != Some(0)
     }
 
     /// So many turns, or what is left of a `for`.
     pub fn turns_within(&self, most: u64) -> u64
-        ensures { result ≡ turns_within self.now.outer.left most }
+        ensures { result ≡ turns_within self.now.moment.outer.left most }
     {
         match self.place.outer.left {
             Some(left) => left.min(most),
@@ -134,12 +147,13 @@ impl<'a> Machine<'a> {
     /// Enters the outermost loop of a nest, or says how the run ended at its head.
     pub fn enter(&mut self, nest: &Nest) -> Result<(), Ending>
         requires { loops_keep nest.now.loops ≡ true }
-        ensures entered { entered_or_ended result self.new.outer ≡ entry nest.now.loops self.old.store self.old.left }
-        ensures position { IsOk result → IsPositionIn nest.now.loops self.new.outer × (self.new.outer.next ≡ pos 0) }
-        ensures store { self.new.store ≡ self.old.store }
-        ensures most { self.new.left + self.new.used ≤ 2 ^ 32 }
-        ensures left { self.new.left ≡ self.old.left - entry_steps nest.now.loops }
-        ensures used { self.new.used ≡ self.old.used + min (entry_steps nest.now.loops) self.old.left }
+        ensures entered { entered_or_ended result self.new.moment.outer ≡ entry nest.now.loops self.old.moment.store self.old.moment.left }
+        ensures position { IsOk result → IsPositionIn nest.now.loops self.new.moment.outer × (self.new.moment.outer.next ≡ pos 0) }
+        ensures store { self.new.moment.store ≡ self.old.moment.store }
+        ensures most { self.new.moment.left + self.new.moment.used ≤ 2 ^ 32 }
+        ensures left { self.new.moment.left ≡ self.old.moment.left - entry_steps nest.now.loops }
+        ensures used { self.new.moment.used ≡ self.old.moment.used + min (entry_steps nest.now.loops) self.old.moment.left }
+        ensures posts { self.new.posts ≡ self.old.posts }
     {
         enter_at(
             &mut self.main,
@@ -157,11 +171,12 @@ impl<'a> Machine<'a> {
         turns: u64,
         watch: W,
     ) -> (Turned, W)
-        requires { IsPlaced course.now self.old }
-        ensures ran { (done : ℕ) × Ran course.now self.old turns done (finish_of_turned result.0) self.new }
-        ensures shown { Chain W.may watch (seen_in (next_turns course.now self.old turns) self.old.left) result.1 }
-        ensures count { length self.new.store.scalars ≡ length self.old.store.scalars }
-        ensures position { IsPositionIn course.now.loops self.new.outer }
+        requires { IsPlaced course.now self.old.moment }
+        ensures ran { (done : ℕ) × Ran course.now self.old.moment turns done (finish_of_turned result.0) self.new.moment }
+        ensures shown { Chain W.may watch (seen_in (next_turns course.now self.old.moment turns) self.old.moment.left) result.1 }
+        ensures count { length self.new.moment.store.scalars ≡ length self.old.moment.store.scalars }
+        ensures position { IsPositionIn course.now.loops self.new.moment.outer }
+        ensures posts { self.new.posts ≡ self.old.posts }
     {
         run_from(
             &mut self.main,
@@ -174,30 +189,40 @@ impl<'a> Machine<'a> {
         )
     }
 
-    /// Runs a launched chunk from here on, in the order of a schedule. Where it is committed the outermost loop stands behind
-    /// it, and else all is as before.
-    pub fn run_chunk<const D: usize>(
+    /// Runs a launched chunk from here on, in the order of a schedule, by a crew. Where it is committed the outermost loop
+    /// stands behind it, and else all is as before.
+    pub fn run_chunk<C: Crew, const D: usize>(
         &mut self,
         alloc: Global,
         task: &Task<'_, D>,
         schedule: &Schedule<D>,
+        crew: &mut C,
     ) -> Result<ChunkEnd, AllocError>
-        requires task { IsTask D task.now.scalars task.now.nest.now.loops task.now.pred.now task.now.outer task.now.chunk (pos (length self.old.store.memory)) }
+        requires task { IsTask D task.now.scalars task.now.nest.now.loops task.now.pred.now task.now.outer task.now.chunk (pos (length self.old.moment.store.memory)) }
         requires legal { IsLegalFor task.now.pred.now schedule.now task.now.chunk }
-        requires outer { task.now.outer ≡ self.old.outer }
-        requires count { length self.old.store.scalars ≡ task.now.scalars }
-        ensures run { HasRun (record { table = task.now.pred.now; schedule = schedule.now; chunk = task.now.chunk }) task.now.nest.now.loops self.old self.new result }
-        ensures locals { (self.old.store.locals ≡ []) × (self.new.store.locals ≡ []) }
-        ensures count { length self.new.store.scalars ≡ length self.old.store.scalars }
+        requires outer { task.now.outer ≡ self.old.moment.outer }
+        requires count { length self.old.moment.store.scalars ≡ task.now.scalars }
+        requires epoch { self.old.posts.epoch ≤ 2 ^ 62 }
+        ensures run { HasRun (record { table = task.now.pred.now; schedule = schedule.now; chunk = task.now.chunk }) task.now.nest.now.loops self.old.moment self.new.moment result }
+        ensures locals { (self.old.moment.store.locals ≡ []) × (self.new.moment.store.locals ≡ []) }
+        ensures count { length self.new.moment.store.scalars ≡ length self.old.moment.store.scalars }
+        ensures gains { GainsGroup (record { table = task.now.pred.now; schedule = schedule.now; chunk = task.now.chunk }) self.old.posts.workers (C.handed crew.old) (C.handed crew.new) result }
+        ensures posted { HavePosted self.old.posts self.new.posts (C.handed crew.old) (C.handed crew.new) }
+        ensures few { self.new.posts.epoch ≤ self.old.posts.epoch + 65536 }
     {
-        let end = run_chunk(
-            alloc,
+        let launch = Launch {
             task,
             schedule,
+            words: self.words,
+            workers: self.workers,
+        };
+        let end = run_chunk(
+            alloc,
+            &launch,
             self.scalars.as_mut_slice(),
             &mut self.main,
-            self.words,
             &mut self.place.steps,
+            crew,
         )?;
         match end {
             ChunkEnd::Committed { .. } => {
@@ -210,13 +235,14 @@ impl<'a> Machine<'a> {
 
     /// The state at the end, and the steps that were taken.
     pub fn finish(self, alloc: Global) -> Result<(State, u64), AllocError>
-        ensures { IfOk result (λ end. (end.0 ≡ self.entry.store) × (end.1 ≡ self.entry.used)) }
+        ensures { IfOk result (λ end. (end.0 ≡ self.entry.moment.store) × (end.1 ≡ self.entry.moment.used)) }
     {
         let Machine {
             words,
             mut main,
             scalars,
             place,
+            workers: _,
         } = self;
         let memory = words_of(alloc, &mut main, words)?;
         Ok((State { memory, scalars }, place.steps.used))

@@ -1,6 +1,6 @@
 //! A profile, and what it leads to.
 
-ghost use Rattle.std.specs.Prelude.{IfOk};
+ghost use Rattle.std.specs.Prelude.{◌≡◌, [], IfOk};
 ghost use Rattle.controller.specs.Machines.{IsPlaced};
 ghost use Rattle.controller.specs.Courses.{Led};
 
@@ -22,8 +22,9 @@ pub fn profile<const D: usize>(
     course: &Course<'_, D>,
     machine: &mut Machine<'_>,
 ) -> Result<Stage<D>, AllocError>
-    requires { IsPlaced course.now machine.old }
-    ensures { IfOk result (λ stage. Led course.now Stage.Profiles machine.old lines.old.items stage machine.new lines.new.items) }
+    requires { IsPlaced course.now machine.old.moment }
+    ensures led { IfOk result (λ stage. Led course.now Stage.Profiles machine.old.moment lines.old.items stage machine.new.moment lines.new.items []) }
+    ensures posts { machine.new.posts ≡ machine.old.posts }
 {
     if !machine.has_turn() {
         return Ok(Stage::Over(Ending::Ended));

@@ -26,10 +26,11 @@ pub fn plainly<const D: usize>(
     machine: &mut Machine<'_>,
     turns: u64,
 ) -> Result<Stage<D>, AllocError>
-    requires placed { IsPlaced course.now machine.old }
-    requires turn { has_turn machine.old.outer.left ≡ true }
+    requires placed { IsPlaced course.now machine.old.moment }
+    requires turn { has_turn machine.old.moment.outer.left ≡ true }
     requires some { 1 ≤ turns }
-    ensures { IfOk result (λ stage. Led course.now (Stage.Plainly turns) machine.old lines.old.items stage machine.new lines.new.items) }
+    ensures led { IfOk result (λ stage. Led course.now (Stage.Plainly turns) machine.old.moment lines.old.items stage machine.new.moment lines.new.items []) }
+    ensures posts { machine.new.posts ≡ machine.old.posts }
 {
     let first = machine.outer().next;
     let turns = machine.turns_within(turns);
@@ -44,8 +45,8 @@ pub fn after_turns<const D: usize>(
     first: i64,
     turned: Turned,
 ) -> Result<Stage<D>, AllocError>
-    requires { FitsSigned w64 (machine.now.outer.next -ℤ first) }
-    ensures { IfOk result (λ stage. (stage ≡ next_stage turned) × (lines.new.items ≡ lines.old.items ++ said.Plain first (machine.now.outer.next -ℤ first) ∷ [])) }
+    requires { FitsSigned w64 (machine.now.moment.outer.next -ℤ first) }
+    ensures { IfOk result (λ stage. (stage ≡ next_stage turned) × (lines.new.items ≡ lines.old.items ++ said.Plain first (machine.now.moment.outer.next -ℤ first) ∷ [])) }
 {
     lines.push(Line::Plain {
         first,

@@ -10,16 +10,16 @@ use Rattle.core_steps.specs.Plans.{writes}
 use Rattle.core_steps.specs.Views.{Holds, Knows, stored_at, spent_view, joined_view}
 use Rattle.core_steps.specs.States.{flag_of, claim_of, word_of}
 use Rattle.core_steps.specs.Invariant.{At, IsUntouched, IsLentBy, PhaseIsSound, TilesAreSound, ValuesAreSound, Inv}
-use Rattle.core_steps.proofs.NumberLists.{has_none, has_append, has_left, has_right, has_without, has_rest, single_without, single_append}
-use Rattle.core_steps.proofs.StoreLists.{no_option, stored_append, unstored_append}
-use Rattle.core_steps.proofs.ViewLists.{at_same, set_else, each_joined, somewhere_joined, one_joined}
+use Rattle.core_steps.proofs.NumberLists.{has-none, has-append, has-left, has-right, has-without, has-rest, single-without, single-append}
+use Rattle.core_steps.proofs.StoreLists.{no-option, stored-append, unstored-append}
+use Rattle.core_steps.proofs.ViewLists.{at-same, set-else, each-joined, somewhere-joined, one-joined}
 
-pub join_keeps_phase : (words : List ℕ) (m : View) (ms : List View) (j : ℕ) (v : View) → PhaseIsSound words m (m ∷ ms) → At ms j v → 0 < v.number → PhaseIsSound words (joined_view m v) (joined_view m v ∷ set ms j spent_view)
-join_keeps_phase words m ms j v h at out = let
+pub join-keeps-phase : (words : List ℕ) (m : View) (ms : List View) (j : ℕ) (v : View) → PhaseIsSound words m (m ∷ ms) → At ms j v → 0 < v.number → PhaseIsSound words (joined_view m v) (joined_view m v ∷ set ms j spent_view)
+join-keeps-phase words m ms j v h at out = let
     b : View = joined_view m v in let
     of = h.lent (suc j) v at out in let
     none = h.main_number in let
-    taken : m.posted ≡ false → ⊥ = λ off. has_none v.number m.out (h.none_out off) of.out in
+    taken : m.posted ≡ false → ⊥ = λ off. has-none v.number m.out (h.none_out off) of.out in
     record {
       main_number = h.main_number;
       width = h.width;
@@ -31,62 +31,62 @@ join_keeps_phase words m ms j v h at out = let
       separate = h.separate;
       few = h.few;
       inside = h.inside;
-      numbers = λ n is_out. h.numbers n (has_rest n v.number m.out is_out).1;
-      distinct = single_without v.number m.out h.distinct;
-      one_view = λ n is_out. let r = has_rest n v.number m.out is_out in
-          somewhere_joined (λ u. u.number ≡ n) m b spent_view v ms j at (λ e. e) (λ e. absurd (r.0 (sym e))) (h.one_view n r.1);
-      only_view = λ n some_n. one_joined (λ u. u.number ≡ n) m b spent_view v ms j at (λ z. absurd (omega arith)) (λ z. inl z) (h.only_view n some_n);
-      lent = each_joined (λ _ u. 0 < u.number → IsLentBy b u) m b spent_view ms j (λ z. absurd (omega arith)) (λ z. absurd (omega arith))
+      numbers = λ n is_out. h.numbers n (has-rest n v.number m.out is_out).1;
+      distinct = single-without v.number m.out h.distinct;
+      one_view = λ n is_out. let r = has-rest n v.number m.out is_out in
+          somewhere-joined (λ u. u.number ≡ n) m b spent_view v ms j at (λ e. e) (λ e. absurd (r.0 (sym e))) (h.one_view n r.1);
+      only_view = λ n some_n. one-joined (λ u. u.number ≡ n) m b spent_view v ms j at (λ z. absurd (omega arith)) (λ z. inl z) (h.only_view n some_n);
+      lent = each-joined (λ _ u. 0 < u.number → IsLentBy b u) m b spent_view ms j (λ z. absurd (omega arith)) (λ z. absurd (omega arith))
           (λ p u a c e some_n. let o = h.lent p u e some_n in record {
             posted = o.posted;
             epoch = o.epoch;
             base = o.base;
             plan = o.plan;
-            out = has_without u.number v.number m.out (λ same. a (h.only_view v.number out p (suc j) u v e at same refl)) o.out;
+            out = has-without u.number v.number m.out (λ same. a (h.only_view v.number out p (suc j) u v e at same refl)) o.out;
           });
-      spent = each_joined (λ i u. i ≢ 0 → u.number ≡ 0 → u ≡ spent_view) m b spent_view ms j (λ ne _. absurd (ne refl)) (λ _ _. refl) (λ p u _ _ e. h.spent p u e);
-      failed = each_joined (λ _ u. u.failed ≡ true → flag_of words ≡ m.epoch) m b spent_view ms j
+      spent = each-joined (λ i u. i ≢ 0 → u.number ≡ 0 → u ≡ spent_view) m b spent_view ms j (λ ne _. absurd (ne refl)) (λ _ _. refl) (λ p u _ _ e. h.spent p u e);
+      failed = each-joined (λ _ u. u.failed ≡ true → flag_of words ≡ m.epoch) m b spent_view ms j
           (λ t. ⊎_elim (λ a. h.failed 0 m refl a) (λ c. h.failed (suc j) v at c) (or_cases m.failed v.failed t)) (λ t. absurd (true≢false (sym t))) (λ p u _ _ e. h.failed p u e);
-      failure = λ posted is. somewhere_joined (λ u. u.failed ≡ true) m b spent_view v ms j at (λ t. or_left m.failed v.failed t) (λ t. or_right m.failed v.failed t) (h.failure posted is);
-      seen = each_joined (λ _ u. u.seen ≡ true → flag_of words ≡ m.epoch) m b spent_view ms j
+      failure = λ posted is. somewhere-joined (λ u. u.failed ≡ true) m b spent_view v ms j at (λ t. or_left m.failed v.failed t) (λ t. or_right m.failed v.failed t) (h.failure posted is);
+      seen = each-joined (λ _ u. u.seen ≡ true → flag_of words ≡ m.epoch) m b spent_view ms j
           (λ t. ⊎_elim (λ a. h.seen 0 m refl a) (λ c. h.seen (suc j) v at c) (or_cases m.seen v.seen t)) (λ t. absurd (true≢false (sym t))) (λ p u _ _ e. h.seen p u e);
     }
 
-pub join_keeps_tiles : (words : List ℕ) (m : View) (ms : List View) (j : ℕ) (v : View) → TilesAreSound words m (m ∷ ms) → At ms j v → TilesAreSound words (joined_view m v) (joined_view m v ∷ set ms j spent_view)
-join_keeps_tiles words m ms j v h at = let
+pub join-keeps-tiles : (words : List ℕ) (m : View) (ms : List View) (j : ℕ) (v : View) → TilesAreSound words m (m ∷ ms) → At ms j v → TilesAreSound words (joined_view m v) (joined_view m v ∷ set ms j spent_view)
+join-keeps-tiles words m ms j v h at = let
     b : View = joined_view m v in
     record {
-      one_holder = λ k. one_joined (λ u. Holds u k) m b spent_view v ms j at (λ t. true≢false (sym t)) (λ t. has_append k m.held v.held t) (h.one_holder k);
-      once = each_joined (λ _ u. IsSingle u.held) m b spent_view ms j
-          (single_append m.held v.held (h.once 0 m refl) (h.once (suc j) v at) (λ k a c. let z : 0 ≡ suc j = h.one_holder k 0 (suc j) m v refl at a c in absurd (omega (arith, z)))) tt (λ p u _ _ e. h.once p u e);
-      claimed = λ k. each_joined (λ _ u. Holds u k → (k < length m.plan.tiles) × (claim_of words k ≡ m.epoch)) m b spent_view ms j
-          (λ t. ⊎_elim (λ a. h.claimed k 0 m refl a) (λ c. h.claimed k (suc j) v at c) (has_append k m.held v.held t)) (λ t. absurd (true≢false (sym t))) (λ p u _ _ e. h.claimed k p u e);
-      held = λ posted k lt is. somewhere_joined (λ u. Holds u k) m b spent_view v ms j at (λ t. has_left k m.held v.held t) (λ t. has_right k m.held v.held t) (h.held posted k lt is);
-      known = λ k. each_joined (λ _ u. Knows u k → (k < length m.plan.tiles) × (claim_of words k ≡ m.epoch)) m b spent_view ms j
-          (λ t. ⊎_elim (λ a. h.known k 0 m refl a) (λ c. h.known k (suc j) v at c) (has_append k m.known v.known t)) (λ t. absurd (true≢false (sym t))) (λ p u _ _ e. h.known k p u e);
+      one_holder = λ k. one-joined (λ u. Holds u k) m b spent_view v ms j at (λ t. true≢false (sym t)) (λ t. has-append k m.held v.held t) (h.one_holder k);
+      once = each-joined (λ _ u. IsSingle u.held) m b spent_view ms j
+          (single-append m.held v.held (h.once 0 m refl) (h.once (suc j) v at) (λ k a c. let z : 0 ≡ suc j = h.one_holder k 0 (suc j) m v refl at a c in absurd (omega (arith, z)))) tt (λ p u _ _ e. h.once p u e);
+      claimed = λ k. each-joined (λ _ u. Holds u k → (k < length m.plan.tiles) × (claim_of words k ≡ m.epoch)) m b spent_view ms j
+          (λ t. ⊎_elim (λ a. h.claimed k 0 m refl a) (λ c. h.claimed k (suc j) v at c) (has-append k m.held v.held t)) (λ t. absurd (true≢false (sym t))) (λ p u _ _ e. h.claimed k p u e);
+      held = λ posted k lt is. somewhere-joined (λ u. Holds u k) m b spent_view v ms j at (λ t. has-left k m.held v.held t) (λ t. has-right k m.held v.held t) (h.held posted k lt is);
+      known = λ k. each-joined (λ _ u. Knows u k → (k < length m.plan.tiles) × (claim_of words k ≡ m.epoch)) m b spent_view ms j
+          (λ t. ⊎_elim (λ a. h.known k 0 m refl a) (λ c. h.known k (suc j) v at c) (has-append k m.known v.known t)) (λ t. absurd (true≢false (sym t))) (λ p u _ _ e. h.known k p u e);
     }
 
-pub join_keeps_values : (words : List ℕ) (m : View) (ms : List View) (j : ℕ) (v : View) → ValuesAreSound words m (m ∷ ms) → At ms j v → ValuesAreSound words (joined_view m v) (joined_view m v ∷ set ms j spent_view)
-join_keeps_values words m ms j v h at = let
+pub join-keeps-values : (words : List ℕ) (m : View) (ms : List View) (j : ℕ) (v : View) → ValuesAreSound words m (m ∷ ms) → At ms j v → ValuesAreSound words (joined_view m v) (joined_view m v ∷ set ms j spent_view)
+join-keeps-values words m ms j v h at = let
     b : View = joined_view m v in
     record {
-      owned = λ a x. each_joined (λ _ u. stored_at a u.own ≡ Some x → (k : ℕ) × Holds u k × (writes m.plan k a ≡ true)) m b spent_view ms j
-          (λ is. ⊎_elim (λ c. let o = h.owned a x 0 m refl c in (o.0, has_left o.0 m.held v.held o.1, o.2)) (λ c. let o = h.owned a x (suc j) v at c in (o.0, has_right o.0 m.held v.held o.1, o.2)) (stored_append a m.own v.own x is))
-          (λ is. absurd (no_option x None refl is)) (λ p u _ _ e. h.owned a x p u e);
-      own = λ a x. each_joined (λ _ u. stored_at a u.own ≡ Some x → word_of words a ≡ x) m b spent_view ms j
-          (λ is. ⊎_elim (λ c. h.own a x 0 m refl c) (λ c. h.own a x (suc j) v at c) (stored_append a m.own v.own x is))
-          (λ is. absurd (no_option x None refl is)) (λ p u _ _ e. h.own a x p u e);
+      owned = λ a x. each-joined (λ _ u. stored_at a u.own ≡ Some x → (k : ℕ) × Holds u k × (writes m.plan k a ≡ true)) m b spent_view ms j
+          (λ is. ⊎_elim (λ c. let o = h.owned a x 0 m refl c in (o.0, has-left o.0 m.held v.held o.1, o.2)) (λ c. let o = h.owned a x (suc j) v at c in (o.0, has-right o.0 m.held v.held o.1, o.2)) (stored-append a m.own v.own x is))
+          (λ is. absurd (no-option x None refl is)) (λ p u _ _ e. h.owned a x p u e);
+      own = λ a x. each-joined (λ _ u. stored_at a u.own ≡ Some x → word_of words a ≡ x) m b spent_view ms j
+          (λ is. ⊎_elim (λ c. h.own a x 0 m refl c) (λ c. h.own a x (suc j) v at c) (stored-append a m.own v.own x is))
+          (λ is. absurd (no-option x None refl is)) (λ p u _ _ e. h.own a x p u e);
       base = λ a lt none. h.base a lt (before a none);
     } where
       before : (a : ℕ) → IsUntouched (joined_view m v ∷ set ms j spent_view) a → IsUntouched (m ∷ ms) a
-      before a none zero u e = subst (λ (z : View). stored_at a z.own ≡ None) (some-injective m u e) (unstored_append a m.own v.own (none 0 (joined_view m v) refl)).0
+      before a none zero u e = subst (λ (z : View). stored_at a z.own ≡ None) (some-injective m u e) (unstored-append a m.own v.own (none 0 (joined_view m v) refl)).0
       before a none (suc i) u e = dite (ℕ_discrete i j)
-          (λ same. subst (λ (z : View). stored_at a z.own ≡ None) (at_same ms j v u at (subst (λ (y : ℕ). At ms y u) same e)) (unstored_append a m.own v.own (none 0 (joined_view m v) refl)).1)
-          (λ ne. none (suc i) u (set_else ms j i spent_view u ne e))
+          (λ same. subst (λ (z : View). stored_at a z.own ≡ None) (at-same ms j v u at (subst (λ (y : ℕ). At ms y u) same e)) (unstored-append a m.own v.own (none 0 (joined_view m v) refl)).1)
+          (λ ne. none (suc i) u (set-else ms j i spent_view u ne e))
 
-pub join_keeps : (words : List ℕ) (m : View) (ms : List View) (j : ℕ) (v : View) → Inv words m (m ∷ ms) → At ms j v → 0 < v.number → Inv words (joined_view m v) (joined_view m v ∷ set ms j spent_view)
-join_keeps words m ms j v h at out = record {
-  phase = join_keeps_phase words m ms j v h.phase at out;
-  tiles = join_keeps_tiles words m ms j v h.tiles at;
-  values = join_keeps_values words m ms j v h.values at;
+pub join-keeps : (words : List ℕ) (m : View) (ms : List View) (j : ℕ) (v : View) → Inv words m (m ∷ ms) → At ms j v → 0 < v.number → Inv words (joined_view m v) (joined_view m v ∷ set ms j spent_view)
+join-keeps words m ms j v h at out = record {
+  phase = join-keeps-phase words m ms j v h.phase at out;
+  tiles = join-keeps-tiles words m ms j v h.tiles at;
+  values = join-keeps-values words m ms j v h.values at;
 }

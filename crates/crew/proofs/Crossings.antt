@@ -35,58 +35,58 @@ use Rattle.verified_turns.specs.contracts.worker.Worker as Worker
 use Rattle.verified_turns.specs.contracts.worker.Worker.TheInside as Inside
 use Rattle.std.specs.contracts.option.Option as Option
 
-boxed_sync : (T : RattleType) → IsSync T → IsSync (Boxed.the_row T)
-boxed_sync T s = search (sendable, crosses) depth 40
+boxed-sync : (T : RattleType) → IsSync T → IsSync (Boxed.the_row T)
+boxed-sync T s = search (sendable, crosses) depth 40
 
-items_sync : (T : RattleType) → IsSync T → IsSync (Items.the_row T)
-items_sync T s = search (sendable, crosses) depth 40
+items-sync : (T : RattleType) → IsSync T → IsSync (Items.the_row T)
+items-sync T s = search (sendable, crosses) depth 40
 
-expr_field_sync : IsSync (Expr.the_field).row
-expr_field_sync = ExprKnot.sync-Expr (plain_sync _ _ _ _ _) Place.the_field_sync (plain_sync _ _ _ _ _) boxed_sync Op.the_field_sync
+expr-field-sync : IsSync (Expr.the_field).row
+expr-field-sync = ExprKnot.sync-Expr (plain_sync _ _ _ _ _) Place.the_field_sync (plain_sync _ _ _ _ _) boxed-sync Op.the_field_sync
 
-stmt_field_sync : IsSync (Stmt.the_field).row
-stmt_field_sync = StmtKnot.sync-Stmt (plain_sync _ _ _ _ _) expr_field_sync items_sync
+stmt-field-sync : IsSync (Stmt.the_field).row
+stmt-field-sync = StmtKnot.sync-Stmt (plain_sync _ _ _ _ _) expr-field-sync items-sync
 
-stmt_sync : IsSync Stmt.the_row
-stmt_sync = recorded_sync (Stmt.the_field).row _ _ (Stmt.the_type).to_one stmt_field_sync
+stmt-sync : IsSync Stmt.the_row
+stmt-sync = recorded_sync (Stmt.the_field).row _ _ (Stmt.the_type).to_one stmt-field-sync
 
-head_field_sync : IsSync (Head.the_field).row
-head_field_sync = enum_sync (enum.shape Head.the_type) ((expr_field_sync, (expr_field_sync, (plain_sync _ _ _ _ _, tt))), ((expr_field_sync, tt), tt))
+head-field-sync : IsSync (Head.the_field).row
+head-field-sync = enum_sync (enum.shape Head.the_type) ((expr-field-sync, (expr-field-sync, (plain_sync _ _ _ _ _, tt))), ((expr-field-sync, tt), tt))
 
-loop_sync : IsSync Loop.the_row
-loop_sync = recorded_sync (Loop.the_field).row _ _ (Loop.the_type).to_one (struct_sync (shape Loop.the_type) (head_field_sync, (items_sync _ stmt_sync, (items_sync _ stmt_sync, tt))))
+loop-sync : IsSync Loop.the_row
+loop-sync = recorded_sync (Loop.the_field).row _ _ (Loop.the_type).to_one (struct_sync (shape Loop.the_type) (head-field-sync, (items-sync _ stmt-sync, (items-sync _ stmt-sync, tt))))
 
-nest_sync : IsSync Nest.the_row
-nest_sync = recorded_sync (Nest.the_field).row _ _ (Nest.the_type).to_one (struct_sync (shape Nest.the_type) (items_sync _ loop_sync, tt))
+nest-sync : IsSync Nest.the_row
+nest-sync = recorded_sync (Nest.the_field).row _ _ (Nest.the_type).to_one (struct_sync (shape Nest.the_type) (items-sync _ loop-sync, tt))
 
-prediction_sync : (D : RattleType) → IsSync (Prediction.the_row D)
-prediction_sync D = Predictions.the_sync D
+prediction-sync : (D : RattleType) → IsSync (Prediction.the_row D)
+prediction-sync D = Predictions.the_sync D
 
-task_sync : (κ : NamedLft) (D : RattleType) → IsSync (Task.the_row κ D)
-task_sync κ D = search (sendable, crosses, nest_sync, prediction_sync) depth 40
+task-sync : (κ : NamedLft) (D : RattleType) → IsSync (Task.the_row κ D)
+task-sync κ D = search (sendable, crosses, nest-sync, prediction-sync) depth 40
 
-table_sync : IsSync (Words.the_row)
-table_sync = search (sendable, crosses, Tables.the_sync, Leases.the_sync) depth 40
+table-sync : IsSync (Words.the_row)
+table-sync = search (sendable, crosses, Tables.the_sync, Leases.the_sync) depth 40
 
-words_sync : IsSync SharedWords.the_row
-words_sync = view_sync _ _ _ _ _ table_sync
+words-sync : IsSync SharedWords.the_row
+words-sync = view_sync _ _ _ _ _ table-sync
 
-seat_send : IsSend WorkSeat.the_row
-seat_send = search (sendable, crosses, Seats.the_send) depth 40
+seat-send : IsSend WorkSeat.the_row
+seat-send = search (sendable, crosses, Seats.the_send) depth 40
 
-end_send : (D : RattleType) → IsSend (Option.the_field (Outcome.the_row D)).row
-end_send D = search (sendable, crosses) depth 40
+end-send : (D : RattleType) → IsSend (Option.the_field (Outcome.the_row D)).row
+end-send D = search (sendable, crosses) depth 40
 
-inside_send : (κ : NamedLft) (W D : RattleType) (g : Ghosts W.Denot (value_of D)) → IsSend W → IsSend (Inside.the_row κ W D g)
-inside_send κ W D g walk =
+inside-send : (κ : NamedLft) (W D : RattleType) (g : Ghosts W.Denot (value_of D)) → IsSend W → IsSend (Inside.the_row κ W D g)
+inside-send κ W D g walk =
     recorded_send (Inside.the_field κ W D g).row _ _ (Inside.the_type κ W D g).to_one (struct_send (shape (Inside.the_type κ W D g)) (
       plain_send _ _ _ _ _,
-      (seat_send, (shr_send _ _ _ words_sync, (shr_send _ _ _ (task_sync κ D), (walk, (plain_send _ _ _ _ _, (plain_send _ _ _ _ _, (plain_send _ _ _ _ _, (end_send D, tt)))))))),
+      (seat-send, (shr_send _ _ _ words-sync, (shr_send _ _ _ (task-sync κ D), (walk, (plain_send _ _ _ _ _, (plain_send _ _ _ _ _, (plain_send _ _ _ _ _, (end-send D, tt)))))))),
     ))
 
-worker_send : (κ : NamedLft) (W D : RattleType) (g : Ghosts W.Denot (value_of D)) → IsSend W → IsSend (Worker.the_row κ W D g)
-worker_send κ W D g walk = view_send (Inside.the_row κ W D g) _ _ _ _ (inside_send κ W D g walk)
+worker-send : (κ : NamedLft) (W D : RattleType) (g : Ghosts W.Denot (value_of D)) → IsSend W → IsSend (Worker.the_row κ W D g)
+worker-send κ W D g walk = view_send (Inside.the_row κ W D g) _ _ _ _ (inside-send κ W D g walk)
 
 -- as an argument of a call, which has a layout of its own
-pub job_send : (i : ℕ) (k : Kept) (κ : NamedLft) (W D : RattleType) (g : Ghosts W.Denot (value_of D)) → IsSend W → IsSend (param i (arg ty_unit k (Worker.the_row κ W D g)))
-job_send i k κ W D g walk = param_send i (arg ty_unit k (Worker.the_row κ W D g)) (arg_send ty_unit k (Worker.the_row κ W D g) (worker_send κ W D g walk))
+pub job-send : (i : ℕ) (k : Kept) (κ : NamedLft) (W D : RattleType) (g : Ghosts W.Denot (value_of D)) → IsSend W → IsSend (param i (arg ty_unit k (Worker.the_row κ W D g)))
+job-send i k κ W D g walk = param_send i (arg ty_unit k (Worker.the_row κ W D g)) (arg_send ty_unit k (Worker.the_row κ W D g) (worker-send κ W D g walk))

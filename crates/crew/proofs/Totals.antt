@@ -27,12 +27,12 @@ take-all (x ∷ xs) rest zero is = absurd (omega (arith, is))
 take-all (x ∷ xs) rest (suc n) is = ap (λ l. x ∷ l) (take-all xs rest n (omega (arith, is)))
 
 -- jobs that were run in a buffer of so many
-pub ran_back : {J : Type 0} (origin : J → Origin) (left : J → ℕ) (items slice new : List J) (n : ℕ) → length slice ≡ n → slice ≡ items → Ran origin left slice new → Ran origin left items (take n (new ++ drop (length new) items))
-ran_back {J} origin left items slice new n long is ran =
+pub ran-back : {J : Type 0} (origin : J → Origin) (left : J → ℕ) (items slice new : List J) (n : ℕ) → length slice ≡ n → slice ≡ items → Ran origin left slice new → Ran origin left items (take n (new ++ drop (length new) items))
+ran-back {J} origin left items slice new n long is ran =
     subst (λ (xs : List J). Ran origin left items xs) (sym (take-all new (drop (length new) items) n (ran.same_length ∙ long)))
     (subst (λ (xs : List J). Ran origin left xs new) is ran)
 
 -- the tiles of the first
-pub tiles_first : {D : ℕ} (jobs : List (Status D)) (first : Status D) → 0 < length jobs → first ≡ get_or jobs 0 first → length first.lists ≡ tiles_of jobs
-tiles_first [] first some is = absurd (omega (arith, some))
-tiles_first (j ∷ js) first some is = ap (λ (w : Status _). length w.lists) is
+pub tiles-first : {D : ℕ} (jobs : List (Status D)) (first : Status D) → 0 < length jobs → first ≡ get_or jobs 0 first → length first.lists ≡ tiles_of jobs
+tiles-first [] first some is = absurd (omega (arith, some))
+tiles-first (j ∷ js) first some is = ap (λ (w : Status _). length w.lists) is

@@ -128,11 +128,20 @@ fn begin<G: Gate, J: Job>(gate: &G, job: &mut J)
     finish(job);
 }
 
-/// Runs the jobs beside each other, each on a thread of its own where one can be started, and else here.
+/// How many threads are worth starting: as many as there are tiles, since a further worker would find each tile held.
+fn threads_for<J: Job>(jobs: &[J]) -> usize
+    ensures { 0 < result }
+{
+    jobs.first().map_or(1, |job| job.tiles() as usize).max(1)
+}
+
+/// Runs the jobs beside each other, at most as many at once as there are tiles, each on a thread of its own where one can be
+/// started, and else here.
 pub fn beside<R: Threads + Sync, G: Gate, J: Job + Send>(rt: &R, gate: &G, jobs: &mut [J])
     ensures { Ran J.origin J.left_of jobs.old jobs.new }
 {
-    thread::for_each_mut(rt, jobs, 64, &|_, job: &mut J| begin(gate, job));
+    let threads = threads_for(jobs);
+    thread::for_each_mut(rt, jobs, threads, &|_, job: &mut J| begin(gate, job));
 }
 
 /// The steps of all jobs, of which there are at most 64.

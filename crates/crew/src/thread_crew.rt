@@ -6,8 +6,8 @@ use crate::jobs::Gate;
 use std::alloc::{AllocError, Global};
 use std::thread::Threads;
 
-/// A crew that runs each job on a thread of its own, behind a gate that each passes before its first turn. Where a thread
-/// can't be started the caller does that job.
+/// A crew that runs its jobs on threads, at most as many at once as there are tiles, behind a gate that each job passes
+/// before its first turn. Where a thread can't be started the caller does that work.
 #[derive(Drop)]
 pub struct ThreadCrew<R, G> {
     rt: R,

@@ -15,11 +15,11 @@ list-empties zero k = refl
 list-empties (suc n) zero = refl
 list-empties (suc n) (suc k) = list-empties n k
 
-pub none_in : (n k : ℕ) (x : Instance) → Has (list_of (empties n) k) x → ⊥
-none_in n k x h = subst (λ (xs : List Instance). Has xs x) (list-empties n k) h
+pub none-in : (n k : ℕ) (x : Instance) → Has (list_of (empties n) k) x → ⊥
+none-in n k x h = subst (λ (xs : List Instance). Has xs x) (list-empties n k) h
 
-pub none_at_all : (n : ℕ) (x : Instance) → Has (flat (empties n)) x → ⊥
-none_at_all n x h = subst (λ (xs : List Instance). Has xs x) (flat-empties n) h
+pub none-at-all : (n : ℕ) (x : Instance) → Has (flat (empties n)) x → ⊥
+none-at-all n x h = subst (λ (xs : List Instance). Has xs x) (flat-empties n) h
 
 pub few-empties : (n : ℕ) → length (flat (empties n)) ≤ 65536
 few-empties n = subst (λ (xs : List Instance). length xs ≤ 65536) (sym (flat-empties n)) (lit≤ tt)

@@ -53,31 +53,31 @@ wider a b f l h = record {
 
 -- ---- lists that grow
 
-pub flat_more : {X : Type 0} (f : ℕ → List X) (a n : ℕ) → flat_map f (range_with_len a (suc n)) ≡ flat_map f (range_with_len a n) ++ f (a + n)
-flat_more f a zero = let e : a ≡ a + 0 = omega arith in append-nil (f a) ∙ ap f e
-flat_more {X} f a (suc n) =
+pub flat-more : {X : Type 0} (f : ℕ → List X) (a n : ℕ) → flat_map f (range_with_len a (suc n)) ≡ flat_map f (range_with_len a n) ++ f (a + n)
+flat-more f a zero = let e : a ≡ a + 0 = omega arith in append-nil (f a) ∙ ap f e
+flat-more {X} f a (suc n) =
     let e : a + 1 + n ≡ a + suc n = omega arith in
-    ap (λ (xs : List X). f a ++ xs) (flat_more f (a + 1) n) ∙ sym (append_assoc (f a) (flat_map f (range_with_len (a + 1) n)) (f (a + 1 + n))) ∙ ap (λ k. flat_map f (range_with_len a (suc n)) ++ f k) e
+    ap (λ (xs : List X). f a ++ xs) (flat-more f (a + 1) n) ∙ sym (append_assoc (f a) (flat_map f (range_with_len (a + 1) n)) (f (a + 1 + n))) ∙ ap (λ k. flat_map f (range_with_len a (suc n)) ++ f k) e
 
 -- one more of a range from a, as a list of what h makes of it
-pub more_of_range : {X Z : Type 0} (old before after : List Z) (h : X → Z) (f : ℕ → List X) (a k : ℕ) (more : List X) → a ≤ k
+pub more-of-range : {X Z : Type 0} (old before after : List Z) (h : X → Z) (f : ℕ → List X) (a k : ℕ) (more : List X) → a ≤ k
     → before ≡ old ++ map h (flat_map f (range_with_len a (k - a))) → after ≡ before ++ map h more → f k ≡ more
     → after ≡ old ++ map h (flat_map f (range_with_len a (k + 1 - a)))
-more_of_range {X} {Z} old before after h f a k more from e g is =
+more-of-range {X} {Z} old before after h f a k more from e g is =
     let next : k + 1 - a ≡ suc (k - a) = omega arith in
     let here : a + (k - a) ≡ k = omega arith in
     let front = flat_map f (range_with_len a (k - a)) in
-    let grown : flat_map f (range_with_len a (suc (k - a))) ≡ front ++ more = flat_more f a (k - a) ∙ ap (λ m. front ++ f m) here ∙ ap (λ (xs : List X). front ++ xs) is in
+    let grown : flat_map f (range_with_len a (suc (k - a))) ≡ front ++ more = flat-more f a (k - a) ∙ ap (λ m. front ++ f m) here ∙ ap (λ (xs : List X). front ++ xs) is in
     g
     ∙ ap (λ (xs : List Z). xs ++ map h more) e
     ∙ append_assoc old (map h front) (map h more)
     ∙ ap (λ (xs : List Z). old ++ xs) (sym (map-append h front more) ∙ ap (map h) (sym grown) ∙ ap (λ m. map h (flat_map f (range_with_len a m))) (sym next))
 
-pub two_more : {Z : Type 0} (a b c : List Z) (x y : Z) → b ≡ a ++ x ∷ [] → c ≡ b ++ y ∷ [] → c ≡ a ++ x ∷ y ∷ []
-two_more {Z} a b c x y e f = f ∙ ap (λ (xs : List Z). xs ++ y ∷ []) e ∙ append_assoc a (x ∷ []) (y ∷ [])
+pub two-more : {Z : Type 0} (a b c : List Z) (x y : Z) → b ≡ a ++ x ∷ [] → c ≡ b ++ y ∷ [] → c ≡ a ++ x ∷ y ∷ []
+two-more {Z} a b c x y e f = f ∙ ap (λ (xs : List Z). xs ++ y ∷ []) e ∙ append_assoc a (x ∷ []) (y ∷ [])
 
-pub none_more : {Z : Type 0} (a b : List Z) → b ≡ a → b ≡ a ++ []
-none_more a b e = e ∙ sym (append-nil a)
+pub none-more : {Z : Type 0} (a b : List Z) → b ≡ a → b ≡ a ++ []
+none-more a b e = e ∙ sym (append-nil a)
 
 pub below-seven : (n : ℕ) → n ≤ 6 → n < 7
 below-seven n h = omega arith

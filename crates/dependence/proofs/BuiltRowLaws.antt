@@ -10,34 +10,34 @@ use Rattle.std.proofs.lemmas.List.Elements.{All-nil, All-cons, All-append}
 use Rattle.dependence.specs.Comparisons.{Term, Number, Turn, AtX, AtY, AtMost, at_most, on_turn, on_x, on_y, alone, less, row_for}
 use Rattle.dependence.proofs.SumLaws.{length-less}
 
-same_front : (z : ℤ) (u v : List ℤ) → u ≡ v → z ∷ u ≡ z ∷ v
-same_front z u v e = ap (λ (w : List ℤ). z ∷ w) e
+same-front : (z : ℤ) (u v : List ℤ) → u ≡ v → z ∷ u ≡ z ∷ v
+same-front z u v e = ap (λ (w : List ℤ). z ∷ w) e
 
-one_more : (xs ys : List ℤ) (k : ℕ) → less (suc k) xs ys ≡ less k xs ys ++ (get_or xs k (pos 0) -ℤ get_or ys k (pos 0)) ∷ []
-one_more [] [] zero = refl
-one_more [] (y ∷ ys) zero = let e : neg_ℤ y ≡ pos 0 -ℤ y = omega (arith, ints) in ap (λ (w : ℤ). w ∷ []) e
-one_more (x ∷ xs) [] zero = let e : x ≡ x -ℤ pos 0 = omega (arith, ints) in ap (λ (w : ℤ). w ∷ []) e
-one_more (x ∷ xs) (y ∷ ys) zero = refl
-one_more [] [] (suc k) = same_front (pos 0) _ _ (one_more [] [] k)
-one_more [] (y ∷ ys) (suc k) = same_front (neg_ℤ y) _ _ (one_more [] ys k)
-one_more (x ∷ xs) [] (suc k) = same_front x _ _ (one_more xs [] k)
-one_more (x ∷ xs) (y ∷ ys) (suc k) = same_front (x -ℤ y) _ _ (one_more xs ys k)
+one-more : (xs ys : List ℤ) (k : ℕ) → less (suc k) xs ys ≡ less k xs ys ++ (get_or xs k (pos 0) -ℤ get_or ys k (pos 0)) ∷ []
+one-more [] [] zero = refl
+one-more [] (y ∷ ys) zero = let e : neg_ℤ y ≡ pos 0 -ℤ y = omega (arith, ints) in ap (λ (w : ℤ). w ∷ []) e
+one-more (x ∷ xs) [] zero = let e : x ≡ x -ℤ pos 0 = omega (arith, ints) in ap (λ (w : ℤ). w ∷ []) e
+one-more (x ∷ xs) (y ∷ ys) zero = refl
+one-more [] [] (suc k) = same-front (pos 0) _ _ (one-more [] [] k)
+one-more [] (y ∷ ys) (suc k) = same-front (neg_ℤ y) _ _ (one-more [] ys k)
+one-more (x ∷ xs) [] (suc k) = same-front x _ _ (one-more xs [] k)
+one-more (x ∷ xs) (y ∷ ys) (suc k) = same-front (x -ℤ y) _ _ (one-more xs ys k)
 
 -- one number more of the counters of x, and of y
-pub pushed_x : (items after : List ℤ) (d number : ℤ) (xs ys : List ℤ) (k : ℕ) → items ≡ d ∷ less k xs ys → after ≡ items ++ number ∷ [] → number ≡ get_or xs k (pos 0) -ℤ get_or ys k (pos 0) → after ≡ d ∷ less (k + 1) xs ys
-pushed_x items after d number xs ys k e f g = rw (f, e, g, add-one) (same_front d _ _ (sym (one_more xs ys k)))
+pub pushed-x : (items after : List ℤ) (d number : ℤ) (xs ys : List ℤ) (k : ℕ) → items ≡ d ∷ less k xs ys → after ≡ items ++ number ∷ [] → number ≡ get_or xs k (pos 0) -ℤ get_or ys k (pos 0) → after ≡ d ∷ less (k + 1) xs ys
+pushed-x items after d number xs ys k e f g = rw (f, e, g, add-one) (same-front d _ _ (sym (one-more xs ys k)))
 
-pub pushed_y : (items after : List ℤ) (d number : ℤ) (front xs ys : List ℤ) (k : ℕ) → items ≡ d ∷ (front ++ less k xs ys) → after ≡ items ++ number ∷ [] → number ≡ get_or xs k (pos 0) -ℤ get_or ys k (pos 0) → after ≡ d ∷ (front ++ less (k + 1) xs ys)
-pushed_y items after d number front xs ys k e f g = rw (f, e, g, add-one, one_more xs ys k) (same_front d _ _ (append_assoc front (less k xs ys) _))
+pub pushed-y : (items after : List ℤ) (d number : ℤ) (front xs ys : List ℤ) (k : ℕ) → items ≡ d ∷ (front ++ less k xs ys) → after ≡ items ++ number ∷ [] → number ≡ get_or xs k (pos 0) -ℤ get_or ys k (pos 0) → after ≡ d ∷ (front ++ less (k + 1) xs ys)
+pushed-y items after d number front xs ys k e f g = rw (f, e, g, add-one, one-more xs ys k) (same-front d _ _ (append_assoc front (less k xs ys) _))
 
-pub room_x : (items : List ℤ) (d : ℤ) (xs ys : List ℤ) (k : ℕ) → items ≡ d ∷ less k xs ys → length items ≡ k + 1
-room_x items d xs ys k e = let f = ap length e in let g = length-less k xs ys in omega arith
+pub room-x : (items : List ℤ) (d : ℤ) (xs ys : List ℤ) (k : ℕ) → items ≡ d ∷ less k xs ys → length items ≡ k + 1
+room-x items d xs ys k e = let f = ap length e in let g = length-less k xs ys in omega arith
 
-pub fits_x : (items : List ℤ) (d : ℤ) (xs ys : List ℤ) (k most D : ℕ) → items ≡ d ∷ less k xs ys → k < most → most ≤ D → D < 7 → length items < 16
-fits_x items d xs ys k most D e l m few = let f = room_x items d xs ys k e in omega arith
+pub fits-x : (items : List ℤ) (d : ℤ) (xs ys : List ℤ) (k most D : ℕ) → items ≡ d ∷ less k xs ys → k < most → most ≤ D → D < 7 → length items < 16
+fits-x items d xs ys k most D e l m few = let f = room-x items d xs ys k e in omega arith
 
-pub fits_y : (items : List ℤ) (d : ℤ) (us vs xs ys : List ℤ) (n k most D : ℕ) → items ≡ d ∷ (less n us vs ++ less k xs ys) → n ≤ D → k < most → most ≤ D → D < 7 → length items < 16
-fits_y items d us vs xs ys n k most D e i l m few =
+pub fits-y : (items : List ℤ) (d : ℤ) (us vs xs ys : List ℤ) (n k most D : ℕ) → items ≡ d ∷ (less n us vs ++ less k xs ys) → n ≤ D → k < most → most ≤ D → D < 7 → length items < 16
+fits-y items d us vs xs ys n k most D e i l m few =
     let f = ap length e in
     let g = length-append (less n us vs) (less k xs ys) in
     let h = length-less n us vs in
@@ -45,12 +45,12 @@ fits_y items d us vs xs ys n k most D e i l m few =
     omega arith
 
 -- the row from its parts
-pub row_is : (nx ny : ℕ) (c : AtMost) (row : Row) (items : List ℤ) → items ≡ (on_turn c.right -ℤ on_turn c.left) ∷ (less nx (on_x c.right) (on_x c.left) ++ less ny (on_y c.right) (on_y c.left))
+pub row-is : (nx ny : ℕ) (c : AtMost) (row : Row) (items : List ℤ) → items ≡ (on_turn c.right -ℤ on_turn c.left) ∷ (less nx (on_x c.right) (on_x c.left) ++ less ny (on_y c.right) (on_y c.left))
     → row.coef.items ≡ items → row.cst ≡ alone c.right -ℤ alone c.left → row ≡ row_for nx ny c
-row_is nx ny c row items e f g = ap₂ (λ (us : List ℤ) (z : ℤ). row_of us z) (f ∙ e) g
+row-is nx ny c row items e f g = ap₂ (λ (us : List ℤ) (z : ℤ). row_of us z) (f ∙ e) g
 
-pub minus_is : (r a b u v : ℤ) → r ≡ a -ℤ b → a ≡ u → b ≡ v → r ≡ u -ℤ v
-minus_is r a b u v e f g = rw (e, f, g) refl
+pub minus-is : (r a b u v : ℤ) → r ≡ a -ℤ b → a ≡ u → b ≡ v → r ≡ u -ℤ v
+minus-is r a b u v e f g = rw (e, f, g) refl
 
 pub same_length : (d : ℤ) (us xs ys : List ℤ) (n m : ℕ) → n ≡ m → d ∷ (us ++ less n xs ys) ≡ d ∷ (us ++ less m xs ys)
 same_length d us xs ys n m e = ap (λ k. d ∷ (us ++ less k xs ys)) e

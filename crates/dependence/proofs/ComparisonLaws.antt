@@ -15,7 +15,7 @@ use Rattle.dependence.specs.Systems.{shifted, counter_form, place_form, greatest
 use Rattle.domain.specs.Footprints.{LiesAbout, Expects}
 use Rattle.dependence.specs.Comparisons.{Joint, Term, AtX, AtY, value, AtMost, Holds}
 use Rattle.dependence.proofs.SumLaws.{value-counter_form, value-shifted, value-zero_form}
-use Rattle.dependence.proofs.RangeLaws.{all_range}
+use Rattle.dependence.proofs.RangeLaws.{all-range}
 use Rattle.dependence.proofs.LaunchLaws.{counted, level-inside, TripsHold}
 
 -- ---- the numbers of counters
@@ -32,37 +32,37 @@ counts Head false level h = record { most = omega arith; least = omega arith; so
 counts Pre w level h = record { most = omega arith; least = omega arith; some = omega arith; inside = omega arith }
 counts Post w level h = record { most = omega arith; least = omega arith; some = omega arith; inside = omega arith }
 
-post_turns : (p : Part) (w : Bool) (level : ℕ) → is_post p ≡ true → turning_by p level ≡ counters_by p w level
-post_turns Head w level h = cc
-post_turns Pre w level h = cc
-post_turns Post w level h = refl
+post-turns : (p : Part) (w : Bool) (level : ℕ) → is_post p ≡ true → turning_by p level ≡ counters_by p w level
+post-turns Head w level h = cc
+post-turns Pre w level h = cc
+post-turns Post w level h = refl
 
-pub counts_at : (D : ℕ) (t : Table) (rank : ℕ) → IsTable D t → rank < length t.blocks → Counts (counters t (block_at t rank)) (turning (block_at t rank)) (depth t)
-counts_at D t rank is h =
+pub counts-at : (D : ℕ) (t : Table) (rank : ℕ) → IsTable D t → rank < length t.blocks → Counts (counters t (block_at t rank)) (turning (block_at t rank)) (depth t)
+counts-at D t rank is h =
     let b = block_at t rank in
     let c = counts b.part (repeats t (b.level - 1)) b.level (counted D t is rank h) in
     let l = level-inside D t is rank h in
     record { most = c.most; least = c.least; some = c.some; inside = omega (arith, c.inside, l) }
 
-pub counts_of : (D : ℕ) (t : Table) (chunk : Chunk) (x : Instance) → IsTable D t → Predicted t chunk x → Counts (counters t (block_of t x)) (turning (block_of t x)) (depth t)
-counts_of D t chunk x is p = counts_at D t x.block is p.is.block
+pub counts-of : (D : ℕ) (t : Table) (chunk : Chunk) (x : Instance) → IsTable D t → Predicted t chunk x → Counts (counters t (block_of t x)) (turning (block_of t x)) (depth t)
+counts-of D t chunk x is p = counts-at D t x.block is p.is.block
 
 -- ---- the padded point by its forms
 
-if_equal : (a b : Bool) (u v w : ℤ) (F G H : Affine) (at : List ℤ) → (a ≡ true → u ≡ value_at F at) → (b ≡ true → v ≡ value_at G at) → w ≡ value_at H at
+if-equal : (a b : Bool) (u v w : ℤ) (F G H : Affine) (at : List ℤ) → (a ≡ true → u ≡ value_at F at) → (b ≡ true → v ≡ value_at G at) → w ≡ value_at H at
     → (if a then u else (if b then v else w)) ≡ value_at (if a then F else (if b then G else H)) at
-if_equal true b u v w F G H at f g h = f refl
-if_equal false true u v w F G H at f g h = g refl
-if_equal false false u v w F G H at f g h = h
+if-equal true b u v w F G H at f g h = f refl
+if-equal false true u v w F G H at f g h = g refl
+if-equal false false u v w F G H at f g h = h
 
 trip-is : (t : Table) (k : ℕ) (at : List ℤ) → trip t k at ≡ value_at (trip_form t k) at
 unfolding trip
 trip-is t k at = refl
 
-pub place_is : (D : ℕ) (t : Table) (chunk : Chunk) (x : Instance) → IsTable D t → TripsHold t chunk → Predicted t chunk x → (k : ℕ) → k < depth t
+pub place-is : (D : ℕ) (t : Table) (chunk : Chunk) (x : Instance) → IsTable D t → TripsHold t chunk → Predicted t chunk x → (k : ℕ) → k < depth t
     → place t (block_of t x) x.at k ≡ value_at (place_form t (block_of t x) k) x.at
-place_is D t chunk x is launched p k l =
-    if_equal (nat_lt k n) (is_post b.part && nat_eq k n) _ _ _ (counter_form (depth t) k) (trip_form t k) (zero_form (depth t)) x.at
+place-is D t chunk x is launched p k l =
+    if-equal (nat_lt k n) (is_post b.part && nat_eq k n) _ _ _ (counter_form (depth t) k) (trip_form t k) (zero_form (depth t)) x.at
     (λ e. sym (value-counter_form (depth t) k x.at l))
     (λ e. turns-trip (trip t k x.at) (launched.trips k x.at p.is.size (first e) l (turning-at e)) ∙ trip-is t k x.at)
     (sym (value-zero_form (depth t) x.at))
@@ -74,13 +74,13 @@ place_is D t chunk x is launched p k l =
     n = counters t b
 
     c : Counts n (turning b) (depth t)
-    c = counts_of D t chunk x is p
+    c = counts-of D t chunk x is p
 
     same : (is_post b.part && nat_eq k n) ≡ true → k ≡ n
     same e = eqb-true k n ((and_parts (is_post b.part) (nat_eq k n) e).1)
 
     turns : (is_post b.part && nat_eq k n) ≡ true → turning b ≡ k
-    turns e = post_turns b.part (repeats t (b.level - 1)) b.level ((and_parts (is_post b.part) (nat_eq k n) e).0) ∙ sym (same e)
+    turns e = post-turns b.part (repeats t (b.level - 1)) b.level ((and_parts (is_post b.part) (nat_eq k n) e).0) ∙ sym (same e)
 
     first : (is_post b.part && nat_eq k n) ≡ true → 1 ≤ k
     first e = let i = turns e in let j = c.some in omega arith
@@ -90,15 +90,15 @@ place_is D t chunk x is launched p k l =
 
 -- ---- inner counters
 
-pub inner_within : (D : ℕ) (t : Table) (chunk : Chunk) (x : Instance) → IsTable D t → TripsHold t chunk → Predicted t chunk x → (k : ℕ) → 1 ≤ k → k < counters t (block_of t x)
+pub inner-within : (D : ℕ) (t : Table) (chunk : Chunk) (x : Instance) → IsTable D t → TripsHold t chunk → Predicted t chunk x → (k : ℕ) → 1 ≤ k → k < counters t (block_of t x)
     → (pos 0 ≤ℤ counter x.at k) × (counter x.at k ≤ℤ value_at (greatest t (block_of t x) k) x.at)
-inner_within D t chunk x is launched p k from to = at (nat_lt k (turning b)) refl
+inner-within D t chunk x is launched p k from to = at (nat_lt k (turning b)) refl
   where
     b : Block
     b = block_of t x
 
     c : Counts (counters t b) (turning b) (depth t)
-    c = counts_of D t chunk x is p
+    c = counts-of D t chunk x is p
 
     Within : Affine → Type 0
     Within most = (pos 0 ≤ℤ counter x.at k) × (counter x.at k ≤ℤ value_at most x.at)
@@ -128,10 +128,10 @@ inner_within D t chunk x is launched p k from to = at (nat_lt k (turning b)) ref
 abbrev pub Sides : Joint → (Affine → Term) → List ℤ → Type 0
 Sides j side at = (f : Affine) → value j (side f) ≡ value_at f at
 
-pub first_holds : (D : ℕ) (t : Table) (chunk : Chunk) (x : Instance) (L : ℤ) (j : Joint) (side : Affine → Term) → IsTable D t → Predicted t chunk x → chunk.turns ≤ℤ L → j.turn ≡ chunk.first → Sides j side x.at
+pub first-holds : (D : ℕ) (t : Table) (chunk : Chunk) (x : Instance) (L : ℤ) (j : Joint) (side : Affine → Term) → IsTable D t → Predicted t chunk x → chunk.turns ≤ℤ L → j.turn ≡ chunk.first → Sides j side x.at
     → AllByRecursion (Holds j) (first_counter t L side)
-first_holds D t chunk x L j side is p short turn sides =
-    let c = counts_of D t chunk x is p in
+first-holds D t chunk x L j side is p short turn sides =
+    let c = counts-of D t chunk x is p in
     let some = c.some in
     let least = c.least in
     let inside = c.inside in
@@ -140,15 +140,15 @@ first_holds D t chunk x L j side is p short turn sides =
     let below = p.turn.below in
     (rw e (omega (arith, ints)), (rw e (omega (arith, ints)), tt))
 
-pub inner_holds : (D : ℕ) (t : Table) (chunk : Chunk) (x : Instance) (j : Joint) (side : Affine → Term) → IsTable D t → TripsHold t chunk → Predicted t chunk x → Sides j side x.at
+pub inner-holds : (D : ℕ) (t : Table) (chunk : Chunk) (x : Instance) (j : Joint) (side : Affine → Term) → IsTable D t → TripsHold t chunk → Predicted t chunk x → Sides j side x.at
     → AllByRecursion (Holds j) (inner_counters t (block_of t x) side)
-inner_holds D t chunk x j side is launched p sides = all_range (Holds j) (inner_counter t (block_of t x) side) 1 (counters t (block_of t x) - 1) each
+inner-holds D t chunk x j side is launched p sides = all-range (Holds j) (inner_counter t (block_of t x) side) 1 (counters t (block_of t x) - 1) each
   where
     each : (k : ℕ) → 1 ≤ k → k < 1 + (counters t (block_of t x) - 1) → AllByRecursion (Holds j) (inner_counter t (block_of t x) side k)
     each k from to =
-        let c = counts_of D t chunk x is p in
+        let c = counts-of D t chunk x is p in
         let inside = c.inside in
-        let both = inner_within D t chunk x is launched p k from (omega arith) in
+        let both = inner-within D t chunk x is launched p k from (omega arith) in
         let e = sides (counter_form (depth t) k) ∙ value-counter_form (depth t) k x.at (omega arith) in
         let f = sides (greatest t (block_of t x) k) in
         (rw e both.0, (rw (e, f) both.1, tt))
@@ -158,8 +158,8 @@ about : (n : ℕ) (line : Option Affine) (low high : ℤ) (at : List ℤ) (addre
 about n None low high at address h = absurd h
 about n (Some form) low high at address h = (rw (value-shifted low form at) h.0, rw (value-shifted high form at) h.1)
 
-pub meeting_holds : (n : ℕ) (a b : Access) (j : Joint) (at over : List ℤ) (address : ℤ) → Sides j AtX at → Sides j AtY over → Expects a at address → Expects b over address → AllByRecursion (Holds j) (meeting n a b)
-meeting_holds n a b j at over address on-x on-y first second =
+pub meeting-holds : (n : ℕ) (a b : Access) (j : Joint) (at over : List ℤ) (address : ℤ) → Sides j AtX at → Sides j AtY over → Expects a at address → Expects b over address → AllByRecursion (Holds j) (meeting n a b)
+meeting-holds n a b j at over address on-x on-y first second =
     let p = about n a.line a.low a.high at address first in
     let q = about n b.line b.low b.high over address second in
     (rw (on-x (shifted a.low (form_or_zero n a.line)), on-y (shifted b.high (form_or_zero n b.line))) (omega (arith, ints, p.0, q.1)), (rw (on-x (shifted a.high (form_or_zero n a.line)), on-y (shifted b.low (form_or_zero n b.line))) (omega (arith, ints, p.1, q.0)), tt))
@@ -168,9 +168,9 @@ meeting_holds n a b j at over address on-x on-y first second =
 abbrev pub PlacesAre : Table → Block → List ℤ → (ℕ → ℤ) → Type 0
 PlacesAre t b at p = (k : ℕ) → k < depth t → p k ≡ value_at (place_form t b k) at
 
-pub equal_holds : (t : Table) (a b : Block) (j : Joint) (at over : List ℤ) (p q : ℕ → ℤ) (c : ℕ) → Sides j AtX at → Sides j AtY over → PlacesAre t a at p → PlacesAre t b over q
+pub equal-holds : (t : Table) (a b : Block) (j : Joint) (at over : List ℤ) (p q : ℕ → ℤ) (c : ℕ) → Sides j AtX at → Sides j AtY over → PlacesAre t a at p → PlacesAre t b over q
     → c ≤ depth t → ((k : ℕ) → k < c → p k ≡ q k) → AllByRecursion (Holds j) (equal_places t a b c)
-equal_holds t a b j at over p q c on-x on-y is-p is-q inside same = all_range (Holds j) (equal_place t a b) 0 c each
+equal-holds t a b j at over p q c on-x on-y is-p is-q inside same = all-range (Holds j) (equal_place t a b) 0 c each
   where
     each : (k : ℕ) → 0 ≤ k → k < 0 + c → AllByRecursion (Holds j) (equal_place t a b k)
     each k from to =
@@ -179,9 +179,9 @@ equal_holds t a b j at over p q c on-x on-y is-p is-q inside same = all_range (H
         let g = same k (omega arith) in
         (rw (e, f) (omega (arith, ints)), (rw (e, f) (omega (arith, ints)), tt))
 
-pub rising_holds : (t : Table) (a b : Block) (j : Joint) (at over : List ℤ) (p q : ℕ → ℤ) (c : ℕ) → Sides j AtX at → Sides j AtY over → PlacesAre t a at p → PlacesAre t b over q
+pub rising-holds : (t : Table) (a b : Block) (j : Joint) (at over : List ℤ) (p q : ℕ → ℤ) (c : ℕ) → Sides j AtX at → Sides j AtY over → PlacesAre t a at p → PlacesAre t b over q
     → (c < depth t → p c <ℤ q c) → AllByRecursion (Holds j) (rising_place t a b c)
-rising_holds t a b j at over p q c on-x on-y is-p is-q less = by (nat_lt c (depth t)) refl
+rising-holds t a b j at over p q c on-x on-y is-p is-q less = by (nat_lt c (depth t)) refl
   where
     Holding : List AtMost → Type 0
     Holding cs = AllByRecursion (Holds j) cs

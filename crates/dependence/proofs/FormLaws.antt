@@ -45,9 +45,9 @@ get_or-plus (x ∷ xs) (y ∷ ys) zero e l = refl
 get_or-plus (x ∷ xs) (y ∷ ys) (suc k) e l = get_or-plus xs ys k (omega arith) (omega arith)
 
 -- a list that has at each place m times a number of the one and a number of the other
-pub times_plus_is : (m : ℤ) (zs xs ys : List ℤ) → length zs ≡ length ys → length xs ≡ length ys
+pub times-plus-is : (m : ℤ) (zs xs ys : List ℤ) → length zs ≡ length ys → length xs ≡ length ys
     → ((k : ℕ) → k < length ys → get_or zs k (pos 0) ≡ m *ℤ get_or xs k (pos 0) +ℤ get_or ys k (pos 0)) → zs ≡ plus (map (λ c. m *ℤ c) xs) ys
-times_plus_is m zs xs ys e f h =
+times-plus-is m zs xs ys e f h =
     let long = length-map xs (λ c. m *ℤ c) in
     let same : length (map (λ c. m *ℤ c) xs) ≡ length ys = omega (arith, long, f) in
     ext_get_or (pos 0) zs (plus (map (λ c. m *ℤ c) xs) ys) (e ∙ sym (length-plus (map (λ c. m *ℤ c) xs) ys same))
@@ -58,8 +58,8 @@ times_plus_is m zs xs ys e f h =
 abbrev pub form_of : List ℤ → ℤ → Affine
 form_of coef cst = record { coef = coef; cst = cst }
 
-pub same_form : (xs ys : List ℤ) (a b : ℤ) → xs ≡ ys → a ≡ b → form_of xs a ≡ form_of ys b
-same_form xs ys a b e f = ap₂ form_of e f
+pub same-form : (xs ys : List ℤ) (a b : ℤ) → xs ≡ ys → a ≡ b → form_of xs a ≡ form_of ys b
+same-form xs ys a b e f = ap₂ form_of e f
 
 -- the place before the end of the counters, after it, and at it
 pub place-counter : (t : Table) (b : Block) (k : ℕ) → k < counters t b → place_form t b k ≡ counter_form (depth t) k

@@ -16,15 +16,15 @@ use Rattle.std.proofs.Math.Nat.{div-mul-le_self}
 pub record BandRow : Type 0 where
   pub first : ℤ
   pub second : ℤ
-  pub first_tile : ℤ
-  pub second_tile : ℤ
+  pub first-tile : ℤ
+  pub second-tile : ℤ
   pub wave : Bool
 
 -- the row doesn't fall from the first to the second, and a parallel row doesn't rise either
 pub record GoesOn (r : BandRow) : Type 0 where
   pub rises : r.first ≤ℤ r.second
-  pub tiles : r.first_tile ≤ℤ r.second_tile
-  pub one : r.first ≡ r.second → r.first_tile ≡ r.second_tile
+  pub tiles : r.first-tile ≤ℤ r.second-tile
+  pub one : r.first ≡ r.second → r.first-tile ≡ r.second-tile
   pub parallel : r.wave ≡ false → r.first ≡ r.second
 
 abbrev pub waves : (BandRow → ℤ) → List BandRow → ℤ
@@ -32,14 +32,14 @@ waves f [] = pos 0
 waves f (r ∷ rs) = (if r.wave then f r else pos 0) +ℤ waves f rs
 
 -- phase, tile, place and rank
-abbrev pub key_of : List ℤ → ℤ → List ℤ → List ℤ → ℤ → List ℤ
-key_of leading wave tiles band rank = leading ++ (wave ∷ (tiles ++ (leading ++ (band ++ rank ∷ []))))
+abbrev pub key-of : List ℤ → ℤ → List ℤ → List ℤ → ℤ → List ℤ
+key-of leading wave tiles band rank = leading ++ (wave ∷ (tiles ++ (leading ++ (band ++ rank ∷ []))))
 
 abbrev pub first_key : List ℤ → List BandRow → ℤ → List ℤ
-first_key leading rs rank = key_of leading (waves (λ r. r.first_tile) rs) (map (λ r. r.first_tile) rs) (map (λ r. r.first) rs) rank
+first_key leading rs rank = key-of leading (waves (λ r. r.first-tile) rs) (map (λ r. r.first-tile) rs) (map (λ r. r.first) rs) rank
 
 abbrev pub second_key : List ℤ → List BandRow → ℤ → List ℤ
-second_key leading rs rank = key_of leading (waves (λ r. r.second_tile) rs) (map (λ r. r.second_tile) rs) (map (λ r. r.second) rs) rank
+second_key leading rs rank = key-of leading (waves (λ r. r.second-tile) rs) (map (λ r. r.second-tile) rs) (map (λ r. r.second) rs) rank
 
 -- where the leading rows rise, so does the key
 abbrev pub LeadingLaw : Type 0
@@ -54,7 +54,7 @@ BandLaw =
 -- and where the wave is the same too, the tile is
 abbrev pub OneTileLaw : Type 0
 OneTileLaw =
-    (rs : List BandRow) → AllByRecursion GoesOn rs → waves (λ r. r.first_tile) rs ≡ waves (λ r. r.second_tile) rs → map (λ r. r.first_tile) rs ≡ map (λ r. r.second_tile) rs
+    (rs : List BandRow) → AllByRecursion GoesOn rs → waves (λ r. r.first-tile) rs ≡ waves (λ r. r.second-tile) rs → map (λ r. r.first-tile) rs ≡ map (λ r. r.second-tile) rs
 
 -- where the rows before k are equal, row k doesn't fall
 abbrev pub NeverFalls : List ℤ → List ℤ → Type 0
@@ -66,98 +66,98 @@ LeadingCases = (a b : List ℤ) → length a ≡ length b → NeverFalls a b →
 less : (a b : ℤ) → a <ℤ b → int_cmp a b ≡ Less
 less a b h = sym (int_cmp_is a b Less h)
 
-step_same : (a b : ℤ) (o : Ordering) → a ≡ b → ordering_then (int_cmp a b) o ≡ o
-step_same a b o e = ap (λ (z : ℤ). ordering_then (int_cmp a z) o) (sym e) ∙ ap (λ (r : Ordering). ordering_then r o) (tied_itself int_cmp_total a)
+step-same : (a b : ℤ) (o : Ordering) → a ≡ b → ordering_then (int_cmp a b) o ≡ o
+step-same a b o e = ap (λ (z : ℤ). ordering_then (int_cmp a z) o) (sym e) ∙ ap (λ (r : Ordering). ordering_then r o) (tied_itself int_cmp_total a)
 
-step_less : (a b : ℤ) (o : Ordering) → a <ℤ b → ordering_then (int_cmp a b) o ≡ Less
-step_less a b o l = ap (λ (r : Ordering). ordering_then r o) (less a b l)
+step-less : (a b : ℤ) (o : Ordering) → a <ℤ b → ordering_then (int_cmp a b) o ≡ Less
+step-less a b o l = ap (λ (r : Ordering). ordering_then r o) (less a b l)
 
-cmp_cases : (a b : ℤ) → a ≤ℤ b → (a ≡ b) ⊎ (a <ℤ b)
-cmp_cases a b h = at (int_cmp a b) (int_ranks a b)
+cmp-cases : (a b : ℤ) → a ≤ℤ b → (a ≡ b) ⊎ (a <ℤ b)
+cmp-cases a b h = at (int_cmp a b) (int_ranks a b)
   where
     at : (o : Ordering) → MatchOrdering o (a <ℤ b) (a ≡ b) (b <ℤ a) → (a ≡ b) ⊎ (a <ℤ b)
     at Less k = inr k
     at Equal k = inl k
     at Greater k = absurd (omega (arith, ints))
 
-same_front : (p xs ys : List ℤ) → slice_cmp int_cmp (p ++ xs) (p ++ ys) ≡ slice_cmp int_cmp xs ys
-same_front [] xs ys = refl
-same_front (x ∷ p) xs ys = rw (tied_itself int_cmp_total x) (same_front p xs ys)
+same-front : (p xs ys : List ℤ) → slice_cmp int_cmp (p ++ xs) (p ++ ys) ≡ slice_cmp int_cmp xs ys
+same-front [] xs ys = refl
+same-front (x ∷ p) xs ys = rw (tied_itself int_cmp_total x) (same-front p xs ys)
 
-less_front : (p q us vs : List ℤ) → length p ≡ length q → slice_cmp int_cmp p q ≡ Less → slice_cmp int_cmp (p ++ us) (q ++ vs) ≡ Less
-less_front [] [] us vs size h = cc
-less_front [] (y ∷ q) us vs size h = absurd (omega arith)
-less_front (x ∷ p) [] us vs size h = absurd (omega arith)
-less_front (x ∷ p) (y ∷ q) us vs size h = at (int_cmp x y) h (λ k. less_front p q us vs (omega arith) k)
+less-front : (p q us vs : List ℤ) → length p ≡ length q → slice_cmp int_cmp p q ≡ Less → slice_cmp int_cmp (p ++ us) (q ++ vs) ≡ Less
+less-front [] [] us vs size h = cc
+less-front [] (y ∷ q) us vs size h = absurd (omega arith)
+less-front (x ∷ p) [] us vs size h = absurd (omega arith)
+less-front (x ∷ p) (y ∷ q) us vs size h = at (int_cmp x y) h (λ k. less-front p q us vs (omega arith) k)
   where
     at : (o : Ordering) → ordering_then o (slice_cmp int_cmp p q) ≡ Less → (slice_cmp int_cmp p q ≡ Less → slice_cmp int_cmp (p ++ us) (q ++ vs) ≡ Less) → ordering_then o (slice_cmp int_cmp (p ++ us) (q ++ vs)) ≡ Less
     at Less k more = refl
     at Equal k more = more k
     at Greater k more = cc
 
-pub leading_law : LeadingLaw
-leading_law a b rs m n size h = less_front a b _ _ size h
+pub leading-law : LeadingLaw
+leading-law a b rs m n size h = less-front a b _ _ size h
 
-waves_rise : (rs : List BandRow) → AllByRecursion GoesOn rs → waves (λ r. r.first_tile) rs ≤ℤ waves (λ r. r.second_tile) rs
-waves_rise [] all = omega (arith, ints)
-waves_rise (r ∷ rs) all = at r.wave (waves_rise rs all.1) all.0.tiles
+waves-rise : (rs : List BandRow) → AllByRecursion GoesOn rs → waves (λ r. r.first-tile) rs ≤ℤ waves (λ r. r.second-tile) rs
+waves-rise [] all = omega (arith, ints)
+waves-rise (r ∷ rs) all = at r.wave (waves-rise rs all.1) all.0.tiles
   where
-    at : (b : Bool) → waves (λ r. r.first_tile) rs ≤ℤ waves (λ r. r.second_tile) rs → r.first_tile ≤ℤ r.second_tile
-        → ((if b then r.first_tile else pos 0) +ℤ waves (λ r. r.first_tile) rs) ≤ℤ ((if b then r.second_tile else pos 0) +ℤ waves (λ r. r.second_tile) rs)
+    at : (b : Bool) → waves (λ r. r.first-tile) rs ≤ℤ waves (λ r. r.second-tile) rs → r.first-tile ≤ℤ r.second-tile
+        → ((if b then r.first-tile else pos 0) +ℤ waves (λ r. r.first-tile) rs) ≤ℤ ((if b then r.second-tile else pos 0) +ℤ waves (λ r. r.second-tile) rs)
     at true more h = omega (arith, ints)
     at false more h = omega (arith, ints)
 
-pub one_tile_law : OneTileLaw
-one_tile_law [] all same = refl
-one_tile_law (r ∷ rs) all same =
-    let both = at r.wave refl same (waves_rise rs all.1) in
-    ap₂ (λ (z : ℤ) (zs : List ℤ). z ∷ zs) both.0 (one_tile_law rs all.1 both.1)
+pub one-tile-law : OneTileLaw
+one-tile-law [] all same = refl
+one-tile-law (r ∷ rs) all same =
+    let both = at r.wave refl same (waves-rise rs all.1) in
+    ap₂ (λ (z : ℤ) (zs : List ℤ). z ∷ zs) both.0 (one-tile-law rs all.1 both.1)
   where
-    at : (b : Bool) → r.wave ≡ b → ((if b then r.first_tile else pos 0) +ℤ waves (λ r. r.first_tile) rs) ≡ ((if b then r.second_tile else pos 0) +ℤ waves (λ r. r.second_tile) rs)
-        → waves (λ r. r.first_tile) rs ≤ℤ waves (λ r. r.second_tile) rs → (r.first_tile ≡ r.second_tile) × (waves (λ r. r.first_tile) rs ≡ waves (λ r. r.second_tile) rs)
+    at : (b : Bool) → r.wave ≡ b → ((if b then r.first-tile else pos 0) +ℤ waves (λ r. r.first-tile) rs) ≡ ((if b then r.second-tile else pos 0) +ℤ waves (λ r. r.second-tile) rs)
+        → waves (λ r. r.first-tile) rs ≤ℤ waves (λ r. r.second-tile) rs → (r.first-tile ≡ r.second-tile) × (waves (λ r. r.first-tile) rs ≡ waves (λ r. r.second-tile) rs)
     at true e h more = (omega (arith, ints, all.0.tiles), omega (arith, ints, all.0.tiles))
     at false e h more = (all.0.one (all.0.parallel e), omega (arith, ints))
 
 -- the number of the tile rises with the value
-pub floor_rises : (a b : ℤ) (size : ℕ) → 0 < size → a ≤ℤ b → int_div_euclid a (pos size) ≤ℤ int_div_euclid b (pos size)
-floor_rises (pos a) (pos b) size l h = let up : a / size ≤ b / size = le-div (a / size) b size l (omega (arith, ints, div-mul-le_self a size)) in omega (arith, ints, up)
-floor_rises (pos a) (negsuc b) size l h = absurd (omega (arith, ints))
-floor_rises (negsuc a) (pos b) size l h = omega (arith, ints)
-floor_rises (negsuc a) (negsuc b) size l h = let up : b / size ≤ a / size = le-div (b / size) a size l (omega (arith, ints, div-mul-le_self b size)) in omega (arith, ints, up)
+pub floor-rises : (a b : ℤ) (size : ℕ) → 0 < size → a ≤ℤ b → int_div_euclid a (pos size) ≤ℤ int_div_euclid b (pos size)
+floor-rises (pos a) (pos b) size l h = let up : a / size ≤ b / size = le-div (a / size) b size l (omega (arith, ints, div-mul-le_self a size)) in omega (arith, ints, up)
+floor-rises (pos a) (negsuc b) size l h = absurd (omega (arith, ints))
+floor-rises (negsuc a) (pos b) size l h = omega (arith, ints)
+floor-rises (negsuc a) (negsuc b) size l h = let up : b / size ≤ a / size = le-div (b / size) a size l (omega (arith, ints, div-mul-le_self b size)) in omega (arith, ints, up)
 
 -- the places rise or are the same
-places_rise : (rs : List BandRow) (tail : List ℤ) (tail' : List ℤ) → AllByRecursion GoesOn rs → (map (λ r. r.first) rs ≡ map (λ r. r.second) rs → slice_cmp int_cmp tail tail' ≡ Less)
+places-rise : (rs : List BandRow) (tail : List ℤ) (tail' : List ℤ) → AllByRecursion GoesOn rs → (map (λ r. r.first) rs ≡ map (λ r. r.second) rs → slice_cmp int_cmp tail tail' ≡ Less)
     → slice_cmp int_cmp (map (λ r. r.first) rs ++ tail) (map (λ r. r.second) rs ++ tail') ≡ Less
-places_rise [] tail tail' all more = more refl
-places_rise (r ∷ rs) tail tail' all more =
+places-rise [] tail tail' all more = more refl
+places-rise (r ∷ rs) tail tail' all more =
     ⊎_elim
-    (λ e. step_same r.first r.second _ e ∙ places_rise rs tail tail' all.1 (λ k. more (ap₂ (λ (z : ℤ) (zs : List ℤ). z ∷ zs) e k)))
-    (λ l. step_less r.first r.second _ l)
-    (cmp_cases r.first r.second all.0.rises)
+    (λ e. step-same r.first r.second _ e ∙ places-rise rs tail tail' all.1 (λ k. more (ap₂ (λ (z : ℤ) (zs : List ℤ). z ∷ zs) e k)))
+    (λ l. step-less r.first r.second _ l)
+    (cmp-cases r.first r.second all.0.rises)
 
-pub band_law : BandLaw
-band_law leading rs m n all rank =
-    let tiles_first = map (λ (r : BandRow). r.first_tile) rs in
-    let tiles_second = map (λ (r : BandRow). r.second_tile) rs in
+pub band-law : BandLaw
+band-law leading rs m n all rank =
+    let tiles-first = map (λ (r : BandRow). r.first-tile) rs in
+    let tiles_second = map (λ (r : BandRow). r.second-tile) rs in
     let places_first = map (λ (r : BandRow). r.first) rs ++ m ∷ [] in
     let places_second = map (λ (r : BandRow). r.second) rs ++ n ∷ [] in
-    same_front leading _ _
+    same-front leading _ _
     ∙ ⊎_elim
-    (λ e. step_same _ _ _ e
-    ∙ ap (λ (ts : List ℤ). slice_cmp int_cmp (ts ++ (leading ++ places_first)) (tiles_second ++ (leading ++ places_second))) (one_tile_law rs all e)
-    ∙ same_front tiles_second _ _ ∙ same_front leading _ _
-    ∙ places_rise rs (m ∷ []) (n ∷ []) all (λ k. step_less m n _ (rank k)))
-    (λ l. step_less _ _ _ l)
-    (cmp_cases (waves (λ r. r.first_tile) rs) (waves (λ r. r.second_tile) rs) (waves_rise rs all))
+    (λ e. step-same _ _ _ e
+    ∙ ap (λ (ts : List ℤ). slice_cmp int_cmp (ts ++ (leading ++ places_first)) (tiles_second ++ (leading ++ places_second))) (one-tile-law rs all e)
+    ∙ same-front tiles_second _ _ ∙ same-front leading _ _
+    ∙ places-rise rs (m ∷ []) (n ∷ []) all (λ k. step-less m n _ (rank k)))
+    (λ l. step-less _ _ _ l)
+    (cmp-cases (waves (λ r. r.first-tile) rs) (waves (λ r. r.second-tile) rs) (waves-rise rs all))
 
 -- rows that never fall rise somewhere, or are equal
-pub leading_cases : LeadingCases
-leading_cases [] [] size h = inr refl
-leading_cases [] (y ∷ ys) size h = absurd (omega arith)
-leading_cases (x ∷ xs) [] size h = absurd (omega arith)
-leading_cases (x ∷ xs) (y ∷ ys) size h =
+pub leading-cases : LeadingCases
+leading-cases [] [] size h = inr refl
+leading-cases [] (y ∷ ys) size h = absurd (omega arith)
+leading-cases (x ∷ xs) [] size h = absurd (omega arith)
+leading-cases (x ∷ xs) (y ∷ ys) size h =
     ⊎_elim
-    (λ e. ⊎_elim (λ l. inl (step_same x y _ e ∙ l)) (λ same. inr (ap₂ (λ (z : ℤ) (zs : List ℤ). z ∷ zs) e same))
-    (leading_cases xs ys (omega arith) (λ k l same. h (suc k) (omega arith) (ap₂ (λ (z : ℤ) (zs : List ℤ). z ∷ zs) e same))))
-    (λ l. inl (step_less x y _ l))
-    (cmp_cases x y (h 0 (omega arith) refl))
+    (λ e. ⊎_elim (λ l. inl (step-same x y _ e ∙ l)) (λ same. inr (ap₂ (λ (z : ℤ) (zs : List ℤ). z ∷ zs) e same))
+    (leading-cases xs ys (omega arith) (λ k l same. h (suc k) (omega arith) (ap₂ (λ (z : ℤ) (zs : List ℤ). z ∷ zs) e same))))
+    (λ l. inl (step-less x y _ l))
+    (cmp-cases x y (h 0 (omega arith) refl))

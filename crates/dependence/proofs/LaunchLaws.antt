@@ -8,7 +8,7 @@ use Rattle.domain.specs.Tables.{Table, depth, block_at, cut, repeats, counters, 
 use Rattle.domain.specs.Instances.{counter, InTurn, Predicted}
 use Rattle.domain.specs.Launches.{IsLaunched}
 use Rattle.domain.proofs.PointLaws.{length-cut, cut-before, cut-after, trip-cut}
-use Rattle.domain.proofs.RankLaws.{Stands, stands, has_rank, is_some-stands}
+use Rattle.domain.proofs.RankLaws.{Stands, stands, has-rank, is_some-stands}
 use Rattle.domain.proofs.WithinLaws.{counters-of, turning-of, head-least}
 use Rattle.domain.proofs.LaunchedLaws.{launched_trips}
 
@@ -25,7 +25,7 @@ counted D t is rank inside = at (block_at t rank).part refl
     from = (is.blocks rank inside).from
 
     outermost : (block_at t rank).part ≡ Head → (block_at t rank).level ≡ 1 → repeats t ((block_at t rank).level - 1) ≡ true
-    outermost e one = ap (λ (n : ℕ). repeats t (n - 1)) one ∙ sym is.outermost ∙ is_some-stands t Head 1 rank (record { inside = inside; part_is = e; level_is = one })
+    outermost e one = ap (λ (n : ℕ). repeats t (n - 1)) one ∙ sym is.outermost ∙ is_some-stands t Head 1 rank (record { inside = inside; part-is = e; level-is = one })
 
     at : (p : Part) → (block_at t rank).part ≡ p → 1 ≤ counters_by p (repeats t ((block_at t rank).level - 1)) (block_at t rank).level
     at Pre e = from
@@ -54,21 +54,21 @@ turn-cut t chunk n at some turn = record {
   inner = λ k from to. rw (cut-before n at k to, trip-cut t k n at (omega arith)) (turn.inner k from to);
 }
 
-head_turns : (n : ℕ) → 1 ≤ n → turning_by Head (suc n) ≡ n
-head_turns n some = omega arith
+head-turns : (n : ℕ) → 1 ≤ n → turning_by Head (suc n) ≡ n
+head-turns n some = omega arith
 
 -- the head of loop number n, from 0, at the counters around it
-head_holds : (D : ℕ) (t : Table) (words : ℤ) (chunk : Chunk) (instances : ℕ) → IsTable D t → IsLaunched t words chunk instances → (n : ℕ) (at : List ℤ) → length at ≡ depth t → 1 ≤ n → InTurn t chunk n at
+head-holds : (D : ℕ) (t : Table) (words : ℤ) (chunk : Chunk) (instances : ℕ) → IsTable D t → IsLaunched t words chunk instances → (n : ℕ) (at : List ℤ) → length at ≡ depth t → 1 ≤ n → InTurn t chunk n at
     → (rank : ℕ) → Stands t Head (suc n) rank → pos 0 ≤ℤ trip t n at
-head_holds D t words chunk instances is launched n at long some turn rank s =
+head-holds D t words chunk instances is launched n at long some turn rank s =
     subst (λ z. pos 0 ≤ℤ z) (ap (λ m. trip t m (cut n at)) back ∙ trip-cut t n n at (omega arith))
-    (launched_trips D t words chunk instances is launched (record { block = rank; at = cut n at }) predicted s.part_is (omega (arith, s.level_is)) (subst (λ m. counter (cut n at) m ≡ pos 0) (sym back) (cut-after n at n (omega arith))))
+    (launched_trips D t words chunk instances is launched (record { block = rank; at = cut n at }) predicted s.part-is (omega (arith, s.level-is)) (subst (λ m. counter (cut n at) m ≡ pos 0) (sym back) (cut-after n at n (omega arith))))
   where
     back : (block_at t rank).level - 1 ≡ n
-    back = omega (arith, s.level_is)
+    back = omega (arith, s.level-is)
 
     turns : turning (block_at t rank) ≡ n
-    turns = turning-of t Head (suc n) rank s ∙ head_turns n some
+    turns = turning-of t Head (suc n) rank s ∙ head-turns n some
 
     enough : n ≤ counters t (block_at t rank)
     enough = let e = counters-of t Head (suc n) rank s in let least = head-least (repeats t (suc n - 1)) (suc n) in omega (arith, e, least)
@@ -80,10 +80,10 @@ head_holds D t words chunk instances is launched n at long some turn rank s =
       test = λ l. inl (subst (λ m. counter (cut n at) m ≡ pos 0) (sym turns) (cut-after n at n (omega arith)));
     }
 
-pub trips_hold : (D : ℕ) (t : Table) (words : ℤ) (chunk : Chunk) (instances : ℕ) → IsTable D t → pos 0 ≤ℤ chunk.first → IsLaunched t words chunk instances → TripsHold t chunk
-trips_hold D t words chunk instances is first launched = record { first = first; trips = trips }
+pub trips-hold : (D : ℕ) (t : Table) (words : ℤ) (chunk : Chunk) (instances : ℕ) → IsTable D t → pos 0 ≤ℤ chunk.first → IsLaunched t words chunk instances → TripsHold t chunk
+trips-hold D t words chunk instances is first launched = record { first = first; trips = trips }
   where
     trips : (n : ℕ) (at : List ℤ) → length at ≡ depth t → 1 ≤ n → n < depth t → InTurn t chunk n at → pos 0 ≤ℤ trip t n at
     trips n at long some inside turn =
-        let (rank, e) = has_rank t Head (suc n) (is.heads (suc n) (omega arith) (omega (arith, is.deep))) in
-        head_holds D t words chunk instances is launched n at long some turn rank (stands t Head (suc n) rank e)
+        let (rank, e) = has-rank t Head (suc n) (is.heads (suc n) (omega arith) (omega (arith, is.deep))) in
+        head-holds D t words chunk instances is launched n at long some turn rank (stands t Head (suc n) rank e)

@@ -5,31 +5,31 @@ use Rattle.std.specs.List.{All, range_with_len, flat_map}
 use Rattle.std.proofs.lemmas.List.{map-append}
 use Rattle.std.proofs.lemmas.List.FromFn.{map-range_with_len_more}
 use Rattle.affine.specs.declared.row.Row.{Row}
-use Rattle.plain_lemmas.proofs.MembershipLaws.{Has, All_from, flat_map_has, map_has, has_flat_map, has_from_contains, contains_from_has}
+use Rattle.plain_lemmas.proofs.MembershipLaws.{Has, All-from, flat-map-has, map-has, has-flat-map, has-from-contains, contains-from-has}
 use Rattle.nest_lang.specs.declared.tree.AccessRef.{AccessRef}
 use Rattle.domain.specs.Tables.{Table, Block, Access, block_at, counters, depth}
 use Rattle.dependence.specs.Comparisons.{Number, Turn, AtX, AtY, at_most, row_for}
-use Rattle.dependence.proofs.SystemLaws.{has_ref}
+use Rattle.dependence.proofs.SystemLaws.{has-ref}
 use Rattle.dependence.specs.Systems.{System, IsRef, IsSystemOf, comparisons, system, systems, systems_of, refs, refs_of, pairs, cases, referred, first_counter, inner_counters, meeting, equal_places, rising_place}
 
 -- the access of that number
 abbrev pub ref_at : ℕ → ℕ → AccessRef
 ref_at rank number = record { block = rank; access = number }
 
-pub in_range : (a n k : ℕ) → Has (range_with_len a n) k → (a ≤ k) × (k < a + n)
-in_range a zero k h = absurd h
-in_range a (suc n) k h = ⊎_elim (λ e. (omega arith, omega arith)) (λ m. let (l, r) = in_range (a + 1) n k m in (omega arith, omega arith)) h
+pub in-range : (a n k : ℕ) → Has (range_with_len a n) k → (a ≤ k) × (k < a + n)
+in-range a zero k h = absurd h
+in-range a (suc n) k h = ⊎_elim (λ e. (omega arith, omega arith)) (λ m. let (l, r) = in-range (a + 1) n k m in (omega arith, omega arith)) h
 
-refs_are : (t : Table) (r : AccessRef) → Has (refs t) r → IsRef t r
-refs_are t r h =
-    let (rank, in-rank, k) = flat_map_has (refs_of t) (range_with_len 0 (length t.blocks)) r h in
-    let (number, in-number, e) = map_has (ref_at rank) (range_with_len 1 (length (block_at t rank).accesses)) r k in
-    let (u, v) = in_range 0 (length t.blocks) rank in-rank in
-    let (from, to) = in_range 1 (length (block_at t rank).accesses) number in-number in
+refs-are : (t : Table) (r : AccessRef) → Has (refs t) r → IsRef t r
+refs-are t r h =
+    let (rank, in-rank, k) = flat-map-has (refs_of t) (range_with_len 0 (length t.blocks)) r h in
+    let (number, in-number, e) = map-has (ref_at rank) (range_with_len 1 (length (block_at t rank).accesses)) r k in
+    let (u, v) = in-range 0 (length t.blocks) rank in-rank in
+    let (from, to) = in-range 1 (length (block_at t rank).accesses) number in-number in
     subst (IsRef t) (sym e) (record { block = omega arith; from = from; to = omega arith })
 
 pub refs-all : (t : Table) → All (IsRef t) (refs t)
-refs-all t = All_from (IsRef t) (refs t) (refs_are t)
+refs-all t = All-from (IsRef t) (refs t) (refs-are t)
 
 -- what a system names: two accesses of the table, and one of their cases
 pub record Names (t : Table) (sys : System) : Type 0 where
@@ -42,53 +42,53 @@ pub record Names (t : Table) (sys : System) : Type 0 where
 pub names : (t : Table) (L : ℤ) (sys : System) → Has (systems t L) sys → Names t sys
 unfolding systems
 names t L sys h =
-    let (a, in-a, k) = flat_map_has (λ a. flat_map (systems_of t L a) (refs t)) (refs t) sys h in
-    let (b, in-b, m) = flat_map_has (systems_of t L a) (refs t) sys k in
-    by a b (refs_are t a in-a) (refs_are t b in-b) (pairs (referred t a) (referred t b)) m
+    let (a, in-a, k) = flat-map-has (λ a. flat_map (systems_of t L a) (refs t)) (refs t) sys h in
+    let (b, in-b, m) = flat-map-has (systems_of t L a) (refs t) sys k in
+    by a b (refs-are t a in-a) (refs-are t b in-b) (pairs (referred t a) (referred t b)) m
   where
     at-case : (a b : AccessRef) → IsRef t a → IsRef t b → (c : ℕ) → (w : Bool) → nat_lt a.block b.block ≡ w → Has (range_with_len 1 (depth t + (if w then 1 else 0))) c → Names t (system t L a b c)
     at-case a b p q c true e in-c =
-        let (from, to) = in_range 1 (depth t + 1) c in-c in
+        let (from, to) = in-range 1 (depth t + 1) c in-c in
         record { first = p; second = q; from = from; to = omega arith; last = λ l. ltb-true a.block b.block e }
     at-case a b p q c false e in-c =
-        let (from, to) = in_range 1 (depth t + 0) c in-c in
+        let (from, to) = in-range 1 (depth t + 0) c in-c in
         record { first = p; second = q; from = from; to = omega arith; last = λ l. absurd (omega arith) }
 
     by : (a b : AccessRef) → IsRef t a → IsRef t b → (w : Bool) → Has (if w then map (system t L a b) (cases t a b) else []) sys → Names t sys
-    by a b p q true m = let (c, in-c, e) = map_has (system t L a b) (cases t a b) sys m in subst (Names t) (sym e) (at-case a b p q c (nat_lt a.block b.block) refl in-c)
+    by a b p q true m = let (c, in-c, e) = map-has (system t L a b) (cases t a b) sys m in subst (Names t) (sym e) (at-case a b p q c (nat_lt a.block b.block) refl in-c)
     by a b p q false m = absurd m
 
 pub first-block : (t : Table) (sys : System) → IsSystemOf t sys → sys.first.block < length t.blocks
-first-block t sys of = (names t of.0 sys (has_from_contains (systems t of.0) sys of.1)).first.block
+first-block t sys of = (names t of.0 sys (has-from-contains (systems t of.0) sys of.1)).first.block
 
 pub second-block : (t : Table) (sys : System) → IsSystemOf t sys → sys.second.block < length t.blocks
-second-block t sys of = (names t of.0 sys (has_from_contains (systems t of.0) sys of.1)).second.block
+second-block t sys of = (names t of.0 sys (has-from-contains (systems t of.0) sys of.1)).second.block
 
 -- each system of two accesses is one of the table
 pub systems_of-all : (t : Table) (L : ℤ) (a b : AccessRef) → IsRef t a → IsRef t b → All (IsSystemOf t) (systems_of t L a b)
 unfolding systems
-systems_of-all t L a b p q = All_from (IsSystemOf t) (systems_of t L a b)
+systems_of-all t L a b p q = All-from (IsSystemOf t) (systems_of t L a b)
     (λ sys h. (
       L,
-      contains_from_has (systems t L) sys
-          (has_flat_map (λ first. flat_map (systems_of t L first) (refs t)) (refs t) a sys (has_ref t a.block a.access p.block p.from p.to)
-          (has_flat_map (systems_of t L a) (refs t) b sys (has_ref t b.block b.access q.block q.from q.to) h)),
+      contains-from-has (systems t L) sys
+          (has-flat-map (λ first. flat_map (systems_of t L first) (refs t)) (refs t) a sys (has-ref t a.block a.access p.block p.from p.to)
+          (has-flat-map (systems_of t L a) (refs t) b sys (has-ref t b.block b.access q.block q.from q.to) h)),
     ))
 
 -- ---- lists that grow
 
-pub more_of_map : {X : Type 0} (old before after : List X) (f : ℕ → X) (a n j : ℕ) (x : X) → a + n ≡ j → before ≡ old ++ map f (range_with_len a n) → after ≡ before ++ x ∷ [] → x ≡ f j
+pub more-of-map : {X : Type 0} (old before after : List X) (f : ℕ → X) (a n j : ℕ) (x : X) → a + n ≡ j → before ≡ old ++ map f (range_with_len a n) → after ≡ before ++ x ∷ [] → x ≡ f j
     → after ≡ old ++ map f (range_with_len a (n + 1))
-more_of_map {X} old before after f a n j x at e g is =
+more-of-map {X} old before after f a n j x at e g is =
     g
     ∙ ap₂ (λ (xs : List X) (y : X). xs ++ y ∷ []) e is
     ∙ append_assoc old (map f (range_with_len a n)) (f j ∷ [])
     ∙ ap (λ (xs : List X). old ++ xs) (sym (map-range_with_len_more f a n j at))
 
-pub more_cases : {X : Type 0} (before after : List X) (f : ℕ → X) (k : ℕ) (x : X) → 1 ≤ k → before ≡ map f (range_with_len 1 (k - 1)) → after ≡ before ++ x ∷ [] → x ≡ f k → after ≡ map f (range_with_len 1 (k + 1 - 1))
-more_cases before after f k x from e g is =
+pub more-cases : {X : Type 0} (before after : List X) (f : ℕ → X) (k : ℕ) (x : X) → 1 ≤ k → before ≡ map f (range_with_len 1 (k - 1)) → after ≡ before ++ x ∷ [] → x ≡ f k → after ≡ map f (range_with_len 1 (k + 1 - 1))
+more-cases before after f k x from e g is =
     let next : k + 1 - 1 ≡ k - 1 + 1 = omega arith in
-    more_of_map [] before after f 1 (k - 1) k x (omega arith) e g is ∙ ap (λ n. map f (range_with_len 1 n)) (sym next)
+    more-of-map [] before after f 1 (k - 1) k x (omega arith) e g is ∙ ap (λ n. map f (range_with_len 1 n)) (sym next)
 
 -- ---- the systems of a pair
 

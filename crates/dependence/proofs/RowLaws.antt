@@ -9,11 +9,11 @@ use Rattle.dependence.specs.Comparisons.{Joint, point, Term, Number, Turn, AtX, 
 use Rattle.dependence.proofs.SumLaws.{dot-less, length-less, dot-append}
 
 -- the value of a term is its coefficients at the variables, and its constant
-value_is : (j : Joint) (p : Term) → value j p ≡ on_turn p *ℤ j.turn +ℤ (dot (on_x p) j.x +ℤ dot (on_y p) j.y) +ℤ alone p
-value_is j (Number n) = rw (zero-*ℤ j.turn) (omega (arith, ints))
-value_is j (Turn n) = rw (one-*ℤ j.turn) (omega (arith, ints))
-value_is j (AtX form) = rw (zero-*ℤ j.turn) (omega (arith, ints))
-value_is j (AtY form) = rw (zero-*ℤ j.turn) (omega (arith, ints))
+value-is : (j : Joint) (p : Term) → value j p ≡ on_turn p *ℤ j.turn +ℤ (dot (on_x p) j.x +ℤ dot (on_y p) j.y) +ℤ alone p
+value-is j (Number n) = rw (zero-*ℤ j.turn) (omega (arith, ints))
+value-is j (Turn n) = rw (one-*ℤ j.turn) (omega (arith, ints))
+value-is j (AtX form) = rw (zero-*ℤ j.turn) (omega (arith, ints))
+value-is j (AtY form) = rw (zero-*ℤ j.turn) (omega (arith, ints))
 
 pub sum_at-row_for : (nx ny : ℕ) (j : Joint) (c : AtMost) → length j.x ≡ nx → length j.y ≡ ny → sum_at (row_for nx ny c) (point j) ≡ value j c.right -ℤ value j c.left
 sum_at-row_for nx ny j c long wide =
@@ -23,16 +23,16 @@ sum_at-row_for nx ny j c long wide =
     let on-x = dot-less nx (on_x c.right) (on_x c.left) j.x (omega arith) in
     let on-y = dot-less ny (on_y c.right) (on_y c.left) j.y (omega arith) in
     let turn = -ℤ-*ℤ (on_turn c.right) (on_turn c.left) j.turn in
-    let right = value_is j c.right in
-    let left = value_is j c.left in
+    let right = value-is j c.right in
+    let left = value-is j c.left in
     rw (turn, parts, on-x, on-y, right, left) (omega (arith, ints))
 
 -- a point meets the row exactly where the comparison holds
-pub meets_from_holds : (nx ny : ℕ) (j : Joint) (c : AtMost) → length j.x ≡ nx → length j.y ≡ ny → Holds j c → Meets (point j) (row_for nx ny c)
-meets_from_holds nx ny j c long wide h = let e = sum_at-row_for nx ny j c long wide in rw e (omega (arith, ints))
+pub meets-from-holds : (nx ny : ℕ) (j : Joint) (c : AtMost) → length j.x ≡ nx → length j.y ≡ ny → Holds j c → Meets (point j) (row_for nx ny c)
+meets-from-holds nx ny j c long wide h = let e = sum_at-row_for nx ny j c long wide in rw e (omega (arith, ints))
 
-pub holds_from_meets : (nx ny : ℕ) (j : Joint) (c : AtMost) → length j.x ≡ nx → length j.y ≡ ny → Meets (point j) (row_for nx ny c) → Holds j c
-holds_from_meets nx ny j c long wide h = let e = sum_at-row_for nx ny j c long wide in let k = rw e at h in omega (arith, ints)
+pub holds-from-meets : (nx ny : ℕ) (j : Joint) (c : AtMost) → length j.x ≡ nx → length j.y ≡ ny → Meets (point j) (row_for nx ny c) → Holds j c
+holds-from-meets nx ny j c long wide h = let e = sum_at-row_for nx ny j c long wide in let k = rw e at h in omega (arith, ints)
 
 pub variables-row_for : (nx ny : ℕ) (c : AtMost) → variables (row_for nx ny c) ≡ 1 + (nx + ny)
 variables-row_for nx ny c =

@@ -6,7 +6,7 @@ use Rattle.affine.specs.Sums.{dot}
 use Rattle.affine.specs.Forms.{Affine, value_at}
 use Rattle.affine.specs.Matrices.{unit_row}
 use Rattle.plain_lemmas.proofs.IntegerLaws.{+ℤ-*ℤ, *ℤ-+ℤ, one-*ℤ, -ℤ-*ℤ, neg_ℤ-*ℤ}
-use Rattle.affine.proofs.SumLemmas.{dot-nil, dot-map_mul}
+use Rattle.affine.proofs.SumLemmas.{dot-nil, dot-map-mul}
 use Rattle.domain.specs.Tables.{zero_form}
 use Rattle.domain.proofs.PointLaws.{dot-zeros}
 use Rattle.dependence.specs.Comparisons.{less}
@@ -15,13 +15,13 @@ use Rattle.dependence.specs.Legality.{plus, combined}
 
 -- ---- points that are 0 from a place on
 
-dot-zeros_point : (c x : List ℤ) → ((k : ℕ) → get_or x k (pos 0) ≡ pos 0) → dot c x ≡ pos 0
-dot-zeros_point [] x h = refl
-dot-zeros_point (c ∷ cs) [] h = refl
-dot-zeros_point (c ∷ cs) (x ∷ xs) h = rw (h 0, *ℤ-zero c, dot-zeros_point cs xs (λ k. h (suc k))) refl
+dot-zeros-point : (c x : List ℤ) → ((k : ℕ) → get_or x k (pos 0) ≡ pos 0) → dot c x ≡ pos 0
+dot-zeros-point [] x h = refl
+dot-zeros-point (c ∷ cs) [] h = refl
+dot-zeros-point (c ∷ cs) (x ∷ xs) h = rw (h 0, *ℤ-zero c, dot-zeros-point cs xs (λ k. h (suc k))) refl
 
 pub dot-take : (n : ℕ) (c x : List ℤ) → ((k : ℕ) → n ≤ k → get_or x k (pos 0) ≡ pos 0) → dot c (take n x) ≡ dot c x
-dot-take zero c x h = dot-nil c ∙ sym (dot-zeros_point c x (λ k. h k (omega arith)))
+dot-take zero c x h = dot-nil c ∙ sym (dot-zeros-point c x (λ k. h k (omega arith)))
 dot-take (suc n) [] x h = refl
 dot-take (suc n) (c ∷ cs) [] h = refl
 dot-take (suc n) (c ∷ cs) (x ∷ xs) h = rw (dot-take n cs xs (λ k l. h (suc k) (omega arith))) refl
@@ -68,7 +68,7 @@ value-combined n [] fs p = value-zero_form n p
 value-combined n (m ∷ ms) [] p = value-zero_form n p
 value-combined n (m ∷ ms) (f ∷ fs) p =
     let rest = value-combined n ms fs p in
-    rw (dot-plus (map (λ c. m *ℤ c) f.coef) (combined n ms fs).coef p, dot-map_mul m f.coef p, *ℤ-+ℤ m (dot f.coef p) f.cst, ← rest) (omega (arith, ints))
+    rw (dot-plus (map (λ c. m *ℤ c) f.coef) (combined n ms fs).coef p, dot-map-mul m f.coef p, *ℤ-+ℤ m (dot f.coef p) f.cst, ← rest) (omega (arith, ints))
 
 pub value-shifted : (n : ℤ) (f : Affine) (p : List ℤ) → value_at (shifted n f) p ≡ value_at f p +ℤ n
 value-shifted n f p = omega (arith, ints)

@@ -8,7 +8,7 @@ use Rattle.std.proofs.lemmas.List.FromFn.{get_or-map-range_with_len, length-map-
 use Rattle.affine.specs.declared.row.Row.{Row}
 use Rattle.affine.specs.Forms.{Affine}
 use Rattle.affine.specs.Rows.{Meets}
-use Rattle.plain_lemmas.proofs.MembershipLaws.{Has, all_has, All_from, any_from_has, has_map, map_has, has_flat_map}
+use Rattle.plain_lemmas.proofs.MembershipLaws.{Has, all_has, All-from, any-from-has, has-map, map-has, has-flat-map}
 use Rattle.nest_lang.specs.declared.tree.AccessRef.{AccessRef}
 use Rattle.domain.specs.declared.chunk.Chunk.{Chunk}
 use Rattle.domain.specs.Tables.{Table, Block, Access, depth, block_at, access_at, counters, IsTable}
@@ -18,14 +18,14 @@ use Rattle.dependence.specs.Comparisons.{point, AtX, AtY, AtMost, Holds, row_for
 use Rattle.dependence.specs.Systems.{comparisons, found_access, system, systems, systems_of, refs, refs_of, pairs, cases, rows_for, referred, first_counter, inner_counters, meeting, equal_places, rising_place}
 use Rattle.dependence.specs.Laws.{beside, IsPair, PairHasSystem}
 use Rattle.dependence.proofs.SumLaws.{value_at-take}
-use Rattle.dependence.proofs.RowLaws.{meets_from_holds}
-use Rattle.dependence.proofs.RangeLaws.{all_append, has_range}
-use Rattle.dependence.proofs.LexLaws.{Rises, lex_cases}
-use Rattle.dependence.proofs.LaunchLaws.{TripsHold, trips_hold}
-use Rattle.dependence.proofs.ComparisonLaws.{Sides, counts_of, place_is, first_holds, inner_holds, meeting_holds, equal_holds, rising_holds}
+use Rattle.dependence.proofs.RowLaws.{meets-from-holds}
+use Rattle.dependence.proofs.RangeLaws.{all-append, has-range}
+use Rattle.dependence.proofs.LexLaws.{Rises, lex-cases}
+use Rattle.dependence.proofs.LaunchLaws.{TripsHold, trips-hold}
+use Rattle.dependence.proofs.ComparisonLaws.{Sides, counts-of, place-is, first-holds, inner-holds, meeting-holds, equal-holds, rising-holds}
 
-abbrev pub ref_of : Instance → ℕ → AccessRef
-ref_of x access = record { block = x.block; access = access }
+abbrev pub ref-of : Instance → ℕ → AccessRef
+ref-of x access = record { block = x.block; access = access }
 
 -- ---- the sides of the joint variables
 
@@ -36,13 +36,13 @@ pub on_y : (t : Table) (chunk : Chunk) (x y : Instance) → Predicted t chunk y 
 on_y t chunk x y q f = value_at-take (counters t (block_of t y)) f y.at q.is.rest
 
 pub long : (D : ℕ) (t : Table) (chunk : Chunk) (x : Instance) → IsTable D t → Predicted t chunk x → length (take (counters t (block_of t x)) x.at) ≡ counters t (block_of t x)
-long D t chunk x is p = let c = counts_of D t chunk x is p in length-take-le (counters t (block_of t x)) x.at (omega (arith, c.inside, p.is.size))
+long D t chunk x is p = let c = counts-of D t chunk x is p in length-take-le (counters t (block_of t x)) x.at (omega (arith, c.inside, p.is.size))
 
 -- ---- the padded points
 
-pub padded_at : (t : Table) (x : Instance) (k : ℕ) → k < depth t → get_or (padded t x) k (pos 0) ≡ place t (block_of t x) x.at k
+pub padded-at : (t : Table) (x : Instance) (k : ℕ) → k < depth t → get_or (padded t x) k (pos 0) ≡ place t (block_of t x) x.at k
 unfolding padded
-padded_at t x k l = get_or-map-range_with_len (place t (block_of t x) x.at) 0 (depth t) k k (pos 0) l (omega arith)
+padded-at t x k l = get_or-map-range_with_len (place t (block_of t x) x.at) 0 (depth t) k k (pos 0) l (omega arith)
 
 pub length-padded : (t : Table) (x : Instance) → length (padded t x) ≡ depth t
 unfolding padded
@@ -60,19 +60,19 @@ pub record Leads (t : Table) (x y : Instance) (k : ℕ) : Type 0 where
 abbrev pub access_of : Table → Instance → ℕ → Access
 access_of t x number = found_access (access_at (block_of t x) number)
 
-pub comparisons_hold : (D : ℕ) (t : Table) (L : ℤ) (chunk : Chunk) (x y : Instance) → IsTable D t → TripsHold t chunk → chunk.turns ≤ℤ L → Predicted t chunk x → Predicted t chunk y
+pub comparisons-hold : (D : ℕ) (t : Table) (L : ℤ) (chunk : Chunk) (x y : Instance) → IsTable D t → TripsHold t chunk → chunk.turns ≤ℤ L → Predicted t chunk x → Predicted t chunk y
     → (a b : ℕ) (address : ℤ) → Expects (access_of t x a) x.at address → Expects (access_of t y b) y.at address
-    → (c : ℕ) → Leads t x y (c - 1) → AllByRecursion (Holds (beside t chunk x y)) (comparisons t L (ref_of x a) (ref_of y b) c)
+    → (c : ℕ) → Leads t x y (c - 1) → AllByRecursion (Holds (beside t chunk x y)) (comparisons t L (ref-of x a) (ref-of y b) c)
 unfolding comparisons
-comparisons_hold D t L chunk x y is launched short p q a b address reach other c leads =
+comparisons-hold D t L chunk x y is launched short p q a b address reach other c leads =
     let j = beside t chunk x y in
     let P = Holds j in
     let X = block_of t x in
     let Y = block_of t y in
     let here = on_x t chunk x y p in
     let there = on_y t chunk x y q in
-    let is-p = place_is D t chunk x is launched p in
-    let is-q = place_is D t chunk y is launched q in
+    let is-p = place-is D t chunk x is launched p in
+    let is-q = place-is D t chunk y is launched q in
     let from = launched.first in
     let places = equal_places t X Y (c - 1) ++ rising_place t X Y (c - 1) in
     let meets = meeting (depth t) (access_of t x a) (access_of t y b) ++ places in
@@ -80,40 +80,40 @@ comparisons_hold D t L chunk x y is launched short p q a b address reach other c
     let of-x = inner_counters t X AtX ++ of-y in
     let first-y = first_counter t L AtY ++ of-x in (
       omega (arith, ints, from),
-      all_append P (first_counter t L AtX) first-y (first_holds D t chunk x L j AtX is p short refl here)
-          (all_append P (first_counter t L AtY) of-x (first_holds D t chunk y L j AtY is q short refl there)
-          (all_append P (inner_counters t X AtX) of-y (inner_holds D t chunk x j AtX is launched p here)
-          (all_append P (inner_counters t Y AtY) meets (inner_holds D t chunk y j AtY is launched q there)
-          (all_append P (meeting (depth t) (access_of t x a) (access_of t y b)) places (meeting_holds (depth t) (access_of t x a) (access_of t y b) j x.at y.at address here there reach other)
-          (all_append P (equal_places t X Y (c - 1)) (rising_place t X Y (c - 1)) (equal_holds t X Y j x.at y.at (place t X x.at) (place t Y y.at) (c - 1) here there is-p is-q leads.inside leads.same)
-          (rising_holds t X Y j x.at y.at (place t X x.at) (place t Y y.at) (c - 1) here there is-p is-q leads.less)))))),
+      all-append P (first_counter t L AtX) first-y (first-holds D t chunk x L j AtX is p short refl here)
+          (all-append P (first_counter t L AtY) of-x (first-holds D t chunk y L j AtY is q short refl there)
+          (all-append P (inner_counters t X AtX) of-y (inner-holds D t chunk x j AtX is launched p here)
+          (all-append P (inner_counters t Y AtY) meets (inner-holds D t chunk y j AtY is launched q there)
+          (all-append P (meeting (depth t) (access_of t x a) (access_of t y b)) places (meeting-holds (depth t) (access_of t x a) (access_of t y b) j x.at y.at address here there reach other)
+          (all-append P (equal_places t X Y (c - 1)) (rising_place t X Y (c - 1)) (equal-holds t X Y j x.at y.at (place t X x.at) (place t Y y.at) (c - 1) here there is-p is-q leads.inside leads.same)
+          (rising-holds t X Y j x.at y.at (place t X x.at) (place t Y y.at) (c - 1) here there is-p is-q leads.less)))))),
     )
 
 -- ---- which systems there are
 
-pub has_ref : (t : Table) (rank access : ℕ) → rank < length t.blocks → 1 ≤ access → access ≤ length (block_at t rank).accesses → Has (refs t) (record { block = rank; access = access })
-has_ref t rank access l from to =
-    has_flat_map (refs_of t) (range_with_len 0 (length t.blocks)) rank _ (has_range 0 (length t.blocks) rank (omega arith) (omega arith))
-    (has_map (λ (number : ℕ). record { block = rank; access = number }) (range_with_len 1 (length (block_at t rank).accesses)) access (has_range 1 (length (block_at t rank).accesses) access from (omega arith)))
+pub has-ref : (t : Table) (rank access : ℕ) → rank < length t.blocks → 1 ≤ access → access ≤ length (block_at t rank).accesses → Has (refs t) (record { block = rank; access = access })
+has-ref t rank access l from to =
+    has-flat-map (refs_of t) (range_with_len 0 (length t.blocks)) rank _ (has-range 0 (length t.blocks) rank (omega arith) (omega arith))
+    (has-map (λ (number : ℕ). record { block = rank; access = number }) (range_with_len 1 (length (block_at t rank).accesses)) access (has-range 1 (length (block_at t rank).accesses) access from (omega arith)))
 
-has_system : (t : Table) (L : ℤ) (a b : AccessRef) (c : ℕ) → Has (refs t) a → Has (refs t) b → pairs (referred t a) (referred t b) ≡ true → Has (cases t a b) c → Has (systems t L) (system t L a b c)
+has-system : (t : Table) (L : ℤ) (a b : AccessRef) (c : ℕ) → Has (refs t) a → Has (refs t) b → pairs (referred t a) (referred t b) ≡ true → Has (cases t a b) c → Has (systems t L) (system t L a b c)
 unfolding systems
-has_system t L a b c in-a in-b both in-c =
-    has_flat_map (λ a. flat_map (systems_of t L a) (refs t)) (refs t) a _ in-a
-    (has_flat_map (systems_of t L a) (refs t) b _ in-b
+has-system t L a b c in-a in-b both in-c =
+    has-flat-map (λ a. flat_map (systems_of t L a) (refs t)) (refs t) a _ in-a
+    (has-flat-map (systems_of t L a) (refs t) b _ in-b
     (by (pairs (referred t a) (referred t b)) both))
   where
     by : (w : Bool) → w ≡ true → Has (if w then map (system t L a b) (cases t a b) else []) (system t L a b c)
-    by true e = has_map (system t L a b) (cases t a b) c in-c
+    by true e = has-map (system t L a b) (cases t a b) c in-c
     by false e = cc
 
-some_line : (line : Option Affine) (low high : ℤ) (at : List ℤ) (address : ℤ) → LiesAbout line low high at address → is_some line ≡ true
-some_line None low high at address h = absurd h
-some_line (Some form) low high at address h = refl
+some-line : (line : Option Affine) (low high : ℤ) (at : List ℤ) (address : ℤ) → LiesAbout line low high at address → is_some line ≡ true
+some-line None low high at address h = absurd h
+some-line (Some form) low high at address h = refl
 
 are_pair : (a b : Access) (at over : List ℤ) (address : ℤ) (s r : Bool) → Expects a at address → Expects b over address → a.stores ≡ s → b.stores ≡ r → (s || r) ≡ true → pairs a b ≡ true
 are_pair a b at over address s r h k e f or =
-    rw (e, f, or, some_line a.line a.low a.high at address h, some_line b.line b.low b.high over address k) refl
+    rw (e, f, or, some-line a.line a.low a.high at address h, some-line b.line b.low b.high over address k) refl
 
 -- the access with this number, a store or a load, has the address in its expected interval
 pub record Reaches (t : Table) (x : Instance) (address : ℤ) (stores : Bool) : Type 0 where
@@ -137,57 +137,57 @@ reaches t x address stores h =
 pub record Met (t : Table) (x y : Instance) : Type 0 where
   pub address : ℤ
   pub stores : Bool
-  pub stores_too : Bool
+  pub stores-too : Bool
   pub first : Reaches t x address stores
-  pub second : Reaches t y address stores_too
-  pub one : (stores || stores_too) ≡ true
+  pub second : Reaches t y address stores-too
+  pub one : (stores || stores-too) ≡ true
 
 met : (t : Table) (words : ℤ) (x y : Instance) → Conflict t words x y → Met t x y
-met t words x y (address, inl (w, inl r)) = record { address = address; stores = true; stores_too = false; first = reaches t x address true w; second = reaches t y address false r.0; one = refl }
-met t words x y (address, inl (w, inr v)) = record { address = address; stores = true; stores_too = true; first = reaches t x address true w; second = reaches t y address true v; one = refl }
-met t words x y (address, inr (w, inl r)) = record { address = address; stores = false; stores_too = true; first = reaches t x address false r.0; second = reaches t y address true w; one = refl }
-met t words x y (address, inr (w, inr v)) = record { address = address; stores = true; stores_too = true; first = reaches t x address true v; second = reaches t y address true w; one = refl }
+met t words x y (address, inl (w, inl r)) = record { address = address; stores = true; stores-too = false; first = reaches t x address true w; second = reaches t y address false r.0; one = refl }
+met t words x y (address, inl (w, inr v)) = record { address = address; stores = true; stores-too = true; first = reaches t x address true w; second = reaches t y address true v; one = refl }
+met t words x y (address, inr (w, inl r)) = record { address = address; stores = false; stores-too = true; first = reaches t x address false r.0; second = reaches t y address true w; one = refl }
+met t words x y (address, inr (w, inr v)) = record { address = address; stores = true; stores-too = true; first = reaches t x address true v; second = reaches t y address true w; one = refl }
 
 -- the system of a pair, and which of the cases it is
 pub record Found (t : Table) (L : ℤ) (chunk : Chunk) (x y : Instance) : Type 0 where
   pub first : ℕ
   pub second : ℕ
   pub case : ℕ
-  pub has : Has (systems t L) (system t L (ref_of x first) (ref_of y second) case)
-  pub holds : AllByRecursion (Holds (beside t chunk x y)) (comparisons t L (ref_of x first) (ref_of y second) case)
+  pub has : Has (systems t L) (system t L (ref-of x first) (ref-of y second) case)
+  pub holds : AllByRecursion (Holds (beside t chunk x y)) (comparisons t L (ref-of x first) (ref-of y second) case)
   pub which : (case ≤ depth t) ⊎ ((padded t x ≡ padded t y) × (x.block < y.block))
 
 pub found : (D : ℕ) (t : Table) (L words : ℤ) (chunk : Chunk) (x y : Instance) → IsTable D t → IsPair t L words chunk x y → Found t L chunk x y
-found D t L words chunk x y is pair = by (lex_cases (padded t x) (padded t y) (pos x.block) (pos y.block) (length-padded t x ∙ sym (length-padded t y)) pair.order)
+found D t L words chunk x y is pair = by (lex-cases (padded t x) (padded t y) (pos x.block) (pos y.block) (length-padded t x ∙ sym (length-padded t y)) pair.order)
   where
     m : Met t x y
     m = met t words x y pair.conflict
 
     a : AccessRef
-    a = ref_of x m.first.access
+    a = ref-of x m.first.access
 
     b : AccessRef
-    b = ref_of y m.second.access
+    b = ref-of y m.second.access
 
     at-case : (c : ℕ) → Has (cases t a b) c → Leads t x y (c - 1) → (c ≤ depth t) ⊎ ((padded t x ≡ padded t y) × (x.block < y.block)) → Found t L chunk x y
     at-case c in-c leads which = record {
       first = m.first.access;
       second = m.second.access;
       case = c;
-      has = has_system t L a b c (has_ref t x.block m.first.access pair.first.is.block m.first.from m.first.to) (has_ref t y.block m.second.access pair.second.is.block m.second.from m.second.to) (are_pair (referred t a) (referred t b) x.at y.at m.address m.stores m.stores_too m.first.expected m.second.expected m.first.kind m.second.kind m.one) in-c;
-      holds = comparisons_hold D t L chunk x y is (trips_hold D t words chunk pair.launch.instances is pair.launch.first pair.launch.launched) pair.launch.turns pair.first pair.second m.first.access m.second.access m.address m.first.expected m.second.expected c leads;
+      has = has-system t L a b c (has-ref t x.block m.first.access pair.first.is.block m.first.from m.first.to) (has-ref t y.block m.second.access pair.second.is.block m.second.from m.second.to) (are_pair (referred t a) (referred t b) x.at y.at m.address m.stores m.stores-too m.first.expected m.second.expected m.first.kind m.second.kind m.one) in-c;
+      holds = comparisons-hold D t L chunk x y is (trips-hold D t words chunk pair.launch.instances is pair.launch.first pair.launch.launched) pair.launch.turns pair.first pair.second m.first.access m.second.access m.address m.first.expected m.second.expected c leads;
       which = which;
     }
 
     equal-at : (k : ℕ) → k < depth t → get_or (padded t x) k (pos 0) ≡ get_or (padded t y) k (pos 0) → place t (block_of t x) x.at k ≡ place t (block_of t y) y.at k
-    equal-at k l e = sym (padded_at t x k l) ∙ e ∙ padded_at t y k l
+    equal-at k l e = sym (padded-at t x k l) ∙ e ∙ padded-at t y k l
 
     at-place : (c : ℕ) → Rises (padded t x) (padded t y) c → Found t L chunk x y
     at-place c r =
         let inside : c < depth t = omega (arith, r.inside, length-padded t x) in
         let back : suc c - 1 ≡ c = omega arith in
-        at-case (suc c) (has_range 1 (depth t + (if nat_lt x.block y.block then 1 else 0)) (suc c) (omega arith) (omega arith))
-        (subst (Leads t x y) (sym back) (record { inside = omega arith; same = λ k l. equal-at k (omega arith) (r.same k l); less = λ l. rw (← padded_at t x c inside, ← padded_at t y c inside) r.less }))
+        at-case (suc c) (has-range 1 (depth t + (if nat_lt x.block y.block then 1 else 0)) (suc c) (omega arith) (omega arith))
+        (subst (Leads t x y) (sym back) (record { inside = omega arith; same = λ k l. equal-at k (omega arith) (r.same k l); less = λ l. rw (← padded-at t x c inside, ← padded-at t y c inside) r.less }))
         (inl (omega arith))
 
     after : (padded t x ≡ padded t y) × (pos x.block <ℤ pos y.block) → Found t L chunk x y
@@ -199,7 +199,7 @@ found D t L words chunk x y is pair = by (lex_cases (padded t x) (padded t y) (p
         (inr (same, below))
       where
         last : (w : Bool) → w ≡ true → Has (range_with_len 1 (depth t + (if w then 1 else 0))) (suc (depth t))
-        last true e = has_range 1 (depth t + 1) (suc (depth t)) (omega arith) (omega arith)
+        last true e = has-range 1 (depth t + 1) (suc (depth t)) (omega arith) (omega arith)
         last false e = cc
 
     by : ((c : ℕ) × Rises (padded t x) (padded t y) c) ⊎ ((padded t x ≡ padded t y) × (pos x.block <ℤ pos y.block)) → Found t L chunk x y
@@ -208,18 +208,18 @@ found D t L words chunk x y is pair = by (lex_cases (padded t x) (padded t y) (p
 
 -- ---- and its rows are met
 
-pub rows_met : (D : ℕ) (t : Table) (chunk : Chunk) (x y : Instance) (a b : ℕ) (cs : List AtMost) → IsTable D t → Predicted t chunk x → Predicted t chunk y → AllByRecursion (Holds (beside t chunk x y)) cs
-    → (row : Row) → Has (rows_for t (ref_of x a) (ref_of y b) cs) row → Meets (point (beside t chunk x y)) row
-rows_met D t chunk x y a b cs is p q all row h =
+pub rows-met : (D : ℕ) (t : Table) (chunk : Chunk) (x y : Instance) (a b : ℕ) (cs : List AtMost) → IsTable D t → Predicted t chunk x → Predicted t chunk y → AllByRecursion (Holds (beside t chunk x y)) cs
+    → (row : Row) → Has (rows_for t (ref-of x a) (ref-of y b) cs) row → Meets (point (beside t chunk x y)) row
+rows-met D t chunk x y a b cs is p q all row h =
     let nx = counters t (block_of t x) in
     let ny = counters t (block_of t y) in
     let j = beside t chunk x y in
-    let (c, k, e) = map_has (row_for nx ny) cs row h in
-    subst (Meets (point j)) (sym e) (meets_from_holds nx ny j c (long D t chunk x is p) (long D t chunk y is q) (all_has (Holds j) cs c all k))
+    let (c, k, e) = map-has (row_for nx ny) cs row h in
+    subst (Meets (point j)) (sym e) (meets-from-holds nx ny j c (long D t chunk x is p) (long D t chunk y is q) (all_has (Holds j) cs c all k))
 
 pub pair_has_system : PairHasSystem
 pair_has_system D t L words chunk x y is pair =
     let f = found D t L words chunk x y is pair in
-    let cs = comparisons t L (ref_of x f.first) (ref_of y f.second) f.case in
-    any_from_has _ (systems t L) (system t L (ref_of x f.first) (ref_of y f.second) f.case) f.has
-    (refl, refl, All_from _ _ (rows_met D t chunk x y f.first f.second cs is pair.first pair.second f.holds))
+    let cs = comparisons t L (ref-of x f.first) (ref-of y f.second) f.case in
+    any-from-has _ (systems t L) (system t L (ref-of x f.first) (ref-of y f.second) f.case) f.has
+    (refl, refl, All-from _ _ (rows-met D t chunk x y f.first f.second cs is pair.first pair.second f.holds))

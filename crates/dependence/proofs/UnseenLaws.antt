@@ -7,45 +7,45 @@ use Rattle.std.proofs.lemmas.Int.{ints}
 use Rattle.affine.specs.Sums.{dot}
 use Rattle.affine.specs.Forms.{Affine, value_at}
 use Rattle.affine.specs.Rows.{Meets}
-use Rattle.plain_lemmas.proofs.MembershipLaws.{Has, All_has, has_left, has_right, has_map, has_flat_map, has_from_contains}
+use Rattle.plain_lemmas.proofs.MembershipLaws.{Has, All-has, has-left, has-right, has-map, has-flat-map, has-from-contains}
 use Rattle.nest_lang.specs.declared.tree.AccessRef.{AccessRef}
 use Rattle.domain.specs.Tables.{Table, Block, IsTable, cut, depth, zero_form, trip_form, block_at, level_at, counters, turning}
 use Rattle.dependence.specs.Comparisons.{Joint, point, Term, Number, AtX, AtY, value, AtMost, Holds, at_most, row_for}
 use Rattle.dependence.specs.Systems.{System, comparisons, counter_form, equal_places, first_counter, greatest, inner_counter, inner_counters, meeting, referred, rising_place, system, systems}
 use Rattle.dependence.specs.Laws.{UnseenLoopUnmet}
 use Rattle.dependence.proofs.SumLaws.{value-shifted, value-zero_form}
-use Rattle.dependence.proofs.RangeLaws.{has_range}
-use Rattle.dependence.proofs.RowLaws.{holds_from_meets, variables-row_for}
-use Rattle.dependence.proofs.VerdictLaws.{system_is}
+use Rattle.dependence.proofs.RangeLaws.{has-range}
+use Rattle.dependence.proofs.RowLaws.{holds-from-meets, variables-row_for}
+use Rattle.dependence.proofs.VerdictLaws.{system-is}
 use Rattle.dependence.proofs.PairLaws.{names}
-use Rattle.dependence.proofs.ComparisonLaws.{counts_at}
+use Rattle.dependence.proofs.ComparisonLaws.{counts-at}
 
 -- ---- a point of n numbers in place of another
 
-dot-zeros_behind : (cs : List ℤ) (n : ℕ) → dot cs (replicate n (pos 0)) ≡ pos 0
-dot-zeros_behind [] n = refl
-dot-zeros_behind (c ∷ cs) zero = refl
-dot-zeros_behind (c ∷ cs) (suc n) = rw (*ℤ-zero c, dot-zeros_behind cs n) refl
+dot-zeros-behind : (cs : List ℤ) (n : ℕ) → dot cs (replicate n (pos 0)) ≡ pos 0
+dot-zeros-behind [] n = refl
+dot-zeros-behind (c ∷ cs) zero = refl
+dot-zeros-behind (c ∷ cs) (suc n) = rw (*ℤ-zero c, dot-zeros-behind cs n) refl
 
 -- the first n numbers, with zeros for what is missing
-of_size : ℕ → List ℤ → List ℤ
-of_size zero ps = []
-of_size (suc n) [] = replicate (suc n) (pos 0)
-of_size (suc n) (p ∷ ps) = p ∷ of_size n ps
+of-size : ℕ → List ℤ → List ℤ
+of-size zero ps = []
+of-size (suc n) [] = replicate (suc n) (pos 0)
+of-size (suc n) (p ∷ ps) = p ∷ of-size n ps
 
-length-of_size : (n : ℕ) (ps : List ℤ) → length (of_size n ps) ≡ n
-unfolding of_size
-length-of_size zero ps = refl
-length-of_size (suc n) [] = length-replicate (suc n) (pos 0)
-length-of_size (suc n) (p ∷ ps) = ap suc (length-of_size n ps)
+length-of-size : (n : ℕ) (ps : List ℤ) → length (of-size n ps) ≡ n
+unfolding of-size
+length-of-size zero ps = refl
+length-of-size (suc n) [] = length-replicate (suc n) (pos 0)
+length-of-size (suc n) (p ∷ ps) = ap suc (length-of-size n ps)
 
-dot-of_size : (n : ℕ) (cs ps : List ℤ) → length cs ≡ n → dot cs (of_size n ps) ≡ dot cs ps
-unfolding of_size
-dot-of_size zero [] ps l = refl
-dot-of_size zero (c ∷ cs) ps l = absurd (omega arith)
-dot-of_size (suc n) [] ps l = absurd (omega arith)
-dot-of_size (suc n) (c ∷ cs) [] l = dot-zeros_behind (c ∷ cs) (suc n)
-dot-of_size (suc n) (c ∷ cs) (p ∷ ps) l = rw (dot-of_size n cs ps (omega arith)) refl
+dot-of-size : (n : ℕ) (cs ps : List ℤ) → length cs ≡ n → dot cs (of-size n ps) ≡ dot cs ps
+unfolding of-size
+dot-of-size zero [] ps l = refl
+dot-of-size zero (c ∷ cs) ps l = absurd (omega arith)
+dot-of-size (suc n) [] ps l = absurd (omega arith)
+dot-of-size (suc n) (c ∷ cs) [] l = dot-zeros-behind (c ∷ cs) (suc n)
+dot-of-size (suc n) (c ∷ cs) (p ∷ ps) l = rw (dot-of-size n cs ps (omega arith)) refl
 
 parted : (n : ℕ) (ps : List ℤ) → take n ps ++ drop n ps ≡ ps
 parted zero ps = refl
@@ -53,17 +53,17 @@ parted (suc n) [] = refl
 parted (suc n) (p ∷ ps) = ap (λ (rest : List ℤ). p ∷ rest) (parted n ps)
 
 -- a point, as the first turn, nx counters and ny counters
-joint_by : ℕ → List ℤ → Joint
-joint_by nx [] = record { turn = pos 0; x = []; y = [] }
-joint_by nx (f ∷ ps) = record { turn = f; x = take nx ps; y = drop nx ps }
+joint-by : ℕ → List ℤ → Joint
+joint-by nx [] = record { turn = pos 0; x = []; y = [] }
+joint-by nx (f ∷ ps) = record { turn = f; x = take nx ps; y = drop nx ps }
 
 record IsJoint (nx ny : ℕ) (ps : List ℤ) (j : Joint) : Type 0 where
   pub same : point j ≡ ps
   pub x : length j.x ≡ nx
   pub y : length j.y ≡ ny
 
-joint-is : (nx ny : ℕ) (ps : List ℤ) → length ps ≡ 1 + (nx + ny) → IsJoint nx ny ps (joint_by nx ps)
-unfolding joint_by
+joint-is : (nx ny : ℕ) (ps : List ℤ) → length ps ≡ 1 + (nx + ny) → IsJoint nx ny ps (joint-by nx ps)
+unfolding joint-by
 joint-is nx ny [] l = absurd (omega arith)
 joint-is nx ny (f ∷ ps) l = record {
   same = ap (λ (rest : List ℤ). f ∷ rest) (parted nx ps);
@@ -72,12 +72,12 @@ joint-is nx ny (f ∷ ps) l = record {
 }
 
 -- where a point meets a row, the comparison holds of that point's numbers
-holds_of_point : (nx ny : ℕ) (c : AtMost) (ps : List ℤ) → Meets ps (row_for nx ny c) → Holds (joint_by nx (of_size (1 + (nx + ny)) ps)) c
-holds_of_point nx ny c ps met =
-    let qs = of_size (1 + (nx + ny)) ps in
-    let j = joint-is nx ny qs (length-of_size (1 + (nx + ny)) ps) in
-    let same : dot (row_for nx ny c).coef.items qs ≡ dot (row_for nx ny c).coef.items ps = dot-of_size (1 + (nx + ny)) (row_for nx ny c).coef.items ps (variables-row_for nx ny c) in
-    holds_from_meets nx ny (joint_by nx qs) c j.x j.y
+holds-of-point : (nx ny : ℕ) (c : AtMost) (ps : List ℤ) → Meets ps (row_for nx ny c) → Holds (joint-by nx (of-size (1 + (nx + ny)) ps)) c
+holds-of-point nx ny c ps met =
+    let qs = of-size (1 + (nx + ny)) ps in
+    let j = joint-is nx ny qs (length-of-size (1 + (nx + ny)) ps) in
+    let same : dot (row_for nx ny c).coef.items qs ≡ dot (row_for nx ny c).coef.items ps = dot-of-size (1 + (nx + ny)) (row_for nx ny c).coef.items ps (variables-row_for nx ny c) in
+    holds-from-meets nx ny (joint-by nx qs) c j.x j.y
     (subst (λ (p : List ℤ). Meets p (row_for nx ny c)) (sym j.same) (subst (λ (z : ℤ). pos 0 ≤ℤ (z +ℤ (row_for nx ny c).cst)) (sym same) met))
 
 -- ---- the greatest value of a counter of an unseen loop
@@ -97,7 +97,7 @@ value-greatest t b k at e l =
 -- ---- its rows in a system
 
 inner-has : (t : Table) (b : Block) (side : Affine → Term) (k : ℕ) → 1 ≤ k → k < counters t b → (c : AtMost) → Has (inner_counter t b side k) c → Has (inner_counters t b side) c
-inner-has t b side k from l c h = has_flat_map (inner_counter t b side) (range_with_len 1 (counters t b - 1)) k c (has_range 1 (counters t b - 1) k from (omega arith)) h
+inner-has t b side k from l c h = has-flat-map (inner_counter t b side) (range_with_len 1 (counters t b - 1)) k c (has-range 1 (counters t b - 1) k from (omega arith)) h
 
 -- what stands behind the first counters of a system
 behind-first : Table → AccessRef → AccessRef → ℕ → List AtMost
@@ -110,11 +110,11 @@ has-behind : (t : Table) (L : ℤ) (a b : AccessRef) (case : ℕ) (c : AtMost) �
 unfolding comparisons behind-first
 has-behind t L a b case c h =
     let rest = behind-first t a b case in
-    inr (has_right (first_counter t L AtX) (first_counter t L AtY ++ rest) c (has_right (first_counter t L AtY) rest c h))
+    inr (has-right (first_counter t L AtX) (first_counter t L AtY ++ rest) c (has-right (first_counter t L AtY) rest c h))
 
 has-first : (t : Table) (L : ℤ) (a b : AccessRef) (case : ℕ) (c : AtMost) → Has (inner_counters t (block_at t a.block) AtX) c → Has (comparisons t L a b case) c
 unfolding behind-first
-has-first t L a b case c h = let A = block_at t a.block in let B = block_at t b.block in has-behind t L a b case c (has_left (inner_counters t A AtX) (inner_counters t B AtY ++ (meeting (depth t) (referred t a) (referred t b) ++ (equal_places t A B (case - 1) ++ rising_place t A B (case - 1)))) c h)
+has-first t L a b case c h = let A = block_at t a.block in let B = block_at t b.block in has-behind t L a b case c (has-left (inner_counters t A AtX) (inner_counters t B AtY ++ (meeting (depth t) (referred t a) (referred t b) ++ (equal_places t A B (case - 1) ++ rising_place t A B (case - 1)))) c h)
 
 has-second : (t : Table) (L : ℤ) (a b : AccessRef) (case : ℕ) (c : AtMost) → Has (inner_counters t (block_at t b.block) AtY) c → Has (comparisons t L a b case) c
 unfolding behind-first
@@ -122,18 +122,18 @@ has-second t L a b case c h =
     let A = block_at t a.block in
     let B = block_at t b.block in
     let last = meeting (depth t) (referred t a) (referred t b) ++ (equal_places t A B (case - 1) ++ rising_place t A B (case - 1)) in
-    has-behind t L a b case c (has_right (inner_counters t A AtX) (inner_counters t B AtY ++ last) c (has_left (inner_counters t B AtY) last c h))
+    has-behind t L a b case c (has-right (inner_counters t A AtX) (inner_counters t B AtY ++ last) c (has-left (inner_counters t B AtY) last c h))
 
 module _ (t : Table) (L : ℤ) (a b : AccessRef) (case : ℕ) (ps : List ℤ) (met : All (Meets ps) (system t L a b case).rows) where
-  holds-at : (c : AtMost) → Has (comparisons t L a b case) c → Holds (joint_by (counters t (block_at t a.block)) (of_size (1 + (counters t (block_at t a.block) + counters t (block_at t b.block))) ps)) c
+  holds-at : (c : AtMost) → Has (comparisons t L a b case) c → Holds (joint-by (counters t (block_at t a.block)) (of-size (1 + (counters t (block_at t a.block) + counters t (block_at t b.block))) ps)) c
   holds-at c h =
       let nx = counters t (block_at t a.block) in
       let ny = counters t (block_at t b.block) in
-      holds_of_point nx ny c ps (All_has (Meets ps) (system t L a b case).rows (row_for nx ny c) met (has_map (row_for nx ny) (comparisons t L a b case) c h))
+      holds-of-point nx ny c ps (All-has (Meets ps) (system t L a b case).rows (row_for nx ny c) met (has-map (row_for nx ny) (comparisons t L a b case) c h))
 
   -- a counter from 0 to -1
   unmet : (rank : ℕ) (side : Affine → Term) (at : List ℤ) (k : ℕ) → ((c : AtMost) → Has (inner_counters t (block_at t rank) side) c → Has (comparisons t L a b case) c)
-      → ((form : Affine) → value (joint_by (counters t (block_at t a.block)) (of_size (1 + (counters t (block_at t a.block) + counters t (block_at t b.block))) ps)) (side form) ≡ value_at form at)
+      → ((form : Affine) → value (joint-by (counters t (block_at t a.block)) (of-size (1 + (counters t (block_at t a.block) + counters t (block_at t b.block))) ps)) (side form) ≡ value_at form at)
       → 1 ≤ k → k < counters t (block_at t rank) → (level_at t k).trip ≡ None → k < turning (block_at t rank) → ⊥
   unmet rank side at k has is from l none turns =
       let block = block_at t rank in
@@ -143,20 +143,20 @@ module _ (t : Table) (L : ℤ) (a b : AccessRef) (case : ℕ) (ps : List ℤ) (m
       let top = is (greatest t block k) ∙ value-greatest t block k at none turns in
       omega (arith, ints, low, high, top)
 
-unmet_of : (D : ℕ) (t : Table) (L : ℤ) (a b : AccessRef) (c k : ℕ) (ps : List ℤ) → IsTable D t → a.block < length t.blocks → b.block < length t.blocks → 1 ≤ k → (level_at t k).trip ≡ None
+unmet-of : (D : ℕ) (t : Table) (L : ℤ) (a b : AccessRef) (c k : ℕ) (ps : List ℤ) → IsTable D t → a.block < length t.blocks → b.block < length t.blocks → 1 ≤ k → (level_at t k).trip ≡ None
     → (k < turning (block_at t a.block)) ⊎ (k < turning (block_at t b.block)) → All (Meets ps) (system t L a b c).rows → ⊥
-unmet_of D t L a b c k ps is first second from none (inl inside) met =
-    let n = counts_at D t a.block is first in
-    unmet t L a b c ps met a.block AtX (joint_by (counters t (block_at t a.block)) (of_size (1 + (counters t (block_at t a.block) + counters t (block_at t b.block))) ps)).x k (has-first t L a b c) (λ form. refl) from (omega (arith, n.least)) none inside
-unmet_of D t L a b c k ps is first second from none (inr inside) met =
-    let n = counts_at D t b.block is second in
-    unmet t L a b c ps met b.block AtY (joint_by (counters t (block_at t a.block)) (of_size (1 + (counters t (block_at t a.block) + counters t (block_at t b.block))) ps)).y k (has-second t L a b c) (λ form. refl) from (omega (arith, n.least)) none inside
+unmet-of D t L a b c k ps is first second from none (inl inside) met =
+    let n = counts-at D t a.block is first in
+    unmet t L a b c ps met a.block AtX (joint-by (counters t (block_at t a.block)) (of-size (1 + (counters t (block_at t a.block) + counters t (block_at t b.block))) ps)).x k (has-first t L a b c) (λ form. refl) from (omega (arith, n.least)) none inside
+unmet-of D t L a b c k ps is first second from none (inr inside) met =
+    let n = counts-at D t b.block is second in
+    unmet t L a b c ps met b.block AtY (joint-by (counters t (block_at t a.block)) (of-size (1 + (counters t (block_at t a.block) + counters t (block_at t b.block))) ps)).y k (has-second t L a b c) (λ form. refl) from (omega (arith, n.least)) none inside
 
 pub unseen_loop_unmet : UnseenLoopUnmet
 unseen_loop_unmet D t L sys k is of from none inside ps met =
-    let h = has_from_contains (systems t L) sys of in
-    let i = system_is t L sys h in
+    let h = has-from-contains (systems t L) sys of in
+    let i = system-is t L sys h in
     let n = names t L sys h in
-    unmet_of D t L i.first i.second i.case k ps is (subst (λ (s : System). s.first.block < length t.blocks) i.same n.first.block) (subst (λ (s : System). s.second.block < length t.blocks) i.same n.second.block) from none
+    unmet-of D t L i.first i.second i.case k ps is (subst (λ (s : System). s.first.block < length t.blocks) i.same n.first.block) (subst (λ (s : System). s.second.block < length t.blocks) i.same n.second.block) from none
     (subst (λ (s : System). (k < turning (block_at t s.first.block)) ⊎ (k < turning (block_at t s.second.block))) i.same inside)
     (subst (λ (s : System). All (Meets ps) s.rows) i.same met)

@@ -5,8 +5,8 @@ use Rattle.std.specs.List.{All, flat_map}
 use Rattle.affine.specs.declared.row.Row.{Row}
 use Rattle.affine.specs.Rows.{Meets, variables}
 use Rattle.fourier_motzkin.specs.declared.verdicts.Ruling.TheVariants.{Empty}
-use Rattle.plain_lemmas.proofs.MembershipLaws.{Has, All_has, All_from, has_cases, map_has, flat_map_has}
-use Rattle.fourier_motzkin.proofs.Points.{verdict_unmet}
+use Rattle.plain_lemmas.proofs.MembershipLaws.{Has, All-has, All-from, has-cases, map-has, flat-map-has}
+use Rattle.fourier_motzkin.proofs.Points.{verdict-unmet}
 use Rattle.nest_lang.specs.declared.tree.AccessRef.{AccessRef}
 use Rattle.domain.specs.Tables.{Table, depth, block_at, counters}
 use Rattle.dependence.specs.Comparisons.{AtMost, row_for}
@@ -23,44 +23,44 @@ pub record IsSystem (t : Table) (L : ℤ) (sys : System) : Type 0 where
   pub case : ℕ
   pub same : sys ≡ system t L first second case
 
-pub system_is : (t : Table) (L : ℤ) (sys : System) → Has (systems t L) sys → IsSystem t L sys
+pub system-is : (t : Table) (L : ℤ) (sys : System) → Has (systems t L) sys → IsSystem t L sys
 unfolding systems
-system_is t L sys h =
-    let (a, in-a, k) = flat_map_has (λ a. flat_map (systems_of t L a) (refs t)) (refs t) sys h in
-    let (b, in-b, m) = flat_map_has (systems_of t L a) (refs t) sys k in
+system-is t L sys h =
+    let (a, in-a, k) = flat-map-has (λ a. flat_map (systems_of t L a) (refs t)) (refs t) sys h in
+    let (b, in-b, m) = flat-map-has (systems_of t L a) (refs t) sys k in
     by a b (pairs (referred t a) (referred t b)) m
   where
     by : (a b : AccessRef) (w : Bool) → Has (if w then map (system t L a b) (cases t a b) else []) sys → IsSystem t L sys
-    by a b true m = let (c, in-c, e) = map_has (system t L a b) (cases t a b) sys m in record { first = a; second = b; case = c; same = e }
+    by a b true m = let (c, in-c, e) = map-has (system t L a b) (cases t a b) sys m in record { first = a; second = b; case = c; same = e }
     by a b false m = absurd m
 
-system_of_trial : (t : Table) (s : Schedule) (L : ℤ) (v : Trial) → Has (trials t s L) v → IsSystem t L v.system
+system-of-trial : (t : Table) (s : Schedule) (L : ℤ) (v : Trial) → Has (trials t s L) v → IsSystem t L v.system
 unfolding trials
-system_of_trial t s L v h =
-    let (sys, in-s, k) = flat_map_has (trials_of t s) (systems t L) v h in
-    subst (IsSystem t L) (by sys (nat_le sys.case (depth t)) k) (system_is t L sys in-s)
+system-of-trial t s L v h =
+    let (sys, in-s, k) = flat-map-has (trials_of t s) (systems t L) v h in
+    subst (IsSystem t L) (by sys (nat_le sys.case (depth t)) k) (system-is t L sys in-s)
   where
     by : (sys : System) (w : Bool) → Has (if w then map (trial sys) (violations t s) else []) v → sys ≡ v.system
-    by sys true k = let (u, in-u, e) = map_has (trial sys) (violations t s) v k in sym (ap (λ (z : Trial). z.system) e)
+    by sys true k = let (u, in-u, e) = map-has (trial sys) (violations t s) v k in sym (ap (λ (z : Trial). z.system) e)
     by sys false k = absurd k
 
-over_for : (t : Table) (a b : AccessRef) (cs : List AtMost) (r : Row) → Has (rows_for t a b cs) r → variables r ≡ 1 + (counters t (block_at t a.block) + counters t (block_at t b.block))
-over_for t a b cs r h =
-    let (c, k, e) = map_has (row_for (counters t (block_at t a.block)) (counters t (block_at t b.block))) cs r h in
+over-for : (t : Table) (a b : AccessRef) (cs : List AtMost) (r : Row) → Has (rows_for t a b cs) r → variables r ≡ 1 + (counters t (block_at t a.block) + counters t (block_at t b.block))
+over-for t a b cs r h =
+    let (c, k, e) = map-has (row_for (counters t (block_at t a.block)) (counters t (block_at t b.block))) cs r h in
     ap variables e ∙ variables-row_for (counters t (block_at t a.block)) (counters t (block_at t b.block)) c
 
-pub over_tried : (t : Table) (s : Schedule) (L : ℤ) (v : Trial) (i : IsSystem t L v.system) (r : Row) → Has (tried t s v) r → variables r ≡ joint_variables t v.system
-over_tried t s L v i r h =
-    ⊎_elim (λ k. front (subst (λ (sys : System). Has sys.rows r) i.same k)) (λ k. over_for t v.system.first v.system.second _ r k) (has_cases v.system.rows _ r h)
+pub over-tried : (t : Table) (s : Schedule) (L : ℤ) (v : Trial) (i : IsSystem t L v.system) (r : Row) → Has (tried t s v) r → variables r ≡ joint_variables t v.system
+over-tried t s L v i r h =
+    ⊎_elim (λ k. front (subst (λ (sys : System). Has sys.rows r) i.same k)) (λ k. over-for t v.system.first v.system.second _ r k) (has-cases v.system.rows _ r h)
   where
     front : Has (system t L i.first i.second i.case).rows r → variables r ≡ joint_variables t v.system
-    front k = subst (λ (sys : System). variables r ≡ joint_variables t sys) (sym i.same) (over_for t i.first i.second (comparisons t L i.first i.second i.case) r k)
+    front k = subst (λ (sys : System). variables r ≡ joint_variables t sys) (sym i.same) (over-for t i.first i.second (comparisons t L i.first i.second i.case) r k)
 
 pub legal_is_unmet : LegalIsUnmet
 unfolding judgement
-legal_is_unmet t s L legal = All_from (λ (v : Trial). (point : List ℤ) → All (Meets point) (tried t s v) → ⊥) (trials t s L) each
+legal_is_unmet t s L legal = All-from (λ (v : Trial). (point : List ℤ) → All (Meets point) (tried t s v) → ⊥) (trials t s L) each
   where
     each : (v : Trial) → Has (trials t s L) v → (point : List ℤ) → All (Meets point) (tried t s v) → ⊥
     each v h point met =
-        verdict_unmet (joint_variables t v.system) (tried t s v) point (All_from (λ (r : Row). variables r ≡ joint_variables t v.system) (tried t s v) (over_tried t s L v (system_of_trial t s L v h)))
-        (All_has (λ (w : Trial). judgement t s w ≡ Empty) (trials t s L) v legal h) met
+        verdict-unmet (joint_variables t v.system) (tried t s v) point (All-from (λ (r : Row). variables r ≡ joint_variables t v.system) (tried t s v) (over-tried t s L v (system-of-trial t s L v h)))
+        (All-has (λ (w : Trial). judgement t s w ≡ Empty) (trials t s L) v legal h) met

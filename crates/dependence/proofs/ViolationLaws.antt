@@ -5,32 +5,32 @@ use Rattle.std.proofs.lemmas.List.{map-append, take_more}
 use Rattle.affine.specs.declared.row.Row.{Row}
 use Rattle.affine.specs.Forms.{Affine}
 use Rattle.fourier_motzkin.specs.Elimination.{AllOver}
-use Rattle.plain_lemmas.proofs.MembershipLaws.{All_from, has_from_contains}
+use Rattle.plain_lemmas.proofs.MembershipLaws.{All-from, has-from-contains}
 use Rattle.domain.specs.Tables.{Table, Block, block_at, counters, depth}
 use Rattle.transform.specs.Schedules.{Line, Schedule, line_at}
-use Rattle.transform.proofs.LineLaws.{no_line}
+use Rattle.transform.proofs.LineLaws.{no-line}
 use Rattle.dependence.specs.Comparisons.{AtX, AtY, AtMost, row_for}
 use Rattle.dependence.specs.Systems.{System, IsSystemOf, equal, place_form, systems}
 use Rattle.dependence.specs.Terms.{turned}
 use Rattle.dependence.specs.Legality.{combined, row_form, unmoved, violated, violation, joint_variables, trial}
-use Rattle.dependence.proofs.VerdictLaws.{system_is, over_tried}
+use Rattle.dependence.proofs.VerdictLaws.{system-is, over-tried}
 
-pub flat_append : {X Y : Type 0} (f : X → List Y) (xs ys : List X) → flat_map f (xs ++ ys) ≡ flat_map f xs ++ flat_map f ys
-flat_append f [] ys = refl
-flat_append {Y = Y} f (x ∷ xs) ys = ap (λ (zs : List Y). f x ++ zs) (flat_append f xs ys) ∙ sym (append_assoc (f x) (flat_map f xs) (flat_map f ys))
+pub flat-append : {X Y : Type 0} (f : X → List Y) (xs ys : List X) → flat_map f (xs ++ ys) ≡ flat_map f xs ++ flat_map f ys
+flat-append f [] ys = refl
+flat-append {Y = Y} f (x ∷ xs) ys = ap (λ (zs : List Y). f x ++ zs) (flat-append f xs ys) ∙ sym (append_assoc (f x) (flat_map f xs) (flat_map f ys))
 
 -- a row of the matrix as a form
 pub row_form-is : (t : Table) (b : Block) (l : Line) (row : List ℤ) (x : Affine) → row ≡ l.row → x ≡ combined (depth t) row (map (place_form t b) (range_with_len 0 (depth t))) → x ≡ row_form t b l
 row_form-is t b l row x e f = f ∙ ap (λ (r : List ℤ). combined (depth t) r (map (place_form t b) (range_with_len 0 (depth t)))) e
 
 -- one more row in which nothing moves
-pub more_unmoved : (h : AtMost → Row) (t : Table) (a b : Block) (s : Schedule) (k : ℕ) (x y : Affine) (old before after : List Row) → k < length s.lines → x ≡ row_form t a (line_at s k) → y ≡ row_form t b (line_at s k)
+pub more-unmoved : (h : AtMost → Row) (t : Table) (a b : Block) (s : Schedule) (k : ℕ) (x y : Affine) (old before after : List Row) → k < length s.lines → x ≡ row_form t a (line_at s k) → y ≡ row_form t b (line_at s k)
     → before ≡ old ++ map h (flat_map (unmoved t a b) (take k s.lines)) → after ≡ before ++ map h (equal (AtX x) (AtY y)) → after ≡ old ++ map h (flat_map (unmoved t a b) (take (k + 1) s.lines))
-more_unmoved h t a b s k x y old before after l ex ey e g =
+more-unmoved h t a b s k x y old before after l ex ey e g =
     let front = flat_map (unmoved t a b) (take k s.lines) in
     let here : equal (AtX x) (AtY y) ≡ unmoved t a b (line_at s k) = ap₂ (λ (p q : Affine). equal (AtX p) (AtY q)) ex ey in
     let grown : flat_map (unmoved t a b) (take (k + 1) s.lines) ≡ front ++ unmoved t a b (line_at s k) =
-    ap (flat_map (unmoved t a b)) (take_more s.lines k no_line l) ∙ flat_append (unmoved t a b) (take k s.lines) (line_at s k ∷ []) ∙ ap (λ (zs : List AtMost). front ++ zs) (append-nil (unmoved t a b (line_at s k))) in
+    ap (flat_map (unmoved t a b)) (take_more s.lines k no-line l) ∙ flat-append (unmoved t a b) (take k s.lines) (line_at s k ∷ []) ∙ ap (λ (zs : List AtMost). front ++ zs) (append-nil (unmoved t a b (line_at s k))) in
     g
     ∙ ap₂ (λ (rows : List Row) (cs : List AtMost). rows ++ map h cs) e here
     ∙ append_assoc old (map h front) (map h (unmoved t a b (line_at s k)))
@@ -57,4 +57,4 @@ violation-is t s sys row above nx ny a b x y old before after ea eb enx eny eo e
 
 pub violation-over : (t : Table) (s : Schedule) (sys : System) (row : ℕ) (above : Bool) → IsSystemOf t sys → AllOver (joint_variables t sys) (violation t s sys row above)
 violation-over t s sys row above of =
-    All_from _ (violation t s sys row above) (over_tried t s of.0 (trial sys (record { row = row; above = above })) (system_is t of.0 sys (has_from_contains (systems t of.0) sys of.1)))
+    All-from _ (violation t s sys row above) (over-tried t s of.0 (trial sys (record { row = row; above = above })) (system-is t of.0 sys (has-from-contains (systems t of.0) sys of.1)))

@@ -2,8 +2,8 @@
 use Rattle.std.proofs.Common.{◌≡◌, refl, sym, ap, subst, ◌∙◌, ℕ, suc, ◌<◌, ◌≤◌, ◌+◌, ℤ, pos, ◌+ℤ◌, ◌-ℤ◌, ◌≤ℤ◌, ◌<ℤ◌, Some, None, List, [], ◌∷◌, ◌++◌, length, ◌⊎◌, inl, inr, ⊎_elim, append_assoc, length-append, set, get_or-set_same, get_or-set_other, length-set, arith}
 use Rattle.std.proofs.lemmas.Int.{ints}
 use Rattle.std.proofs.lemmas.Bool.{cases_lt}
-use Rattle.plain_lemmas.proofs.OrderLaws.{cases_int_cmp}
-use Rattle.plain_lemmas.proofs.MembershipLaws.{Has, has_cases, has_right, contains_from_has, has_from_contains, all_has}
+use Rattle.plain_lemmas.proofs.OrderLaws.{cases-int-cmp}
+use Rattle.plain_lemmas.proofs.MembershipLaws.{Has, has-cases, has-right, contains-from-has, has-from-contains, all_has}
 use Rattle.nest_lang.specs.declared.tree.Part.TheVariants.{Head, Pre, Post}
 use Rattle.domain.specs.declared.chunk.Chunk.{Chunk}
 use Rattle.domain.specs.declared.held.HeldWhy.TheVariants.{Many}
@@ -14,7 +14,7 @@ use Rattle.domain.specs.Launches.{IsLaunched}
 use Rattle.domain.specs.Laws.{LaunchedCounters, LaunchedPlaces}
 use Rattle.domain.proofs.NearLaws.{Follows, next-follows}
 use Rattle.domain.proofs.PlaceLaws.{place-counter, place-turns, place-rest}
-use Rattle.domain.proofs.RankLaws.{Stands, stands, has_rank, Kind, AtHead, AtPre, AtPost, kind}
+use Rattle.domain.proofs.RankLaws.{Stands, stands, has-rank, Kind, AtHead, AtPre, AtPost, kind}
 use Rattle.domain.proofs.WithinLaws.{counters-of, turning-of, turns-none, turns-trip, trip-same}
 use Rattle.domain.proofs.LeadLaws.{head-next, plain-place, entered}
 use Rattle.domain.proofs.OriginalLaws.{successor-law, not-back, not-itself, opening-first, opening-last, opening-predicted}
@@ -28,7 +28,7 @@ ordered-suffix R (u ∷ us) vs o = ordered-suffix R us vs o.1
 
 ordered-before : {X : Type 0} (R : X → X → Type 0) (us vs : List X) (x z : X) → Ordered R (us ++ vs) → Has us z → Has vs x → R z x
 ordered-before R [] vs x z o h k = absurd h
-ordered-before {X} R (u ∷ us) vs x z o (inl e) k = subst (λ (v : X). R v x) (sym e) (all_has (R u) (us ++ vs) x o.0 (has_right us vs x k))
+ordered-before {X} R (u ∷ us) vs x z o (inl e) k = subst (λ (v : X). R v x) (sym e) (all_has (R u) (us ++ vs) x o.0 (has-right us vs x k))
 ordered-before R (u ∷ us) vs x z o (inr h) k = ordered-before R us vs x z o.1 h k
 
 -- the counters of an instance are at most n above the chunk's first turn
@@ -48,7 +48,7 @@ module _ (D : ℕ) (t : Table) (is : IsTable D t) (chunk : Chunk) where
       ends = ordered-suffix (Precedes t) us (x ∷ y ∷ vs) order
 
       known : (z : Instance) → Has (x ∷ y ∷ vs) z → Predicted t chunk z
-      known z h = (o.has z).0 (contains_from_has xs z (subst (λ (zs : List Instance). Has zs z) (sym e) (has_right us (x ∷ y ∷ vs) z h)))
+      known z h = (o.has z).0 (contains-from-has xs z (subst (λ (zs : List Instance). Has zs z) (sym e) (has-right us (x ∷ y ∷ vs) z h)))
 
       after : IsSuccessor t chunk x (next t x)
       after = successor-law D t is chunk x (known x (inl refl))
@@ -60,20 +60,20 @@ module _ (D : ℕ) (t : Table) (is : IsTable D t) (chunk : Chunk) where
 
       by : Predicted t chunk (next t x) ⊎ (next t x ≡ opening_at t (chunk.first +ℤ chunk.turns)) → Precedes t (next t x) y → ⊥
       by (inl p) l =
-          let h = subst (λ (zs : List Instance). Has zs (next t x)) e (has_from_contains xs (next t x) ((o.has (next t x)).1 p)) in
+          let h = subst (λ (zs : List Instance). Has zs (next t x)) e (has-from-contains xs (next t x) ((o.has (next t x)).1 p)) in
           ⊎_elim
           (λ k. not-back (original_key t x) (original_key t (next t x)) after.after (ordered-before (Precedes t) us (x ∷ y ∷ vs) x (next t x) order k (inl refl)))
           (λ k. past k l)
-          (has_cases us (x ∷ y ∷ vs) (next t x) h)
+          (has-cases us (x ∷ y ∷ vs) (next t x) h)
       by (inr f) l =
           not-back (original_key t (next t x)) (original_key t y) l (subst (λ (v : Instance). Precedes t y v) (sym f) (opening-last D t is chunk y (known y (inr (inl refl)))))
 
   -- the list begins with the first block at the chunk's first turn
   list-first : (xs vs : List Instance) (x : Instance) → IsOriginal t chunk xs → pos 1 ≤ℤ chunk.turns → xs ≡ x ∷ vs → x ≡ opening_at t chunk.first
-  list-first xs vs x o some e = ⊎_elim (λ f. f) (λ l. absurd (by here l)) (opening-first D t is chunk x ((o.has x).0 (contains_from_has xs x (subst (λ (zs : List Instance). Has zs x) (sym e) (inl refl)))))
+  list-first xs vs x o some e = ⊎_elim (λ f. f) (λ l. absurd (by here l)) (opening-first D t is chunk x ((o.has x).0 (contains-from-has xs x (subst (λ (zs : List Instance). Has zs x) (sym e) (inl refl)))))
     where
       here : Has (x ∷ vs) (opening_at t chunk.first)
-      here = subst (λ (zs : List Instance). Has zs (opening_at t chunk.first)) e (has_from_contains xs (opening_at t chunk.first) ((o.has (opening_at t chunk.first)).1 (opening-predicted D t is chunk chunk.first (omega (arith, ints)) (omega (arith, ints)))))
+      here = subst (λ (zs : List Instance). Has zs (opening_at t chunk.first)) e (has-from-contains xs (opening_at t chunk.first) ((o.has (opening_at t chunk.first)).1 (opening-predicted D t is chunk chunk.first (omega (arith, ints)) (omega (arith, ints)))))
 
       by : Has (x ∷ vs) (opening_at t chunk.first) → Precedes t (opening_at t chunk.first) x → ⊥
       by (inl f) l = not-itself (original_key t x) (subst (λ (v : Instance). Precedes t v x) f l)
@@ -101,7 +101,7 @@ module _ (D : ℕ) (t : Table) (is : IsTable D t) (chunk : Chunk) where
         (subst (Near chunk y) (sym (length-append us (x ∷ []))) (next-near x y (length us) (list-next l.list us vs x y l.original e) h)) z k
 
     pub launched-near : pos 0 ≤ℤ chunk.first → pos 1 ≤ℤ chunk.turns → (x : Instance) → Predicted t chunk x → Near chunk x 65535
-    launched-near low some x p = by l.list refl (has_from_contains l.list x ((l.original.has x).1 p))
+    launched-near low some x p = by l.list refl (has-from-contains l.list x ((l.original.has x).1 p))
       where
         by : (xs : List Instance) → l.list ≡ xs → Has xs x → Near chunk x 65535
         by [] e h = absurd h
@@ -131,7 +131,7 @@ module _ (D : ℕ) (t : Table) (is : IsTable D t) (chunk : Chunk) where
   last-turn x level p here from to some = (head.0 + 1, entered D t is chunk (suc level) (head.0 + 1) other (omega arith) (length-set x.at level (trip t level x.at -ℤ pos 1) ∙ size) turn zeros after.1)
     where
       head : (rank : ℕ) × (rank_of t Head (suc level) ≡ Some rank)
-      head = has_rank t Head (suc level) (is.heads (suc level) (omega arith) (omega arith))
+      head = has-rank t Head (suc level) (is.heads (suc level) (omega arith) (omega arith))
 
       after : (head.0 + 1 < length t.blocks) × (Stands t Pre (suc level) (head.0 + 1) ⊎ Stands t Head (suc (suc level)) (head.0 + 1))
       after = head-next D t is (suc level) head.0 (omega arith) (omega arith) (stands t Head (suc level) head.0 head.1)
@@ -177,7 +177,7 @@ launched_places D t words chunk instances is low some l x p k = by (kind D t is 
     none v e = (omega (arith, ints), omega (arith, ints))
 
     behind : (level : ℕ) → Stands t Post level x.block → 1 ≤ level → level < D → (pos 0 ≤ℤ turns_of (trip t level x.at)) × (turns_of (trip t level x.at) ≤ℤ (chunk.first +ℤ pos 65536))
-    behind level here from to = cases_int_cmp (trip t level x.at) (pos 0)
+    behind level here from to = cases-int-cmp (trip t level x.at) (pos 0)
         (λ h. none (turns_of (trip t level x.at)) (turns-none (trip t level x.at) (omega (arith, ints))))
         (λ h. none (turns_of (trip t level x.at)) (turns-none (trip t level x.at) (omega (arith, ints))))
         (λ h. let found = last-turn D t is chunk x level p here from to (omega (arith, ints)) in
@@ -189,13 +189,13 @@ launched_places D t words chunk instances is low some l x p k = by (kind D t is 
         (omega (arith, ints), omega (arith, ints)))
 
     by : Kind D t is x.block → (pos 0 ≤ℤ place t (block_of t x) x.at k) × (place t (block_of t x) x.at k ≤ℤ (chunk.first +ℤ pos 65536))
-    by (AtHead level from to here text) = near (place t (block_of t x) x.at k) (plain-place D t is x p.is (ap is_post here.part_is) k)
-    by (AtPre level from to here text) = near (place t (block_of t x) x.at k) (plain-place D t is x p.is (ap is_post here.part_is) k)
+    by (AtHead level from to here text) = near (place t (block_of t x) x.at k) (plain-place D t is x p.is (ap is_post here.part-is) k)
+    by (AtPre level from to here text) = near (place t (block_of t x) x.at k) (plain-place D t is x p.is (ap is_post here.part-is) k)
     by (AtPost level from to here text) =
         ⊎_elim (λ h. near (place t (block_of t x) x.at k) (place-counter t (block_of t x) x.at k h))
         (λ h. ⊎_elim (λ m. none (place t (block_of t x) x.at k) (place-rest t (block_of t x) x.at k m))
         (λ m. let c = counters-of t Post level x.block here in let e : k ≡ counters t (block_of t x) = omega arith in let f : level ≡ k = omega arith in
-        subst (λ (v : ℤ). (pos 0 ≤ℤ v) × (v ≤ℤ (chunk.first +ℤ pos 65536))) (sym (place-turns t (block_of t x) x.at k here.part_is e))
+        subst (λ (v : ℤ). (pos 0 ≤ℤ v) × (v ≤ℤ (chunk.first +ℤ pos 65536))) (sym (place-turns t (block_of t x) x.at k here.part-is e))
         (subst (λ (n : ℕ). (pos 0 ≤ℤ turns_of (trip t n x.at)) × (turns_of (trip t n x.at) ≤ℤ (chunk.first +ℤ pos 65536))) f (behind level here from to)))
         (cases_lt (counters t (block_of t x)) k))
         (cases_lt k (counters t (block_of t x)))

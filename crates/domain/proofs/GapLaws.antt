@@ -8,7 +8,7 @@ use Rattle.domain.specs.declared.chunk.Chunk.{Chunk}
 use Rattle.domain.specs.Tables.{Table, Block, repeats, trip, IsTable}
 use Rattle.domain.specs.Instances.{Instance, block_of, counter, turns_of, place, InTurn, Predicted}
 use Rattle.domain.proofs.PlaceLaws.{place-counter, place-turns, place-rest}
-use Rattle.domain.proofs.SpotLaws.{Spot, Agree, Before, upto, by_text, between, agree-more, agree-zeros}
+use Rattle.domain.proofs.SpotLaws.{Spot, Agree, Before, upto, by-text, between, agree-more, agree-zeros}
 use Rattle.domain.proofs.RankLaws.{text_at, text-stands}
 use Rattle.domain.proofs.WithinLaws.{spot, Begins, Within, Outer, Last, Inner, Test, within, places-up, turns-least, turns-trip}
 
@@ -50,7 +50,7 @@ module _ (D : ℕ) (t : Table) (is : IsTable D t) (chunk : Chunk) where
     top z p same after = by (within D t is chunk n at some size turn z p (begins-end n at z same))
       where
         whole : (n < D → place t (block_of t z) z.at n ≡ turns_of (trip t n at)) → ((j : ℕ) → n < j → place t (block_of t z) z.at j ≡ pos 0) → D + D + D + 3 - n < text_at D t is z.block
-        whole here rest = by_text D (end n at) (At z) (agree-end n at (place t (block_of t z) z.at) same here (λ j l m. rest j l)) after
+        whole here rest = by-text D (end n at) (At z) (agree-end n at (place t (block_of t z) z.at) same here (λ j l m. rest j l)) after
 
         least : n < D → turns_of (trip t n at) ≤ℤ place t (block_of t z) z.at n
         least l = subst (λ (v : ℤ). v ≤ℤ place t (block_of t z) z.at n) (end-turns n at) (upto D n (end n at) (At z) l same after)
@@ -111,7 +111,7 @@ module _ (D : ℕ) (t : Table) (is : IsTable D t) (chunk : Chunk) where
             all = agree-zeros D (suc k) (D - suc k) (At z) y (omega arith) (agree-more k (place t (block_of t z) z.at) y.place back here) (λ i m. places-up D t is chunk z p i (omega arith)) (λ i m. zeros i (omega arith)) before
 
             text : text_at D t is z.block < y.text
-            text = by_text D (At z) y (λ i m. all i (omega arith)) before
+            text = by-text D (At z) y (λ i m. all i (omega arith)) before
 
   -- what begins the next turn of an inner loop
   module _ (k : ℕ) (at : List ℤ) (some : 1 ≤ k) (size : length at ≡ D) (turn : InTurn t chunk (suc k) at) (z : Instance) (p : Predicted t chunk z) (begins : Begins D t is chunk k at z) (here : place t (block_of t z) z.at k ≡ counter at k +ℤ pos 1) where

@@ -7,7 +7,7 @@ use Rattle.std.proofs.lemmas.Int.{ints}
 use Rattle.std.proofs.lemmas.Bool.{cases_lt}
 use Rattle.std.proofs.lemmas.List.Sums.{sum_by_push}
 use Rattle.std.proofs.lemmas.Bool.Decides.{nat_tests}
-use Rattle.plain_lemmas.proofs.MembershipLaws.{Has, has_cases, has_left, has_right, contains_from_has, has_from_contains}
+use Rattle.plain_lemmas.proofs.MembershipLaws.{Has, has-cases, has-left, has-right, contains-from-has, has-from-contains}
 use Rattle.std.proofs.lemmas.List.{get_or_default}
 use Rattle.affine.specs.Forms.{AllWithinSize}
 use Rattle.domain.specs.declared.chunk.Chunk.{Chunk}
@@ -105,7 +105,7 @@ module _ (D : ℕ) (t : Table) (is : IsTable D t) (chunk : Chunk) (words : ℤ) 
   }
     where
       none-in : (z : Instance) → Contains [] z → ⊥
-      none-in z h = has_from_contains [] z h
+      none-in z h = has-from-contains [] z h
 
       empty : (us : List Instance) (x : Instance) (vs : List Instance) → [] ≡ us ++ x ∷ vs → ⊥
       empty [] x vs e = cc
@@ -122,7 +122,7 @@ module _ (D : ℕ) (t : Table) (is : IsTable D t) (chunk : Chunk) (words : ℤ) 
     before = w.before ++ x ∷ [];
     count = let a = length-append w.before (x ∷ []) in let b = w.count in omega arith;
     sum = sum_by_push (λ z. block_width (block_of t z)) w.before x ∙ ap (λ n. n + block_width (block_of t x)) w.sum;
-    those = record { ordered = ordered-push (Precedes t) w.before x w.those.ordered (λ z h. ((w.those.has z).0 (contains_from_has w.before z h)).1); has = λ z. (there z, back z) };
+    those = record { ordered = ordered-push (Precedes t) w.before x w.those.ordered (λ z h. ((w.those.has z).0 (contains-from-has w.before z h)).1); has = λ z. (there z, back z) };
     passes = passes-push t words w.before x w.passes f;
     at = law.is;
     size = follows.size ∙ w.size;
@@ -138,8 +138,8 @@ module _ (D : ℕ) (t : Table) (is : IsTable D t) (chunk : Chunk) (words : ℤ) 
 
       there : (z : Instance) → Contains (w.before ++ x ∷ []) z → Predicted t chunk z × Precedes t z (next t x)
       there z h = ⊎_elim
-          (λ k. let both = (w.those.has z).0 (contains_from_has w.before z k) in (both.0, trans z x (next t x) both.1 law.after))
-          (λ k. at-last k) (has_cases w.before (x ∷ []) z (has_from_contains (w.before ++ x ∷ []) z h))
+          (λ k. let both = (w.those.has z).0 (contains-from-has w.before z k) in (both.0, trans z x (next t x) both.1 law.after))
+          (λ k. at-last k) (has-cases w.before (x ∷ []) z (has-from-contains (w.before ++ x ∷ []) z h))
         where
           at-last : Has (x ∷ []) z → Predicted t chunk z × Precedes t z (next t x)
           at-last (inl same) = (subst (Predicted t chunk) (sym same) p, subst (λ (q : Instance). Precedes t q (next t x)) (sym same) law.after)
@@ -147,9 +147,9 @@ module _ (D : ℕ) (t : Table) (is : IsTable D t) (chunk : Chunk) (words : ℤ) 
 
       back : (z : Instance) → Predicted t chunk z × Precedes t z (next t x) → Contains (w.before ++ x ∷ []) z
       back z (q, l) =
-          contains_from_has (w.before ++ x ∷ []) z
-          (⊎_elim (λ k. has_left w.before (x ∷ []) z (has_from_contains w.before z ((w.those.has z).1 (q, k))))
-          (λ k. ⊎_elim (λ same. has_right w.before (x ∷ []) z (inl same))
+          contains-from-has (w.before ++ x ∷ []) z
+          (⊎_elim (λ k. has-left w.before (x ∷ []) z (has-from-contains w.before z ((w.those.has z).1 (q, k))))
+          (λ k. ⊎_elim (λ same. has-right w.before (x ∷ []) z (inl same))
           (λ m. absurd (⊎_elim (λ same. not-itself (original_key t z) (subst (λ (v : Instance). Precedes t z v) (sym same) l)) (λ o. not-back (original_key t z) (original_key t (next t x)) l o) (law.next z q m))) k)
           (precedes-three D t is chunk z x q.is p.is))
 

@@ -5,7 +5,7 @@ use Rattle.std.proofs.lemmas.Int.{ints}
 use Rattle.std.proofs.lemmas.Option.{slice_get_within}
 use Rattle.std.proofs.lemmas.Bool.Decides.{nat_tests}
 use Rattle.plain_lemmas.proofs.IntegerLaws.{int_lt-true, int_lt-false}
-use Rattle.plain_lemmas.proofs.MembershipLaws.{Has, has_from_contains}
+use Rattle.plain_lemmas.proofs.MembershipLaws.{Has, has-from-contains}
 use Rattle.affine.specs.Forms.{Affine, value_at}
 use Rattle.nest_lang.specs.declared.tree.Part.{Part}
 use Rattle.nest_lang.specs.declared.tree.Part.TheVariants.{Head, Pre, Post}
@@ -66,7 +66,7 @@ head-up Head level t at is inner none e =
 
 pub launched-data : (t : Table) (words : ℤ) (chunk : Chunk) (instances : ℕ) (x : Instance) → IsLaunched t words chunk instances → Predicted t chunk x → data_failure t words x ≡ None
 launched-data t words chunk n x l p =
-    let (us, more) = split l.list x (has_from_contains l.list x ((l.original.has x).1 p)) in
+    let (us, more) = split l.list x (has-from-contains l.list x ((l.original.has x).1 p)) in
     let (vs, e) = more in
     passes-data t words us x (l.passes us x vs e)
 

@@ -11,7 +11,7 @@ use Rattle.domain.specs.Steps.{turned}
 use Rattle.domain.proofs.PointLaws.{length-cut, cut-before, cut-after}
 use Rattle.domain.proofs.PlaceLaws.{place-counter, place-zero}
 use Rattle.domain.proofs.SpotLaws.{Spot, Agree, Before}
-use Rattle.domain.proofs.RankLaws.{Stands, stands, has_rank, Kind, AtHead, AtPre, AtPost, kind, text_at, text-stands, ranks-rise, rank-after, outermost-repeats}
+use Rattle.domain.proofs.RankLaws.{Stands, stands, has-rank, Kind, AtHead, AtPre, AtPost, kind, text_at, text-stands, ranks-rise, rank-after, outermost-repeats}
 use Rattle.domain.proofs.WithinLaws.{counters-of, turning-of, head-least, trip-same}
 use Rattle.domain.proofs.GapLaws.{post, end, At, end-counter, next-gap}
 
@@ -62,7 +62,7 @@ module _ (D : ℕ) (t : Table) (is : IsTable D t) where
 
       inner : level < D → (rank + 1 < length t.blocks) × (Stands t Pre level (rank + 1) ⊎ Stands t Head (suc level) (rank + 1))
       inner l =
-          let (j, e) = has_rank t Head (suc level) (is.heads (suc level) (omega arith) (omega arith)) in
+          let (j, e) = has-rank t Head (suc level) (is.heads (suc level) (omega arith) (omega arith)) in
           let there = stands t Head (suc level) j e in
           let a = text-stands D t is Head level rank s in
           let b = text-stands D t is Head (suc level) j there in
@@ -70,7 +70,7 @@ module _ (D : ℕ) (t : Table) (is : IsTable D t) where
 
       innermost : level ≡ D → (rank + 1 < length t.blocks) × (Stands t Pre level (rank + 1) ⊎ Stands t Head (suc level) (rank + 1))
       innermost f =
-          let (j, e) = has_rank t Pre D is.body in
+          let (j, e) = has-rank t Pre D is.body in
           let there = stands t Pre D j e in
           let a = text-stands D t is Head level rank s in
           let b = text-stands D t is Pre D j there in
@@ -78,7 +78,7 @@ module _ (D : ℕ) (t : Table) (is : IsTable D t) where
 
   pub pre-next : (level rank : ℕ) → 1 ≤ level → level < D → Stands t Pre level rank → (rank + 1 < length t.blocks) × Stands t Head (suc level) (rank + 1)
   pre-next level rank from to s =
-      let (j, e) = has_rank t Head (suc level) (is.heads (suc level) (omega arith) (omega arith)) in
+      let (j, e) = has-rank t Head (suc level) (is.heads (suc level) (omega arith) (omega arith)) in
       let there = stands t Head (suc level) j e in
       let a = text-stands D t is Pre level rank s in
       let b = text-stands D t is Head (suc level) j there in
@@ -97,10 +97,10 @@ module _ (D : ℕ) (t : Table) (is : IsTable D t) where
     FirstInner : (here : Stands t Head 2 0) (deep : 2 ≤ D) → First
 
   pub first : First
-  first = by (kind D t is 0 (has some_block.0 some_block.1))
+  first = by (kind D t is 0 (has some-block.0 some-block.1))
     where
-      some_block : (rank : ℕ) × Stands t Pre D rank
-      some_block = let (j, e) = has_rank t Pre D is.body in (j, stands t Pre D j e)
+      some-block : (rank : ℕ) × Stands t Pre D rank
+      some-block = let (j, e) = has-rank t Pre D is.body in (j, stands t Pre D j e)
 
       has : (rank : ℕ) → Stands t Pre D rank → 0 < length t.blocks
       has rank s = let l = s.inside in omega arith
@@ -109,25 +109,25 @@ module _ (D : ℕ) (t : Table) (is : IsTable D t) where
       none : (part : Part) (level rank : ℕ) → Stands t part level rank → text_at D t is rank < text_at D t is 0 → ⊥
       none part level rank s h = let l = ranks-rise D t is rank 0 s.inside h in omega arith
 
-      no_head : 2 ≤ D → 4 < text_at D t is 0 → ⊥
-      no_head deep h =
-          let (j, e) = has_rank t Head 2 (is.heads 2 (omega arith) deep) in
+      no-head : 2 ≤ D → 4 < text_at D t is 0 → ⊥
+      no-head deep h =
+          let (j, e) = has-rank t Head 2 (is.heads 2 (omega arith) deep) in
           let s = stands t Head 2 j e in
           let f = text-stands D t is Head 2 j s in
           none Head 2 j s (omega arith)
 
-      no_body : D + D + 1 < text_at D t is 0 → ⊥
-      no_body h = let f = text-stands D t is Pre D some_block.0 some_block.1 in none Pre D some_block.0 some_block.1 (omega arith)
+      no-body : D + D + 1 < text_at D t is 0 → ⊥
+      no-body h = let f = text-stands D t is Pre D some-block.0 some-block.1 in none Pre D some-block.0 some-block.1 (omega arith)
 
-      at_head : (level : ℕ) → 1 ≤ level → level ≤ D → Stands t Head level 0 → text_at D t is 0 ≡ level + level → (level < 2) ⊎ (2 ≤ level) → (2 < level) ⊎ (level ≤ 2) → First
-      at_head level from to here text (inl l) m = let e : level ≡ 1 = omega arith in let s = subst (λ (n : ℕ). Stands t Head n 0) e here in FirstHead s (outermost-repeats D t is 0 s)
-      at_head level from to here text (inr l) (inl m) = absurd (no_head (omega arith) (omega arith))
-      at_head level from to here text (inr l) (inr m) = let e : level ≡ 2 = omega arith in FirstInner (subst (λ (n : ℕ). Stands t Head n 0) e here) (omega arith)
+      at-head : (level : ℕ) → 1 ≤ level → level ≤ D → Stands t Head level 0 → text_at D t is 0 ≡ level + level → (level < 2) ⊎ (2 ≤ level) → (2 < level) ⊎ (level ≤ 2) → First
+      at-head level from to here text (inl l) m = let e : level ≡ 1 = omega arith in let s = subst (λ (n : ℕ). Stands t Head n 0) e here in FirstHead s (outermost-repeats D t is 0 s)
+      at-head level from to here text (inr l) (inl m) = absurd (no-head (omega arith) (omega arith))
+      at-head level from to here text (inr l) (inr m) = let e : level ≡ 2 = omega arith in FirstInner (subst (λ (n : ℕ). Stands t Head n 0) e here) (omega arith)
 
       by : Kind D t is 0 → First
-      by (AtHead level from to here text) = at_head level from to here text (cases_lt level 2) (cases_lt 2 level)
-      by (AtPre level from to here text) = ⊎_elim (λ l. let e : level ≡ 1 = omega arith in FirstPre (subst (λ (n : ℕ). Stands t Pre n 0) e here)) (λ l. absurd (no_head (omega arith) (omega arith))) (cases_lt level 2)
-      by (AtPost level from to here text) = absurd (no_body (omega arith))
+      by (AtHead level from to here text) = at-head level from to here text (cases_lt level 2) (cases_lt 2 level)
+      by (AtPre level from to here text) = ⊎_elim (λ l. let e : level ≡ 1 = omega arith in FirstPre (subst (λ (n : ℕ). Stands t Pre n 0) e here)) (λ l. absurd (no-head (omega arith) (omega arith))) (cases_lt level 2)
+      by (AtPost level from to here text) = absurd (no-body (omega arith))
 
   -- ---- what begins a turn
 
@@ -135,9 +135,9 @@ module _ (D : ℕ) (t : Table) (is : IsTable D t) where
   plain-place y i plain j = ⊎_elim (λ l. place-counter t (block_of t y) y.at j l) (λ l. place-zero t (block_of t y) y.at j plain l ∙ sym (i.rest j l)) (cases_lt j (counters t (block_of t y)))
 
   pub enters : (n rank : ℕ) (at : List ℤ) → length at ≡ D → ((j : ℕ) → n ≤ j → counter at j ≡ pos 0) → Stands t Pre n rank ⊎ Stands t Head (suc n) rank → IsInstance t (instance rank at) × (is_post (block_at t rank).part ≡ false)
-  enters n rank at size zeros (inl s) = (record { block = s.inside; size = size ∙ sym is.deep; rest = λ k l. let c = counters-of t Pre n rank s in zeros k (omega arith) }, ap is_post s.part_is)
+  enters n rank at size zeros (inl s) = (record { block = s.inside; size = size ∙ sym is.deep; rest = λ k l. let c = counters-of t Pre n rank s in zeros k (omega arith) }, ap is_post s.part-is)
   enters n rank at size zeros (inr s) =
-      (record { block = s.inside; size = size ∙ sym is.deep; rest = λ k l. let c = counters-of t Head (suc n) rank s in let least = head-least (repeats t (suc n - 1)) (suc n) in zeros k (omega arith) }, ap is_post s.part_is)
+      (record { block = s.inside; size = size ∙ sym is.deep; rest = λ k l. let c = counters-of t Head (suc n) rank s in let least = head-least (repeats t (suc n - 1)) (suc n) in zeros k (omega arith) }, ap is_post s.part-is)
 
   module _ (chunk : Chunk) where
     pub entered : (n rank : ℕ) (at : List ℤ) → 1 ≤ n → length at ≡ D → InTurn t chunk n at → ((j : ℕ) → n ≤ j → counter at j ≡ pos 0) → Stands t Pre n rank ⊎ Stands t Head (suc n) rank → Predicted t chunk (instance rank at)

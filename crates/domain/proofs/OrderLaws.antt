@@ -2,7 +2,7 @@
 use Rattle.std.proofs.Common.{◌≡◌, refl, sym, ap₂, subst, ◌∙◌, ℕ, zero, suc, ◌<◌, ◌≤◌, pos, List, [], ◌∷◌, inl, inr, arith, lit≤}
 use Rattle.std.specs.Prelude.{◌^◌}
 use Rattle.std.proofs.lemmas.Cmp.{lists_total, int_cmp_total}
-use Rattle.plain_lemmas.proofs.MembershipLaws.{Has, contains_from_has, has_from_contains, all_has}
+use Rattle.plain_lemmas.proofs.MembershipLaws.{Has, contains-from-has, has-from-contains, all_has}
 use Rattle.domain.specs.Tables.{Table, IsBlock, block_at, level_at, Reaches, stride_size}
 use Rattle.domain.specs.Instances.{Instance, Precedes, Ordered, original_key}
 use Rattle.domain.specs.Examples.{PremisesCanHold, row}
@@ -46,8 +46,8 @@ module _ (t : Table) where
 pub one_list : OneList
 one_list D t chunk xs ys is a b =
     same-lists t xs ys a.ordered b.ordered
-    (λ z h. has_from_contains ys z ((b.has z).1 ((a.has z).0 (contains_from_has xs z h))))
-    (λ z h. has_from_contains xs z ((a.has z).1 ((b.has z).0 (contains_from_has ys z h))))
+    (λ z h. has-from-contains ys z ((b.has z).1 ((a.has z).0 (contains-from-has xs z h))))
+    (λ z h. has-from-contains xs z ((a.has z).1 ((b.has z).0 (contains-from-has ys z h))))
 
 pub premises_can_hold : PremisesCanHold
 premises_can_hold = record {

@@ -12,7 +12,7 @@ use Rattle.domain.specs.Tables.{Table, depth, block_at, repeats, counters, count
 use Rattle.domain.specs.Instances.{InTurn, Instance, instance, block_of, counter, place, padded, IsInstance, Predicted, original_key, Precedes, opening_at, IsSuccessor}
 use Rattle.domain.specs.Steps.{next}
 use Rattle.domain.proofs.PlaceLaws.{place-counter}
-use Rattle.domain.proofs.SpotLaws.{Spot, Agree, Rises, Before, three, less-rises, less-agree, upto, agree-zeros, by_text}
+use Rattle.domain.proofs.SpotLaws.{Spot, Agree, Rises, Before, three, less-rises, less-agree, upto, agree-zeros, by-text}
 use Rattle.domain.proofs.RankLaws.{Kind, AtHead, AtPre, AtPost, kind, text_at, ranks-rise, same-rank}
 use Rattle.domain.proofs.WithinLaws.{counters-of, turning-of, places-up}
 use Rattle.domain.proofs.GapLaws.{At}
@@ -51,7 +51,7 @@ module _ (D : ℕ) (t : Table) (is : IsTable D t) (chunk : Chunk) where
 
   -- an instance is known by its point and its block
   pub same-instance : (x y : Instance) → IsInstance t x → IsInstance t y → Agree D (place t (block_of t x) x.at) (place t (block_of t y) y.at) → text_at D t is x.block ≡ text_at D t is y.block → x ≡ y
-  same-instance x y i j same text = ap₂ instance block at_is
+  same-instance x y i j same text = ap₂ instance block at-is
     where
       block : x.block ≡ y.block
       block = same-rank D t is x.block y.block i.block j.block text
@@ -59,8 +59,8 @@ module _ (D : ℕ) (t : Table) (is : IsTable D t) (chunk : Chunk) where
       counts : counters t (block_of t x) ≡ counters t (block_of t y)
       counts = ap (λ (n : ℕ). counters t (block_at t n)) block
 
-      at_is : x.at ≡ y.at
-      at_is = same-list x.at y.at (i.size ∙ sym j.size) (λ k l. number k l (cases_lt k (counters t (block_of t x))))
+      at-is : x.at ≡ y.at
+      at-is = same-list x.at y.at (i.size ∙ sym j.size) (λ k l. number k l (cases_lt k (counters t (block_of t x))))
         where
           number : (k : ℕ) → k < length x.at → (k < counters t (block_of t x)) ⊎ (counters t (block_of t x) ≤ k) → counter x.at k ≡ counter y.at k
           number k l (inl m) =
@@ -119,7 +119,7 @@ module _ (D : ℕ) (t : Table) (is : IsTable D t) (chunk : Chunk) where
         by : First D t is → IsInstance t (opening_at t turn) × (is_post (block_at t 0).part ≡ false)
         by (FirstHead here while) =
             let c : counters t (block_at t 0) ≡ 1 = counters-of t Head 1 0 here ∙ ap (λ (w : Bool). counters_by Head w 1) (let z : 1 - 1 ≡ 0 = omega arith in ap (repeats t) z ∙ while) in
-            (record { block = here.inside; size = opening-size; rest = λ j l. opening-rest j (omega arith) }, ap is_post here.part_is)
+            (record { block = here.inside; size = opening-size; rest = λ j l. opening-rest j (omega arith) }, ap is_post here.part-is)
         by (FirstPre here) = enters D t is 1 0 (set (replicate (depth t) (pos 0)) 0 turn) (opening-size ∙ is.deep) opening-rest (inl here)
         by (FirstInner here more) = enters D t is 1 0 (set (replicate (depth t) (pos 0)) 0 turn) (opening-size ∙ is.deep) opening-rest (inr here)
 
@@ -145,8 +145,8 @@ module _ (D : ℕ) (t : Table) (is : IsTable D t) (chunk : Chunk) where
   first-place z p = by (kind D t is z.block p.is.block)
     where
       by : Kind D t is z.block → place t (block_of t z) z.at 0 ≡ counter z.at 0
-      by (AtHead level from to here text) = plain-place D t is z p.is (ap is_post here.part_is) 0
-      by (AtPre level from to here text) = plain-place D t is z p.is (ap is_post here.part_is) 0
+      by (AtHead level from to here text) = plain-place D t is z p.is (ap is_post here.part-is) 0
+      by (AtPre level from to here text) = plain-place D t is z p.is (ap is_post here.part-is) 0
       by (AtPost level from to here text) = let c = counters-of t Post level z.block here in place-counter t (block_of t z) z.at 0 (omega arith)
 
   -- nothing precedes the first block at the chunk's first turn
@@ -166,7 +166,7 @@ module _ (D : ℕ) (t : Table) (is : IsTable D t) (chunk : Chunk) where
           let here : place t (block_of t z) z.at 0 ≡ place t (block_at t 0) (set (replicate (depth t) (pos 0)) 0 chunk.first) 0 = omega (arith, ints) in
           let all = agree-zeros D 1 (D - 1) (S z) (S (opening_at t chunk.first)) (omega arith) (λ i l. let g : 0 ≡ i = omega arith in subst (λ (n : ℕ). place t (block_of t z) z.at n ≡ place t (block_at t 0) (set (replicate (depth t) (pos 0)) 0 chunk.first) n) g here)
           (λ i l. places-up D t is chunk z p i l) (λ i l. opening-place chunk.first i ∙ opening-rest chunk.first i l) h in
-          let text = by_text D (S z) (S (opening_at t chunk.first)) (λ i l. all i (omega arith)) h in
+          let text = by-text D (S z) (S (opening_at t chunk.first)) (λ i l. all i (omega arith)) h in
           let r = ranks-rise D t is z.block 0 p.is.block text in
           omega arith
 
@@ -205,5 +205,5 @@ module _ (D : ℕ) (t : Table) (is : IsTable D t) (chunk : Chunk) where
       by z q b (inr (inl e)) = inl (same z q lead.good e.0 e.1)
       by z q b (inr (inr h)) = absurd (lead.gap z q b h)
 
-pub successor_of : (D : ℕ) (t : Table) (x y : Instance) → IsTable D t → y ≡ next t x → (chunk : Chunk) → Predicted t chunk x → IsSuccessor t chunk x y
-successor_of D t x y is e chunk p = subst (IsSuccessor t chunk x) (sym e) (successor-law D t is chunk x p)
+pub successor-of : (D : ℕ) (t : Table) (x y : Instance) → IsTable D t → y ≡ next t x → (chunk : Chunk) → Predicted t chunk x → IsSuccessor t chunk x y
+successor-of D t x y is e chunk p = subst (IsSuccessor t chunk x) (sym e) (successor-law D t is chunk x p)

@@ -88,14 +88,14 @@ padded-post t x v is post inside e =
 counters-post : (t : Table) (b : Block) → b.part ≡ Post → counters t b ≡ b.level
 counters-post t b e = ap (λ (p : Part). counters_by p (repeats t (b.level - 1)) b.level) e
 
-pub padded-post_at : (t : Table) (y : Instance) (d : Block) (v : ℤ) → d ≡ block_of t y → IsInstance t y → d.part ≡ Post → d.level < depth t → v ≡ turns_of (trip t d.level y.at) → set y.at d.level v ≡ padded t y
-padded-post_at t y d v h is post inside e =
+pub padded-post-at : (t : Table) (y : Instance) (d : Block) (v : ℤ) → d ≡ block_of t y → IsInstance t y → d.part ≡ Post → d.level < depth t → v ≡ turns_of (trip t d.level y.at) → set y.at d.level v ≡ padded t y
+padded-post-at t y d v h is post inside e =
     let n : counters t (block_of t y) ≡ d.level = ap (counters t) (sym h) ∙ counters-post t d post in
     ap (λ (k : ℕ). set y.at k v) (sym n)
     ∙ padded-post t y v is (ap (λ (b : Block). b.part) (sym h) ∙ post) (omega (arith, n)) (e ∙ ap (λ (k : ℕ). turns_of (trip t k y.at)) (sym n))
 
-pub padded-plain_at : (t : Table) (y : Instance) (d : Block) → d ≡ block_of t y → IsInstance t y → is_post d.part ≡ false → y.at ≡ padded t y
-padded-plain_at t y d h is plain = padded-plain t y is (ap (λ (b : Block). is_post b.part) (sym h) ∙ plain)
+pub padded-plain-at : (t : Table) (y : Instance) (d : Block) → d ≡ block_of t y → IsInstance t y → is_post d.part ≡ false → y.at ≡ padded t y
+padded-plain-at t y d h is plain = padded-plain t y is (ap (λ (b : Block). is_post b.part) (sym h) ∙ plain)
 
 pub not-post : (p : Part) → (p ≡ Post → ⊥) → is_post p ≡ false
 not-post Head h = refl

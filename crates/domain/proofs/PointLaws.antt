@@ -24,18 +24,18 @@ cut-after zero (x ∷ xs) (suc k) l = cut-after zero xs k (omega arith)
 cut-after (suc n) (x ∷ xs) zero l = absurd (omega arith)
 cut-after (suc n) (x ∷ xs) (suc k) l = cut-after n xs k (omega arith)
 
-pub cut-set_after : (n i : ℕ) (v : ℤ) (xs : List ℤ) → n ≤ i → cut n (set xs i v) ≡ cut n xs
-cut-set_after n i v [] l = refl
-cut-set_after zero zero v (x ∷ xs) l = refl
-cut-set_after zero (suc i) v (x ∷ xs) l = ap (λ (zs : List ℤ). pos 0 ∷ zs) (cut-set_after zero i v xs (omega arith))
-cut-set_after (suc n) zero v (x ∷ xs) l = absurd (omega arith)
-cut-set_after (suc n) (suc i) v (x ∷ xs) l = ap (λ (zs : List ℤ). x ∷ zs) (cut-set_after n i v xs (omega arith))
+pub cut-set-after : (n i : ℕ) (v : ℤ) (xs : List ℤ) → n ≤ i → cut n (set xs i v) ≡ cut n xs
+cut-set-after n i v [] l = refl
+cut-set-after zero zero v (x ∷ xs) l = refl
+cut-set-after zero (suc i) v (x ∷ xs) l = ap (λ (zs : List ℤ). pos 0 ∷ zs) (cut-set-after zero i v xs (omega arith))
+cut-set-after (suc n) zero v (x ∷ xs) l = absurd (omega arith)
+cut-set-after (suc n) (suc i) v (x ∷ xs) l = ap (λ (zs : List ℤ). x ∷ zs) (cut-set-after n i v xs (omega arith))
 
 -- a list that is 0 from a place on is its own cut
-pub cut_same : (n : ℕ) (xs : List ℤ) → ((k : ℕ) → n ≤ k → k < length xs → get_or xs k (pos 0) ≡ pos 0) → cut n xs ≡ xs
-cut_same n [] h = refl
-cut_same zero (x ∷ xs) h = ap₂ (λ (z : ℤ) (zs : List ℤ). z ∷ zs) (sym (h 0 (omega arith) (omega arith))) (cut_same zero xs (λ k from to. h (suc k) (omega arith) (omega arith)))
-cut_same (suc n) (x ∷ xs) h = ap (λ (zs : List ℤ). x ∷ zs) (cut_same n xs (λ k from to. h (suc k) (omega arith) (omega arith)))
+pub cut-same : (n : ℕ) (xs : List ℤ) → ((k : ℕ) → n ≤ k → k < length xs → get_or xs k (pos 0) ≡ pos 0) → cut n xs ≡ xs
+cut-same n [] h = refl
+cut-same zero (x ∷ xs) h = ap₂ (λ (z : ℤ) (zs : List ℤ). z ∷ zs) (sym (h 0 (omega arith) (omega arith))) (cut-same zero xs (λ k from to. h (suc k) (omega arith) (omega arith)))
+cut-same (suc n) (x ∷ xs) h = ap (λ (zs : List ℤ). x ∷ zs) (cut-same n xs (λ k from to. h (suc k) (omega arith) (omega arith)))
 
 set-zero : (xs : List ℤ) (i k : ℕ) → get_or xs k (pos 0) ≡ pos 0 → get_or (set xs i (pos 0)) k (pos 0) ≡ pos 0
 set-zero [] i k e = e
@@ -50,8 +50,8 @@ set-here (x ∷ xs) zero = refl
 set-here (x ∷ xs) (suc i) = set-here xs i
 
 -- one more 0
-pub zeros_more : (n i : ℕ) (xs : List ℤ) → ((k : ℕ) → n ≤ k → k < i → get_or xs k (pos 0) ≡ pos 0) → (k : ℕ) → n ≤ k → k < i + 1 → get_or (set xs i (pos 0)) k (pos 0) ≡ pos 0
-zeros_more n i xs h k from to = at (cases_lt k i)
+pub zeros-more : (n i : ℕ) (xs : List ℤ) → ((k : ℕ) → n ≤ k → k < i → get_or xs k (pos 0) ≡ pos 0) → (k : ℕ) → n ≤ k → k < i + 1 → get_or (set xs i (pos 0)) k (pos 0) ≡ pos 0
+zeros-more n i xs h k from to = at (cases_lt k i)
   where
     at : (k < i) ⊎ (i ≤ k) → get_or (set xs i (pos 0)) k (pos 0) ≡ pos 0
     at (inl l) = set-zero xs i k (h k from l)
@@ -64,14 +64,14 @@ dot-zero [] ys = refl
 dot-zero (x ∷ xs) [] = refl
 dot-zero (x ∷ xs) (y ∷ ys) = rw (zero-*ℤ y, dot-zero xs ys) refl
 
-dot-cut_zero : (xs ys : List ℤ) → dot xs (cut zero ys) ≡ pos 0
-dot-cut_zero [] ys = refl
-dot-cut_zero (x ∷ xs) [] = refl
-dot-cut_zero (x ∷ xs) (y ∷ ys) = rw (*ℤ-zero x, dot-cut_zero xs ys) refl
+dot-cut-zero : (xs ys : List ℤ) → dot xs (cut zero ys) ≡ pos 0
+dot-cut-zero [] ys = refl
+dot-cut-zero (x ∷ xs) [] = refl
+dot-cut-zero (x ∷ xs) (y ∷ ys) = rw (*ℤ-zero x, dot-cut-zero xs ys) refl
 
 -- the first coefficients at a point are all coefficients at its first numbers
 pub dot-cut : (n : ℕ) (xs ys : List ℤ) → dot (cut n xs) ys ≡ dot xs (cut n ys)
-dot-cut zero xs ys = dot-zero xs ys ∙ sym (dot-cut_zero xs ys)
+dot-cut zero xs ys = dot-zero xs ys ∙ sym (dot-cut-zero xs ys)
 dot-cut (suc n) [] ys = refl
 dot-cut (suc n) (x ∷ xs) [] = refl
 dot-cut (suc n) (x ∷ xs) (y ∷ ys) = rw (dot-cut n xs ys) refl

@@ -30,8 +30,8 @@ same_part-self Post = refl
 -- a block of that rank, part and level
 pub record Stands (t : Table) (part : Part) (level rank : ℕ) : Type 0 where
   pub inside : rank < length t.blocks
-  pub part_is : (block_at t rank).part ≡ part
-  pub level_is : (block_at t rank).level ≡ level
+  pub part-is : (block_at t rank).part ≡ part
+  pub level-is : (block_at t rank).level ≡ level
 
 pub stands : (t : Table) (part : Part) (level rank : ℕ) → rank_of t part level ≡ Some rank → Stands t part level rank
 stands t part level rank e =
@@ -40,22 +40,22 @@ stands t part level rank e =
     let second = tests.1 in
     record {
       inside = found.0;
-      part_is = same_part-exact (block_at t rank).part part tests.0;
-      level_is = grind (arith, nat_tests);
+      part-is = same_part-exact (block_at t rank).part part tests.0;
+      level-is = grind (arith, nat_tests);
     }
 
 some-rank : (o : Option ℕ) → is_some o ≡ true → (rank : ℕ) × (o ≡ Some rank)
 some-rank None h = absurd (cc)
 some-rank (Some rank) h = (rank, refl)
 
-pub has_rank : (t : Table) (part : Part) (level : ℕ) → is_some (rank_of t part level) ≡ true → (rank : ℕ) × (rank_of t part level ≡ Some rank)
-has_rank t part level h = some-rank (rank_of t part level) h
+pub has-rank : (t : Table) (part : Part) (level : ℕ) → is_some (rank_of t part level) ≡ true → (rank : ℕ) × (rank_of t part level ≡ Some rank)
+has-rank t part level h = some-rank (rank_of t part level) h
 
 is_block-here : (t : Table) (part : Part) (level rank : ℕ) → Stands t part level rank → is_block part level (block_at t rank) ≡ true
 is_block-here t part level rank s =
-    let level_is = s.level_is in
+    let level-is = s.level-is in
     let same : nat_eq (block_at t rank).level level ≡ true = grind (arith, nat_tests) in
-    ap (λ (p : Part). same_part p part && nat_eq (block_at t rank).level level) s.part_is ∙ ap (λ (b : Bool). b && nat_eq (block_at t rank).level level) (same_part-self part) ∙ same
+    ap (λ (p : Part). same_part p part && nat_eq (block_at t rank).level level) s.part-is ∙ ap (λ (b : Bool). b && nat_eq (block_at t rank).level level) (same_part-self part) ∙ same
 
 no-position : {X : Type 0} (p : X → Bool) (xs : List X) (d : X) (k : ℕ) → k < length xs → p (get_or xs k d) ≡ true → position p xs ≡ None → ⊥
 no-position p xs d k l e h =
@@ -93,7 +93,7 @@ module _ (D : ℕ) (t : Table) (is : IsTable D t) where
   same-rank i j l m h = ⊎_elim (λ n. absurd (let r = is.rising i j n m in omega arith)) (λ n. ⊎_elim (λ o. absurd (let r = is.rising j i o l in omega arith)) (λ o. omega arith) (cases_lt j i)) (cases_lt i j)
 
   pub text-stands : (part : Part) (level rank : ℕ) → Stands t part level rank → text_at rank ≡ text_place_by D part level
-  text-stands part level rank s = ap (λ (p : Part). text_place_by D p (block_at t rank).level) s.part_is ∙ ap (text_place_by D part) s.level_is
+  text-stands part level rank s = ap (λ (p : Part). text_place_by D p (block_at t rank).level) s.part-is ∙ ap (text_place_by D part) s.level-is
 
   -- a block by its part: where it stands, and that it is one of D loops
   pub data Kind (rank : ℕ) : Type 0 where
@@ -108,9 +108,9 @@ module _ (D : ℕ) (t : Table) (is : IsTable D t) where
       b = is.blocks rank l
 
       at : (p : Part) → (block_at t rank).part ≡ p → Kind rank
-      at Head e = let s : Stands t Head (block_at t rank).level rank = record { inside = l; part_is = e; level_is = refl } in AtHead (block_at t rank).level (is.blocks rank l).from (is.blocks rank l).to s (text-stands Head (block_at t rank).level rank s)
-      at Pre e = let s : Stands t Pre (block_at t rank).level rank = record { inside = l; part_is = e; level_is = refl } in AtPre (block_at t rank).level (is.blocks rank l).from (is.blocks rank l).to s (text-stands Pre (block_at t rank).level rank s)
-      at Post e = let s : Stands t Post (block_at t rank).level rank = record { inside = l; part_is = e; level_is = refl } in AtPost (block_at t rank).level (is.blocks rank l).from ((is.blocks rank l).outer e) s (text-stands Post (block_at t rank).level rank s)
+      at Head e = let s : Stands t Head (block_at t rank).level rank = record { inside = l; part-is = e; level-is = refl } in AtHead (block_at t rank).level (is.blocks rank l).from (is.blocks rank l).to s (text-stands Head (block_at t rank).level rank s)
+      at Pre e = let s : Stands t Pre (block_at t rank).level rank = record { inside = l; part-is = e; level-is = refl } in AtPre (block_at t rank).level (is.blocks rank l).from (is.blocks rank l).to s (text-stands Pre (block_at t rank).level rank s)
+      at Post e = let s : Stands t Post (block_at t rank).level rank = record { inside = l; part-is = e; level-is = refl } in AtPost (block_at t rank).level (is.blocks rank l).from ((is.blocks rank l).outer e) s (text-stands Post (block_at t rank).level rank s)
 
   -- the outermost head is there for a `while` alone
   pub outermost-repeats : (rank : ℕ) → Stands t Head 1 rank → repeats t 0 ≡ true

@@ -19,7 +19,7 @@ use Rattle.nest_lang.specs.Blocks.{present_blocks, outermost, opening, closing, 
 use Rattle.nest_lang.specs.Blocks.{rank_of as nest_rank}
 use Rattle.nest_lang.specs.BlockLaws.{IsPresentHead, IsPresentPart}
 use Rattle.nest_lang.specs.Rules.{strides, has_statements, loop_keeps, loops_keep, NestKeeps, LoopKeeps}
-use Rattle.nest_lang.proofs.Ranks.{Each, Rise, present-rises, ranks-are_numbers, present_blocks-have_ranks}
+use Rattle.nest_lang.proofs.Ranks.{Each, Rise, present-rises, ranks-are-numbers, present_blocks-have-ranks}
 use Rattle.nest_lang.proofs.Ranks.{text_place as nest_place}
 use Rattle.domain.specs.declared.table.LoopKind.{LoopKind}
 use Rattle.domain.specs.Tables.{Table, Access, Level, IsBlock, IsTable, Reaches, block_at, level_at, is_block, is_while, no_block, no_level, rank_of, stride_size, text_place, text_place_by}
@@ -49,30 +49,30 @@ module _ {X Y : Type 0} (p : X → Bool) (q : Y → Bool) (dx : X) (dy : Y) wher
       ap (λ (n : ℕ). if nat_lt n (length xs) then Some n else None) (places-alike xs ys e same) ∙ ap (λ (m : ℕ). if nat_lt (position_or_len q ys) m then Some (position_or_len q ys) else None) e
 
 -- ---- lists of blocks in order
-no_ref : BlockRef
-no_ref = block_ref part.Head 0
+no-ref : BlockRef
+no-ref = block_ref part.Head 0
 
-each-at : (P : BlockRef → Type 0) (xs : List BlockRef) (k : ℕ) → Each P xs → k < length xs → P (get_or xs k no_ref)
+each-at : (P : BlockRef → Type 0) (xs : List BlockRef) (k : ℕ) → Each P xs → k < length xs → P (get_or xs k no-ref)
 each-at P [] k all h = absurd (omega arith)
 each-at P (x ∷ xs) zero all h = all.0
 each-at P (x ∷ xs) (suc k) all h = each-at P xs k all.1 (omega arith)
 
-rise-at : (P : BlockRef → BlockRef → Type 0) (xs : List BlockRef) (i j : ℕ) → Rise P xs → i < j → j < length xs → P (get_or xs i no_ref) (get_or xs j no_ref)
+rise-at : (P : BlockRef → BlockRef → Type 0) (xs : List BlockRef) (i j : ℕ) → Rise P xs → i < j → j < length xs → P (get_or xs i no-ref) (get_or xs j no-ref)
 rise-at P [] i j rise h l = absurd (omega arith)
 rise-at P (x ∷ xs) i zero rise h l = absurd (omega arith)
 rise-at P (x ∷ xs) zero (suc j) rise h l = each-at (P x) xs j rise.0 (omega arith)
 rise-at P (x ∷ xs) (suc i) (suc j) rise h l = rise-at P xs i j rise.1 (omega arith) (omega arith)
 
 -- ---- how many blocks there are
-if_any-short : (by : Part) (level : ℕ) (block : List Stmt) → length (block_if_any by level block) ≤ 1
-if_any-short by level [] = omega arith
-if_any-short by level (x ∷ xs) = omega arith
+if-any-short : (by : Part) (level : ℕ) (block : List Stmt) → length (block_if_any by level block) ≤ 1
+if-any-short by level [] = omega arith
+if-any-short by level (x ∷ xs) = omega arith
 
 opening-short : (level : ℕ) (ls : List Loop) → length (opening level ls) ≤ length ls + length ls
 opening-short level [] = omega arith
 opening-short level (l ∷ ls) =
     let more = opening-short (level + 1) ls in
-    let one = if_any-short Pre level l.pre in
+    let one = if-any-short Pre level l.pre in
     let sum = length-append (block_if_any Pre level l.pre) (opening (level + 1) ls) in
     omega arith
 
@@ -80,7 +80,7 @@ closing-short : (level : ℕ) (ls : List Loop) → length (closing level ls) ≤
 closing-short level [] = omega arith
 closing-short level (l ∷ ls) =
     let more = closing-short (level + 1) ls in
-    let one = if_any-short Post level l.post in
+    let one = if-any-short Post level l.post in
     let sum = length-append (closing (level + 1) ls) (block_if_any Post level l.post) in
     omega arith
 
@@ -91,7 +91,7 @@ outermost-short (head.While condition) = omega arith
 parts-short : (l : Loop) (ls : List Loop) → length ls ≤ 5 → length (outermost l.head ++ block_if_any Pre 1 l.pre ++ opening 2 ls ++ closing 1 (l ∷ ls)) ≤ 18
 parts-short l ls few =
     let a = outermost-short l.head in
-    let b = if_any-short Pre 1 l.pre in
+    let b = if-any-short Pre 1 l.pre in
     let c = opening-short 2 ls in
     let d = closing-short 1 (l ∷ ls) in
     let s = length-append (outermost l.head ++ block_if_any Pre 1 l.pre ++ opening 2 ls) (closing 1 (l ∷ ls)) in
@@ -132,25 +132,25 @@ places-same D part.Post level = refl
 -- ---- the blocks of the table of a nest
 module _ (scalars : ℕ) (loops : List Loop) (t : Table) (of : IsTableOf scalars loops t) where
   abbrev named : ℕ → BlockRef
-  named rank = get_or (present_blocks loops) rank no_ref
+  named rank = get_or (present_blocks loops) rank no-ref
 
   found : (rank : ℕ) → rank < length t.blocks → slice_get (present_blocks loops) rank ≡ Some (named rank)
-  found rank h = slice_get-get_or (present_blocks loops) rank no_ref (let e = of.count in omega arith)
+  found rank h = slice_get-get_or (present_blocks loops) rank no-ref (let e = of.count in omega arith)
 
   is : (rank : ℕ) → rank < length t.blocks → IsBlockOf scalars loops (named rank) (block_at t rank)
   is rank h = of.each rank (named rank) (found rank h)
 
   pub ranks-same : (by : Part) (level : ℕ) → rank_of t by level ≡ nest_rank loops (block_ref by level)
   ranks-same by level =
-      positions-alike (is_block by level) (λ (b : BlockRef). same_block b (block_ref by level)) no_block no_ref t.blocks (present_blocks loops) of.count
+      positions-alike (is_block by level) (λ (b : BlockRef). same_block b (block_ref by level)) no_block no-ref t.blocks (present_blocks loops) of.count
       (λ k h. let b = is k h in ap (λ (z : Part). same_part z by && nat_eq (block_at t k).level level) b.part ∙ ap (λ (n : ℕ). same_part (named k).part by && nat_eq n level) b.level)
 
   present : (rank : ℕ) → rank < length t.blocks → (l : Loop) × (loop_at loops (named rank).level ≡ Some l) × IsPresentPart (named rank).part (named rank).level l
-  present rank h = (present_blocks-have_ranks loops (named rank)).1 (rank, (ranks-are_numbers loops (named rank) rank).1 (found rank h))
+  present rank h = (present_blocks-have-ranks loops (named rank)).1 (rank, (ranks-are-numbers loops (named rank) rank).1 (found rank h))
 
   ranked : (by : Part) (level : ℕ) (l : Loop) → loop_at loops level ≡ Some l → IsPresentPart by level l → is_some (rank_of t by level) ≡ true
   ranked by level l e h =
-      let r = (present_blocks-have_ranks loops (block_ref by level)).0 (l, e, h) in
+      let r = (present_blocks-have-ranks loops (block_ref by level)).0 (l, e, h) in
       ap (λ (o : Option ℕ). is_some o) (ranks-same by level ∙ r.1)
 
 pub ranks_of_nest : RanksOfNest
@@ -165,7 +165,7 @@ part-accesses-short scalars level l part.Post k = k.post.accesses.1
 -- a block of a nest that keeps the rules has at most 64 accesses
 pub accesses-short : (scalars : ℕ) (loops : List Loop) (rank : ℕ) (block : BlockRef) → NestKeeps scalars loops → slice_get (present_blocks loops) rank ≡ Some block → length (accesses_of loops block) ≤ 64
 accesses-short scalars loops rank block keeps e =
-    let p = (present_blocks-have_ranks loops block).1 (rank, (ranks-are_numbers loops block rank).1 e) in
+    let p = (present_blocks-have-ranks loops block).1 (rank, (ranks-are-numbers loops block rank).1 e) in
     subst (λ (o : Option Loop). length (accesses_by block.part o) ≤ 64) (sym p.1) (part-accesses-short scalars block.level p.0 block.part (keeps.each block.level p.0 p.1))
 
 -- ---- the table of a nest that keeps the rules
@@ -176,8 +176,8 @@ module _ (scalars : ℕ) (few : scalars ≤ 16) (l : Loop) (ls : List Loop) (t :
   abbrev all : List Loop
   all = l ∷ ls
 
-  abbrev ref_of : ℕ → BlockRef
-  ref_of rank = named scalars all t of rank
+  abbrev ref-of : ℕ → BlockRef
+  ref-of rank = named scalars all t of rank
 
   outer-post : (by : Part) (level : ℕ) (m : Loop) → loop_at all level ≡ Some m → IsPresentPart by level m → by ≡ Post → level < D
   outer-post part.Head level m e h is = absurd (cc)
@@ -197,23 +197,23 @@ module _ (scalars : ℕ) (few : scalars ≤ 16) (l : Loop) (ls : List Loop) (t :
   block rank h =
       let b = is scalars all t of rank h in
       let p = present scalars all t of rank h in
-      let range = loop_at-within all (ref_of rank).level p.0 p.1 in
-      let short : length (accesses_of all (ref_of rank)) ≤ 64 =
-      subst (λ (o : Option Loop). length (accesses_by (ref_of rank).part o) ≤ 64) (sym p.1) (part-accesses-short scalars (ref_of rank).level p.0 (ref_of rank).part (keeps.each (ref_of rank).level p.0 p.1)) in
-      let count : length (block_at t rank).accesses ≡ length (accesses_of all (ref_of rank)) =
-      sym (length-map (block_at t rank).accesses (λ (a : Access). a.stores)) ∙ ap (λ (xs : List Bool). length xs) b.accesses ∙ length-map (accesses_of all (ref_of rank)) (λ (a : NestAccess). is_store a.kind) in
+      let range = loop_at-within all (ref-of rank).level p.0 p.1 in
+      let short : length (accesses_of all (ref-of rank)) ≤ 64 =
+      subst (λ (o : Option Loop). length (accesses_by (ref-of rank).part o) ≤ 64) (sym p.1) (part-accesses-short scalars (ref-of rank).level p.0 (ref-of rank).part (keeps.each (ref-of rank).level p.0 p.1)) in
+      let count : length (block_at t rank).accesses ≡ length (accesses_of all (ref-of rank)) =
+      sym (length-map (block_at t rank).accesses (λ (a : Access). a.stores)) ∙ ap (λ (xs : List Bool). length xs) b.accesses ∙ length-map (accesses_of all (ref-of rank)) (λ (a : NestAccess). is_store a.kind) in
       record {
         from = subst (λ (n : ℕ). 1 ≤ n) (sym b.level) range.0;
         to = subst (λ (n : ℕ). n ≤ D) (sym b.level) range.1;
         scalars = subst (λ (n : ℕ). n ≤ 16) (sym b.forms) few;
         accesses = omega arith;
-        outer = λ post. subst (λ (n : ℕ). n < D) (sym b.level) (outer-post (ref_of rank).part (ref_of rank).level p.0 p.1 p.2 (sym b.part ∙ post));
+        outer = λ post. subst (λ (n : ℕ). n < D) (sym b.level) (outer-post (ref-of rank).part (ref-of rank).level p.0 p.1 p.2 (sym b.part ∙ post));
       }
 
-  place : (rank : ℕ) → rank < length t.blocks → text_place D (block_at t rank) ≡ nest_place D (ref_of rank).part (ref_of rank).level
+  place : (rank : ℕ) → rank < length t.blocks → text_place D (block_at t rank) ≡ nest_place D (ref-of rank).part (ref-of rank).level
   place rank h =
       let b = is scalars all t of rank h in
-      ap (λ (z : Part). text_place_by D z (block_at t rank).level) b.part ∙ ap (text_place_by D (ref_of rank).part) b.level ∙ places-same D (ref_of rank).part (ref_of rank).level
+      ap (λ (z : Part). text_place_by D z (block_at t rank).level) b.part ∙ ap (text_place_by D (ref-of rank).part) b.level ∙ places-same D (ref-of rank).part (ref-of rank).level
 
   rising : (i j : ℕ) → i < j → j < length t.blocks → text_place D (block_at t i) < text_place D (block_at t j)
   rising i j h within =
@@ -239,7 +239,7 @@ module _ (scalars : ℕ) (few : scalars ≤ 16) (l : Loop) (ls : List Loop) (t :
       at : (o : Option ℕ) → nest_rank all (block_ref part.Head 1) ≡ o → is_some (rank_of t part.Head 1) ≡ false
       at None q = ap (λ (o : Option ℕ). is_some o) (ranks-same scalars all t of part.Head 1 ∙ q)
       at (Some r) q =
-          let p = (present_blocks-have_ranks all (block_ref part.Head 1)).1 (r, q) in
+          let p = (present_blocks-have-ranks all (block_ref part.Head 1)).1 (r, q) in
           let first : l ≡ p.0 = (let f = p.1 in cc) in
           let two : 2 ≤ 1 = subst (λ (h : Head). IsPresentHead h 1) (ap (λ (z : Loop). z.head) (sym first) ∙ e) p.2 in
           absurd (omega arith)

@@ -4,7 +4,7 @@ use Rattle.std.specs.List.{range_with_len}
 use Rattle.std.specs.Cmp.Lexicographic.{slice_cmp}
 use Rattle.std.proofs.lemmas.Int.{ints}
 use Rattle.std.proofs.lemmas.Bool.{cases_lt}
-use Rattle.plain_lemmas.proofs.OrderLaws.{cases_int_cmp, ordering_then-same, ordering_then-less}
+use Rattle.plain_lemmas.proofs.OrderLaws.{cases-int-cmp, ordering_then-same, ordering_then-less}
 
 pub record Spot : Type 0 where
   pub place : ℕ → ℤ
@@ -34,7 +34,7 @@ pub compared : (n : ℕ) (p q : ℕ → ℤ) → (Agree n p q) ⊎ (Rises n p q 
 compared zero p q = inl (λ i l. absurd (omega arith))
 compared (suc n) p q =
     ⊎_elim
-    (λ same. cases_int_cmp (p n) (q n)
+    (λ same. cases-int-cmp (p n) (q n)
     (λ less. inr (inl (record { index = n; inside = omega arith; same = same; less = less })))
     (λ e. inl (agree-more n p q same e))
     (λ less. inr (inr (record { index = n; inside = omega arith; same = agree-sym n p q same; less = less }))))
@@ -68,9 +68,9 @@ upto n k a b l same (inl r) = at (cases_lt r.index k) (cases_lt k r.index)
     at (inr m) (inr o) = let e : r.index ≡ k = omega arith in let f = ap a.place e in let g = ap b.place e in let less = r.less in omega (arith, ints)
 
 -- behind the same points the places decide
-pub by_text : (n : ℕ) (a b : Spot) → Agree n a.place b.place → Before n a b → a.text < b.text
-by_text n a b same (inr h) = h.1
-by_text n a b same (inl r) = let e = same r.index r.inside in let less = r.less in absurd (omega (arith, ints))
+pub by-text : (n : ℕ) (a b : Spot) → Agree n a.place b.place → Before n a b → a.text < b.text
+by-text n a b same (inr h) = h.1
+by-text n a b same (inl r) = let e = same r.index r.inside in let less = r.less in absurd (omega (arith, ints))
 
 -- what lies between two spots that begin alike begins so too
 pub between : (n k : ℕ) (a z b : Spot) → k ≤ n → Agree k a.place b.place → Before n a z → Before n z b → Agree k a.place z.place

@@ -5,8 +5,8 @@ use Rattle.std.proofs.lemmas.Int.{ints}
 use Rattle.std.proofs.lemmas.Bool.{cases_lt}
 use Rattle.std.proofs.lemmas.Option.{slice_get_within}
 use Rattle.std.proofs.lemmas.List.Elements.{Contains-append_left, Contains-append_right, Contains-append_cases}
-use Rattle.plain_lemmas.proofs.OrderLaws.{cases_int_cmp}
-use Rattle.plain_lemmas.proofs.MembershipLaws.{has_from_contains, contains_from_has}
+use Rattle.plain_lemmas.proofs.OrderLaws.{cases-int-cmp}
+use Rattle.plain_lemmas.proofs.MembershipLaws.{has-from-contains, contains-from-has}
 use Rattle.std.specs.List.Sorted.{IsStrictlyIncreasing}
 use Rattle.domain.specs.Tables.{Table, Access, access_at}
 use Rattle.domain.specs.Instances.{Instance, block_of}
@@ -19,7 +19,7 @@ pub gains-same : (P Q : ℕ → Type 0) (xs ys : List ℕ) → ((a : ℕ) → P 
 gains-same P Q xs ys same g a = (λ h. ⊎_elim inl (λ p. inr ((same a).0 p)) ((g a).0 h), λ h. (g a).1 (⊎_elim inl (λ q. inr ((same a).1 q)) h))
 
 alone : (y a : ℕ) → Contains (y ∷ []) a → a ≡ y
-alone y a h = ⊎_elim (λ e. e) (λ z. absurd z) (has_from_contains (y ∷ []) a h)
+alone y a h = ⊎_elim (λ e. e) (λ z. absurd z) (has-from-contains (y ∷ []) a h)
 
 pub gains-push : (xs ys : List ℕ) (from to : ℕ) → from ≤ to → Gains (λ a. (from ≤ a) × (a < to)) xs ys → Gains (λ a. (from ≤ a) × (a < to + 1)) xs (ys ++ to ∷ [])
 gains-push xs ys from to le g a = (
@@ -28,7 +28,7 @@ gains-push xs ys from to le g a = (
       (λ k. Contains-append_left ys (to ∷ []) a ((g a).1 (inl k)))
       (λ p. let low = p.0 in let high = p.1 in ⊎_elim
       (λ l. Contains-append_left ys (to ∷ []) a ((g a).1 (inr (low, l))))
-      (λ l. let e : a ≡ to = omega arith in Contains-append_right ys (to ∷ []) a (contains_from_has (to ∷ []) a (inl e)))
+      (λ l. let e : a ≡ to = omega arith in Contains-append_right ys (to ∷ []) a (contains-from-has (to ∷ []) a (inl e)))
       (cases_lt a to)) h,
 )
 
@@ -46,7 +46,7 @@ between line low high first end words em hf he a = (there, back)
     there : (first ≤ a) × (a < end) → (((line +ℤ low) ≤ℤ pos a) × (pos a ≤ℤ (line +ℤ high))) × (a < words)
     there (f, g) =
         let w : a < words = omega arith in
-        (((hf a w).0 f, cases_int_cmp (line +ℤ high) (pos a) (λ l. absurd (let e = (he a w).1 (omega (arith, ints)) in omega arith)) (λ e. omega (arith, ints)) (λ m. omega (arith, ints))), w)
+        (((hf a w).0 f, cases-int-cmp (line +ℤ high) (pos a) (λ l. absurd (let e = (he a w).1 (omega (arith, ints)) in omega arith)) (λ e. omega (arith, ints)) (λ m. omega (arith, ints))), w)
 
     back : (((line +ℤ low) ≤ℤ pos a) × (pos a ≤ℤ (line +ℤ high))) × (a < words) → (first ≤ a) × (a < end)
     back ((l, h), w) = ((hf a w).1 l, ⊎_elim (λ b. b) (λ b. absurd (let z = (he a w).0 b in omega (arith, ints))) (cases_lt a end))
@@ -67,7 +67,7 @@ some-same : {X : Type 0} (x y : X) → Some x ≡ Some y → x ≡ y
 some-same x y e = cc
 
 pub words-none : (accesses : List Access) (at : List ℤ) (words : ℕ) (stores : Bool) → HasWords accesses 0 at words stores []
-words-none accesses at words stores a = (λ h. absurd (has_from_contains [] a h), λ w. absurd (let b = w.below in omega arith))
+words-none accesses at words stores a = (λ h. absurd (has-from-contains [] a h), λ w. absurd (let b = w.below in omega arith))
 
 pub words-more : (accesses : List Access) (n : ℕ) (access : Access) (at : List ℤ) (words : ℕ) (stores : Bool) (xs ys : List ℕ) → slice_get accesses n ≡ Some access
     → HasWords accesses n at words stores xs → Gains (IsWordOf access at words stores) xs ys → HasWords accesses (n + 1) at words stores ys

@@ -56,10 +56,10 @@ trip-same t n xs ys size h = sym (trip-cut t n n xs (omega arith)) ∙ ap (trip 
 
 pub counters-of : (t : Table) (part : Part) (level rank : ℕ) → Stands t part level rank → counters t (block_at t rank) ≡ counters_by part (repeats t (level - 1)) level
 counters-of t part level rank s =
-    ap (λ (p : Part). counters_by p (repeats t ((block_at t rank).level - 1)) (block_at t rank).level) s.part_is ∙ ap (λ (n : ℕ). counters_by part (repeats t (n - 1)) n) s.level_is
+    ap (λ (p : Part). counters_by p (repeats t ((block_at t rank).level - 1)) (block_at t rank).level) s.part-is ∙ ap (λ (n : ℕ). counters_by part (repeats t (n - 1)) n) s.level-is
 
 pub turning-of : (t : Table) (part : Part) (level rank : ℕ) → Stands t part level rank → turning (block_at t rank) ≡ turning_by part level
-turning-of t part level rank s = ap (λ (p : Part). turning_by p (block_at t rank).level) s.part_is ∙ ap (turning_by part) s.level_is
+turning-of t part level rank s = ap (λ (p : Part). turning_by p (block_at t rank).level) s.part-is ∙ ap (turning_by part) s.level-is
 
 pub head-most : (w : Bool) (level : ℕ) → counters_by Head w level ≤ level
 head-most true level = omega arith
@@ -70,7 +70,7 @@ head-least true level = omega arith
 head-least false level = omega arith
 
 plain-part : (t : Table) (part : Part) (level rank : ℕ) → Stands t part level rank → is_post part ≡ false → is_post (block_at t rank).part ≡ false
-plain-part t part level rank s e = ap is_post s.part_is ∙ e
+plain-part t part level rank s e = ap is_post s.part-is ∙ e
 
 module _ (D : ℕ) (t : Table) (is : IsTable D t) (chunk : Chunk) where
   abbrev pub spot : Instance → Spot
@@ -107,20 +107,20 @@ module _ (D : ℕ) (t : Table) (is : IsTable D t) (chunk : Chunk) where
         let same = same-trip k (omega arith) (omega arith) in
         Inner deep (subst (λ (v : ℤ). pos 0 ≤ℤ v) (sym here) bounds.0) (subst (λ (v : ℤ). v <ℤ trip t k at) (sym here) (subst (λ (v : ℤ). counter z.at k <ℤ v) same bounds.1)) text
 
-    at_head : (level : ℕ) → 1 ≤ level → level ≤ D → Stands t Head level z.block → text_at D t is z.block ≡ level + level → (level ≤ k) ⊎ (k < level) → (level ≤ suc k) ⊎ (suc k < level) → Within k at z
-    at_head level from to s text (inl l) m =
+    at-head : (level : ℕ) → 1 ≤ level → level ≤ D → Stands t Head level z.block → text_at D t is z.block ≡ level + level → (level ≤ k) ⊎ (k < level) → (level ≤ suc k) ⊎ (suc k < level) → Within k at z
+    at-head level from to s text (inl l) m =
         let n = counters-of t Head level z.block s in
         let most = head-most (repeats t (level - 1)) level in
         Outer (plain-zeros (plain-part t Head level z.block s refl) k (omega arith)) (inl (omega arith))
-    at_head level from to s text (inr l) (inr m) =
+    at-head level from to s text (inr l) (inr m) =
         let n = counters-of t Head level z.block s in
         let least = head-least (repeats t (level - 1)) level in
         let o = turning-of t Head level z.block s in
         inner (omega arith) (omega arith) (omega arith) (omega arith)
-    at_head level from to s text (inr l) (inl m) = by (repeats t k) refl
+    at-head level from to s text (inr l) (inl m) = by (repeats t k) refl
       where
-        level_is : level ≡ suc k
-        level_is = omega arith
+        level-is : level ≡ suc k
+        level-is = omega arith
 
         around : level - 1 ≡ k
         around = omega arith
@@ -143,20 +143,20 @@ module _ (D : ℕ) (t : Table) (is : IsTable D t) (chunk : Chunk) where
             (subst (λ (v : ℤ). Tested v (trip t k at)) (sym here) (subst (λ (v : ℤ). Tested (counter z.at k) v) same moved))
             (plain-zeros (plain-part t Head level z.block s refl) (suc k) (omega arith))
 
-    at_pre : (level : ℕ) → 1 ≤ level → level ≤ D → Stands t Pre level z.block → text_at D t is z.block ≡ level + level + 1 → (level ≤ k) ⊎ (k < level) → Within k at z
-    at_pre level from to s text (inl l) =
+    at-pre : (level : ℕ) → 1 ≤ level → level ≤ D → Stands t Pre level z.block → text_at D t is z.block ≡ level + level + 1 → (level ≤ k) ⊎ (k < level) → Within k at z
+    at-pre level from to s text (inl l) =
         let n = counters-of t Pre level z.block s in
         Outer (plain-zeros (plain-part t Pre level z.block s refl) k (omega arith)) (inl (omega arith))
-    at_pre level from to s text (inr l) =
+    at-pre level from to s text (inr l) =
         let n = counters-of t Pre level z.block s in
         let o = turning-of t Pre level z.block s in
         inner (omega arith) (omega arith) (omega arith) (omega arith)
 
-    at_post : (level : ℕ) → 1 ≤ level → level < D → Stands t Post level z.block → text_at D t is z.block ≡ D + D + D + 3 - level → (level < k) ⊎ (k ≤ level) → (level ≤ k) ⊎ (k < level) → Within k at z
-    at_post level from to s text (inl l) m =
+    at-post : (level : ℕ) → 1 ≤ level → level < D → Stands t Post level z.block → text_at D t is z.block ≡ D + D + D + 3 - level → (level < k) ⊎ (k ≤ level) → (level ≤ k) ⊎ (k < level) → Within k at z
+    at-post level from to s text (inl l) m =
         let n = counters-of t Post level z.block s in
         let shown = begins level l in
-        let here = place-turns t (block_of t z) z.at level s.part_is (sym n) in
+        let here = place-turns t (block_of t z) z.at level s.part-is (sym n) in
         let same = same-trip level (omega arith) (omega arith) in
         let bounds = turn.inner level from l in
         let low = bounds.0 in
@@ -164,12 +164,12 @@ module _ (D : ℕ) (t : Table) (is : IsTable D t) (chunk : Chunk) where
         let whole = turns-trip (trip t level at) (omega (arith, ints)) in
         let e : turns_of (trip t level z.at) ≡ turns_of (trip t level at) = ap turns_of same in
         absurd (omega (arith, ints))
-    at_post level from to s text (inr l) (inl m) =
+    at-post level from to s text (inr l) (inl m) =
         let n = counters-of t Post level z.block s in
-        let level_is : level ≡ k = omega arith in
+        let level-is : level ≡ k = omega arith in
         let same = same-trip k (omega arith) (omega arith) in
-        Last (subst (λ (v : ℕ). Stands t Post v z.block) level_is s) (omega arith) (place-turns t (block_of t z) z.at k s.part_is (omega arith) ∙ ap turns_of same) (λ j o. place-rest t (block_of t z) z.at j (omega arith))
-    at_post level from to s text (inr l) (inr m) =
+        Last (subst (λ (v : ℕ). Stands t Post v z.block) level-is s) (omega arith) (place-turns t (block_of t z) z.at k s.part-is (omega arith) ∙ ap turns_of same) (λ j o. place-rest t (block_of t z) z.at j (omega arith))
+    at-post level from to s text (inr l) (inr m) =
         let n = counters-of t Post level z.block s in
         let o = turning-of t Post level z.block s in
         inner (omega arith) (omega arith) (omega arith) (omega arith)
@@ -178,17 +178,17 @@ module _ (D : ℕ) (t : Table) (is : IsTable D t) (chunk : Chunk) where
     within = by (kind D t is z.block p.is.block)
       where
         by : Kind D t is z.block → Within k at z
-        by (AtHead level from to here text) = at_head level from to here text (flip (cases_lt k level)) (flip (cases_lt (suc k) level))
+        by (AtHead level from to here text) = at-head level from to here text (flip (cases_lt k level)) (flip (cases_lt (suc k) level))
           where
             flip : {P Q : Type 0} → P ⊎ Q → Q ⊎ P
             flip (inl h) = inr h
             flip (inr h) = inl h
-        by (AtPre level from to here text) = at_pre level from to here text (flip (cases_lt k level))
+        by (AtPre level from to here text) = at-pre level from to here text (flip (cases_lt k level))
           where
             flip : {P Q : Type 0} → P ⊎ Q → Q ⊎ P
             flip (inl h) = inr h
             flip (inr h) = inl h
-        by (AtPost level from to here text) = at_post level from to here text (cases_lt level k) (flip (cases_lt k level))
+        by (AtPost level from to here text) = at-post level from to here text (cases_lt level k) (flip (cases_lt k level))
           where
             flip : {P Q : Type 0} → P ⊎ Q → Q ⊎ P
             flip (inl h) = inr h

@@ -26,7 +26,7 @@ use Rattle.nest_lang.specs.Expressions.{Frame, shown, Told, telling, then_tell, 
 use Rattle.nest_lang.specs.Statements.{with_value, stored, statement_level, statement_trace, block_trace, started, announced, shown_before, instance_trace}
 use Rattle.nest_lang.specs.Heads.{Bounds, Tested, as_number, Headed, heading, then_head, head_of, head_step, headed}
 use Rattle.orders.specs.Orders.{Has}
-use Rattle.orders.proofs.Lists.{has_left, has_right}
+use Rattle.orders.proofs.Lists.{has-left, has-right}
 use Rattle.orders.proofs.Lifts.{has_any}
 use Rattle.follow.specs.Forecasts.{expectation_at, Forecast}
 use Rattle.follow.specs.Plans.{frame_with, work_trace, Work, Runs, Evaluates}
@@ -98,12 +98,12 @@ module _ (at : Occurrence) (values : List ℤ) (x y : Expectation) (verify : x.v
     level-same (Expr-F.Number n) h = refl
     level-same (Expr-F.Var place) h = refl
     level-same (Expr-F.Load access a) h =
-        ap (λ (r : Told). then_tell r.seen r.value (λ z. telling (shown f (Address access) z ∷ []) (or_stopped access (look x.verifies (x.loads access) memory z)))) (a.1 (λ n k. h n (has_left _ _ n k)))
+        ap (λ (r : Told). then_tell r.seen r.value (λ z. telling (shown f (Address access) z ∷ []) (or_stopped access (look x.verifies (x.loads access) memory z)))) (a.1 (λ n k. h n (has-left _ _ n k)))
         ∙ ap (λ (go : ℤ → Told). then_tell (tells-g a.0).seen (tells-g a.0).value go)
-        (λ i z. telling (shown f (Address access) z ∷ []) (or_stopped access (look-same (x.loads access) (y.loads access) memory z (h (load access) (has_right (expression_accesses a.0) _ _ (inl refl))) i)))
+        (λ i z. telling (shown f (Address access) z ∷ []) (or_stopped access (look-same (x.loads access) (y.loads access) memory z (h (load access) (has-right (expression_accesses a.0) _ _ (inl refl))) i)))
     level-same (Expr-F.Neg a) h = ap (λ (r : Told). expression_level f scalars locals (look_load x memory) (Expr-F.Neg r)) (a.1 h)
     level-same (Expr-F.Two op a b) h =
-        ap₂ (λ (q r : Told). expression_level f scalars locals (look_load x memory) (Expr-F.Two op q r)) (a.1 (λ n k. h n (has_left _ _ n k))) (b.1 (λ n k. h n (has_right _ _ n k)))
+        ap₂ (λ (q r : Told). expression_level f scalars locals (look_load x memory) (Expr-F.Two op q r)) (a.1 (λ n k. h n (has-left _ _ n k))) (b.1 (λ n k. h n (has-right _ _ n k)))
 
     tells : (e : Expr) → Tells e
     unfolding Tells
@@ -125,8 +125,8 @@ module _ (at : Occurrence) (values : List ℤ) (x y : Expectation) (verify : x.v
   statements-same [] h = refl
   statements-same (z ∷ zs) h =
       ap₂ (λ (t : Store → Trace) (ts : List (Store → Trace)). t ∷ ts)
-      (z.1 (λ n j. h n (has_left _ _ n j)))
-      (statements-same zs (λ n j. h n (has_right (statement_accesses z.0) _ n j)))
+      (z.1 (λ n j. h n (has-left _ _ n j)))
+      (statements-same zs (λ n j. h n (has-right (statement_accesses z.0) _ n j)))
 
   statement_level-same : (z : Stmt-F ((st : Stmt) × Traces st)) (s : Store)
       → Same (accessing_level (map-Stmt _ _ statement_accesses (map-Stmt _ _ (λ e. e.0) z)))
@@ -136,19 +136,19 @@ module _ (at : Occurrence) (values : List ℤ) (x y : Expectation) (verify : x.v
   statement_level-same (Stmt-F.Set number e) s h = ap (λ (q : Told). with_value q.seen q.value (λ v. step_of [] q.seen (Scalar number v) None [])) (told-same s e h)
   statement_level-same (Stmt-F.Store access a e) s h =
       ap₂ (λ (p q : Told). with_value p.seen p.value (λ z. with_value (p.seen ++ q.seen) q.value (λ v. stored (p.seen ++ q.seen ++ shown f (Address access) z ∷ []) z v (or_stopped access (look x.verifies (x.stores access) s.memory z)))))
-      (told-same s a (λ n j. h n (has_left _ _ n (has_left _ _ n j)))) (told-same s e (λ n j. h n (has_left _ _ n (has_right (expression_accesses a) _ n j))))
+      (told-same s a (λ n j. h n (has-left _ _ n (has-left _ _ n j)))) (told-same s e (λ n j. h n (has-left _ _ n (has-right (expression_accesses a) _ n j))))
       ∙ ap (λ (found : ℤ → Result ℤ Stop). with_value (told g s a).seen (told g s a).value (λ z. with_value ((told g s a).seen ++ (told g s e).seen) (told g s e).value (λ v. stored ((told g s a).seen ++ (told g s e).seen ++ shown f (Address access) z ∷ []) z v (or_stopped access (found z)))))
-      (λ i z. look-same (x.stores access) (y.stores access) s.memory z (h (store access) (has_right (expression_accesses a ++ expression_accesses e) _ _ (inl refl))) i)
+      (λ i z. look-same (x.stores access) (y.stores access) s.memory z (h (store access) (has-right (expression_accesses a ++ expression_accesses e) _ _ (inl refl))) i)
   statement_level-same (Stmt-F.If e first second) s h =
-      let one = told-same s e (λ n j. h n (has_left _ _ n (has_left _ _ n j))) in
-      let two = statements-same first (λ n j. h n (has_left _ _ n (has_right (expression_accesses e) _ n j))) in
-      let three = statements-same second (λ n j. h n (has_right (expression_accesses e ++ all_in (map statement_accesses (map (λ e. e.0) first))) _ n j)) in
+      let one = told-same s e (λ n j. h n (has-left _ _ n (has-left _ _ n j))) in
+      let two = statements-same first (λ n j. h n (has-left _ _ n (has-right (expression_accesses e) _ n j))) in
+      let three = statements-same second (λ n j. h n (has-right (expression_accesses e ++ all_in (map statement_accesses (map (λ e. e.0) first))) _ n j)) in
       ap (λ (q : Told). with_value q.seen q.value (λ v. step_of [] q.seen Nothing None (if same v (pos 0) then map (statement_trace f) (map (λ e. e.0) second) else map (statement_trace f) (map (λ e. e.0) first)))) one
       ∙ ap₂ (λ (p q : List (Store → Trace)). with_value (told g s e).seen (told g s e).value (λ v. step_of [] (told g s e).seen Nothing None (if same v (pos 0) then q else p))) two three
 
-  every_statement-same : (st : Stmt) → Traces st
+  every-statement-same : (st : Stmt) → Traces st
   unfolding Traces
-  every_statement-same = ind-Stmt Traces (λ w z is. subst (λ v. Traces (roll-Stmt v)) is
+  every-statement-same = ind-Stmt Traces (λ w z is. subst (λ v. Traces (roll-Stmt v)) is
       (λ h. statement-rolled f (map-Stmt _ _ (λ e. e.0) z)
       ∙ (λ i s. traced (statement_level-same z s (subst Same (statement_accesses-rolled (map-Stmt _ _ (λ e. e.0) z)) h) i) s)
       ∙ sym (statement-rolled g (map-Stmt _ _ (λ e. e.0) z))))
@@ -158,8 +158,8 @@ module _ (at : Occurrence) (values : List ℤ) (x y : Expectation) (verify : x.v
   every-same [] h = refl
   every-same (st ∷ block) h =
       ap₂ (λ (t : Store → Trace) (ts : List (Store → Trace)). t ∷ ts)
-      (every_statement-same st (λ n j. h n (has_left _ _ n j)))
-      (every-same block (λ n j. h n (has_right (statement_accesses st) _ n j)))
+      (every-statement-same st (λ n j. h n (has-left _ _ n j)))
+      (every-same block (λ n j. h n (has-right (statement_accesses st) _ n j)))
 
   announced-same : (s : Store) → announced f s ≡ announced g s
   unfolding announced
@@ -174,7 +174,7 @@ module _ (at : Occurrence) (values : List ℤ) (x y : Expectation) (verify : x.v
   unfolding head_of
   head-same (For lower upper stride) s h =
       ap₂ (λ (p q : Told). then_head p.seen p.value (λ from. then_head q.seen q.value (λ to. heading (shown f Lower from ∷ shown f Trip (pos (trip_count from to stride)) ∷ []) (Ok (Bounds from (trip_count from to stride))))))
-      (told-same s lower (λ n j. h n (has_left _ _ n j))) (told-same s upper (λ n j. h n (has_right (expression_accesses lower) _ n j)))
+      (told-same s lower (λ n j. h n (has-left _ _ n j))) (told-same s upper (λ n j. h n (has-right (expression_accesses lower) _ n j)))
   head-same (While condition) s h =
       ap (λ (p : Told). then_head p.seen p.value (λ v. heading (shown f Condition (as_number (not (same v (pos 0)))) ∷ []) (Ok (Tested (not (same v (pos 0))))))) (told-same s condition h)
 

@@ -114,11 +114,11 @@ module _ (p : Forecast) where
   if-keeps n true o h = h
   if-keeps n false o h = tt
 
-  reach-keeps_by : (n : ℕ) (es : List Entry) (halt : Option Halt) (s : Store) → Keeps n s → KeepsIn n (reach_by p es halt s)
-  reach-keeps_by n [] None s h = h
-  reach-keeps_by n [] (Some halt) s h = tt
-  reach-keeps_by n (e ∷ es) halt s h = if-keeps n _ _ (plus-keeps n 1 _ (reach-keeps_by n es halt (effect_on s e.effect) (effect-keeps n s e.effect h)))
+  reach-keeps-by : (n : ℕ) (es : List Entry) (halt : Option Halt) (s : Store) → Keeps n s → KeepsIn n (reach_by p es halt s)
+  reach-keeps-by n [] None s h = h
+  reach-keeps-by n [] (Some halt) s h = tt
+  reach-keeps-by n (e ∷ es) halt s h = if-keeps n _ _ (plus-keeps n 1 _ (reach-keeps-by n es halt (effect_on s e.effect) (effect-keeps n s e.effect h)))
 
   pub reach-keeps : (n : ℕ) (t : Trace) (s : Store) (r : Reached) → Keeps n s → reach p t s ≡ Some r → Keeps n r.store
   unfolding reach
-  reach-keeps n t s r h e = subst (KeepsIn n) e (reach-keeps_by n t.entries t.halt s h)
+  reach-keeps n t s r h e = subst (KeepsIn n) e (reach-keeps-by n t.entries t.halt s h)

@@ -16,7 +16,7 @@ use Rattle.follow.specs.Plans.{item_trace, chain, planned, Item}
 use Rattle.follow.specs.FollowRuns.{state_of, item_step, ended_with, follow_one, follow_run, item_turns}
 use Rattle.follow.proofs.Undeviated.{ChunkLaw}
 use Rattle.follow.proofs.Yields.{both, same-exact}
-use Rattle.follow.proofs.Looping.{turns-lead_planned}
+use Rattle.follow.proofs.Looping.{turns-lead-planned}
 use Rattle.follow.proofs.Budgets.{enough, enough-plus, enough-here, undeviated-reach, Keeps, reach-keeps}
 use Rattle.follow.proofs.Begins.{begins-none}
 use Rattle.follow.proofs.Bounds.{undeviated-bound}
@@ -81,7 +81,7 @@ chunk-law p after k loops o c s left x xs room is enough_turns chained bare_loca
     undeviated-bound p (after (last x xs)) k j loops o c s left enough_turns (omega (arith, enough_turns))
     ∙ undeviated-reach p after (last x xs) (turns_trace plain j loops o c s) s left
     ∙ ap (λ (q : Option Reached). closed (item_turns p after) (last x xs) (enough left q))
-    (turns-lead_planned p j loops o c room (omega arith) s ∙ ap (λ (is : List Item). chain p is s) is)
+    (turns-lead-planned p j loops o c room (omega arith) s ∙ ap (λ (is : List Item). chain p is s) is)
     ∙ ap (closed (item_turns p after) (last x xs)) (sym (plain-chain p after (length s.scalars) (x ∷ xs) s left (bare_locals, refl) sizes))
     ∙ chain_law (item_turns p after) bare same_all-exact x xs s.scalars s.memory left chained
     ∙ ap (λ (q : Option Outcome). if same_all s.scalars (p.scalars x.at) then within (item_turns p after) (last x xs) left q else None) (follow-compared p after (x ∷ xs) s.memory)

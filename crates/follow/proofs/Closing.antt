@@ -81,8 +81,8 @@ within-ended : (p : Forecast) (after : Item → List ℤ) (x : Item) (closing : 
 within-ended p after x closing left None e = refl
 within-ended p after x closing left (Some r) e = ap (λ (z : List ℤ). if nat_le r.steps left then Some (record { memory = r.memory; scalars = z; steps = left - r.steps }) else None) e
 
-pub chain-of_chunk : ChainOfChunk
-chain-of_chunk p k loops o c s left x xs room is bound bare sizes =
+pub chain-of-chunk : ChainOfChunk
+chain-of-chunk p k loops o c s left x xs room is bound bare sizes =
     let closing : List ℤ = closing_scalars p loops o c in
     let after : Item → List ℤ = successor_scalars p loops o c in
     let ordered : Ordered (Precedes (slice_cmp int_cmp) (key p (length loops))) (x ∷ xs) = subst (λ (ys : List Item). Ordered (Precedes (slice_cmp int_cmp) (key p (length loops))) ys) is (planned-in_order p loops o c) in

@@ -27,8 +27,8 @@ use Rattle.follow.proofs.Yields.{agree-append}
 use Rattle.follow.proofs.Showing.{Fine, FineTrace, shows-cut, shows-all}
 
 module _ (p : Forecast) (next : Occurrence) where
-  abbrev pub run_by : List Observation → Finish → List ℤ → ChunkRun
-  run_by os e scalars = record { observations = os ++ closing_at next e scalars; finish = e }
+  abbrev pub run-by : List Observation → Finish → List ℤ → ChunkRun
+  run-by os e scalars = record { observations = os ++ closing_at next e scalars; finish = e }
 
   agree-both : (xs ys : List Observation) → all_agree p xs ≡ true → all_agree p ys ≡ true → all_agree p (xs ++ ys) ≡ true
   agree-both xs ys h k = agree-append p xs ys ∙ ap₂ (λ (a b : Bool). a && b) h k
@@ -38,23 +38,23 @@ module _ (p : Forecast) (next : Occurrence) where
       record { before = xs ++ k.before; after = k.after; are = ap (λ (os : List Observation). xs ++ os) k.are ∙ sym (append_assoc xs k.before (o ∷ k.after)); agree = agree-both xs k.before h k.agree; differs = k.differs }
 
   -- scalars that are the expected ones, and the first that is not
-  abbrev from_number : ℕ → List ℤ → List Observation
-  from_number n vs = scalars_from (frame_with next [] plain) n vs
+  abbrev from-number : ℕ → List ℤ → List Observation
+  from-number n vs = scalars_from (frame_with next [] plain) n vs
 
-  scalars-none : (n : ℕ) (vs : List ℤ) → scalars_differ (p.scalars next) n vs ≡ None → all_agree p (from_number n vs) ≡ true
+  scalars-none : (n : ℕ) (vs : List ℤ) → scalars_differ (p.scalars next) n vs ≡ None → all_agree p (from-number n vs) ≡ true
   unfolding all_agree
   scalars-none n [] h = refl
   scalars-none n (v ∷ vs) h = by (same v (get_or (p.scalars next) n (pos 0))) h (scalars-none (suc n) vs)
     where
       by : (b : Bool) → (if b then scalars_differ (p.scalars next) (suc n) vs else Some (how.Scalar n (get_or (p.scalars next) n (pos 0)) v)) ≡ None
-          → (scalars_differ (p.scalars next) (suc n) vs ≡ None → all_agree p (from_number (suc n) vs) ≡ true) → b && all_agree p (from_number (suc n) vs) ≡ true
+          → (scalars_differ (p.scalars next) (suc n) vs ≡ None → all_agree p (from-number (suc n) vs) ≡ true) → b && all_agree p (from-number (suc n) vs) ≡ true
       by true k rest = rest k
       by false k rest = absurd (cc)
 
   abbrev pub Differ : List Observation → How → Type 0
   Differ os h = (o : Observation) × IsFirst p os o × (h ≡ how_seen p o)
 
-  scalars-some : (n : ℕ) (vs : List ℤ) (h : How) → scalars_differ (p.scalars next) n vs ≡ Some h → Differ (from_number n vs) h
+  scalars-some : (n : ℕ) (vs : List ℤ) (h : How) → scalars_differ (p.scalars next) n vs ≡ Some h → Differ (from-number n vs) h
   unfolding all_agree
   scalars-some n [] h e = absurd (cc)
   scalars-some n (v ∷ vs) h e = by (same v (get_or (p.scalars next) n (pos 0))) refl e (scalars-some (suc n) vs h)
@@ -62,13 +62,13 @@ module _ (p : Forecast) (next : Occurrence) where
       o : Observation
       o = record { at = next; what = see.Scalar n; value = v }
 
-      more : same v (get_or (p.scalars next) n (pos 0)) ≡ true → Differ (from_number (suc n) vs) h → Differ (o ∷ from_number (suc n) vs) h
-      more is d = (d.0, first-front (o ∷ []) (from_number (suc n) vs) d.0 (ap (λ (b : Bool). b && true) is) d.1, d.2)
+      more : same v (get_or (p.scalars next) n (pos 0)) ≡ true → Differ (from-number (suc n) vs) h → Differ (o ∷ from-number (suc n) vs) h
+      more is d = (d.0, first-front (o ∷ []) (from-number (suc n) vs) d.0 (ap (λ (b : Bool). b && true) is) d.1, d.2)
 
       by : (b : Bool) → same v (get_or (p.scalars next) n (pos 0)) ≡ b → (if b then scalars_differ (p.scalars next) (suc n) vs else Some (how.Scalar n (get_or (p.scalars next) n (pos 0)) v)) ≡ Some h
-          → (scalars_differ (p.scalars next) (suc n) vs ≡ Some h → Differ (from_number (suc n) vs) h) → Differ (o ∷ from_number (suc n) vs) h
+          → (scalars_differ (p.scalars next) (suc n) vs ≡ Some h → Differ (from-number (suc n) vs) h) → Differ (o ∷ from-number (suc n) vs) h
       by true is k rest = more is (rest k)
-      by false is k rest = (o, record { before = []; after = from_number (suc n) vs; are = refl; agree = refl; differs = is }, sym (some-how k))
+      by false is k rest = (o, record { before = []; after = from-number (suc n) vs; are = refl; agree = refl; differs = is }, sym (some-how k))
         where
           some-how : {a b : How} → ◌≡◌ {A = Option How} (Some a) (Some b) → a ≡ b
           some-how e = cc
@@ -98,7 +98,7 @@ module _ (p : Forecast) (next : Occurrence) where
     all-nil os h = ap (all_agree p) (append-nil os) ∙ h
 
     -- a run that is cut short has a deviation
-    cut-deviates : (os : List Observation) (e : Finish) (scalars : List ℤ) → ShownBy os e → (e ≡ Done → ⊥) → Deviates (run_by os e scalars) (how_of_finish e)
+    cut-deviates : (os : List Observation) (e : Finish) (scalars : List ℤ) → ShownBy os e → (e ≡ Done → ⊥) → Deviates (run-by os e scalars) (how_of_finish e)
     cut-deviates os Done scalars h other = absurd (other refl)
     cut-deviates os Limited scalars h other = (Limit, (all-nil os h, refl), refl)
     cut-deviates os (Halted (Trapped trap)) scalars h other = (Halts (Trapped trap), (all-nil os h, refl), refl)
@@ -118,8 +118,8 @@ module _ (p : Forecast) (next : Occurrence) where
     -- an instance that is cut short
     pub followed-cut : (t : Trace) (s : Store) (left : ℕ) (c : Cut) (words : List ℤ) (h : How) → FineTrace p at values t → Fits t s left c → (c.ending ≡ Done → ⊥) → h ≡ how_of_finish c.ending → IsFollowed p next t s left (Err h) words
     followed-cut t s left c words h fine is other how_is =
-        subst (λ (z : Cut). Deviates (run_by (seen_in t left) z.ending z.store.scalars) h) is
-        (subst (λ (y : How). Deviates (run_by (seen_in t left) c.ending c.store.scalars) y) (sym how_is) (cut-deviates (seen_in t left) c.ending c.store.scalars (shown-in t s left c fine is) other))
+        subst (λ (z : Cut). Deviates (run-by (seen_in t left) z.ending z.store.scalars) h) is
+        (subst (λ (y : How). Deviates (run-by (seen_in t left) c.ending c.store.scalars) y) (sym how_is) (cut-deviates (seen_in t left) c.ending c.store.scalars (shown-in t s left c fine is) other))
 
     shown-done : (os : List Observation) (e : Finish) → e ≡ Done → ShownBy os e → all_agree p os ≡ true
     shown-done os e is h = subst (ShownBy os) is h
@@ -129,8 +129,8 @@ module _ (p : Forecast) (next : Occurrence) where
     followed-scalar t s left c words h fine is done differ =
         let first = scalars-some 0 c.store.scalars h differ in
         let os : List Observation = seen_in t left in
-        subst (λ (z : Cut). Deviates (run_by os z.ending z.store.scalars) h) is
-        (subst (λ (e : Finish). Deviates (run_by os e c.store.scalars) h) (sym done)
+        subst (λ (z : Cut). Deviates (run-by os z.ending z.store.scalars) h) is
+        (subst (λ (e : Finish). Deviates (run-by os e c.store.scalars) h) (sym done)
         (Differs first.0, first-front os (scalars_at next c.store.scalars) first.0 (shown-done os c.ending done (shown-in t s left c fine is)) first.1, first.2))
 
     -- where a run that is done leads
@@ -164,10 +164,10 @@ module _ (p : Forecast) (next : Occurrence) where
         let agree = shown-done os c.ending done (shown-in t s left c fine is) in
         let closing = scalars-none 0 c.store.scalars same in
         let all : all_agree p (os ++ scalars_at next c.store.scalars) ≡ true = agree-both os (scalars_at next c.store.scalars) agree closing in
-        let follows : FollowsPrediction p (run_by os c.ending c.store.scalars) = subst (λ (e : Finish). FollowsPrediction p (run_by os e c.store.scalars)) (sym done) (all, refl) in
+        let follows : FollowsPrediction p (run-by os c.ending c.store.scalars) = subst (λ (e : Finish). FollowsPrediction p (run-by os e c.store.scalars)) (sym done) (all, refl) in
         let expected : same_all c.store.scalars (p.scalars next) ≡ true = sym (scalars-agree p (frame_with next [] plain) [] (p.scalars next) c.store.scalars 0 refl refl sizes) ∙ closing in
         let there : went (all_agree p os) c ≡ Some (record { memory = c.store.memory; scalars = c.store.scalars; steps = c.left }) = ap₂ (λ (a b : Bool). if a && b then Some (record { memory = c.store.memory; scalars = c.store.scalars; steps = c.left }) else None) agree (ap is_done done) in
         let leads : went (all_agree p os) (cut t s left 0) ≡ enough left (reach p t s) = went-reach p t.entries t.halt s left 0 in (
-          subst (λ (z : Cut). FollowsPrediction p (run_by os z.ending z.store.scalars)) is follows,
+          subst (λ (z : Cut). FollowsPrediction p (run-by os z.ending z.store.scalars)) is follows,
           led (reach p t s) left u (record { memory = c.store.memory; scalars = c.store.scalars; steps = c.left }) (sym there ∙ ap (λ (z : Cut). went (all_agree p os) z) is ∙ leads) sum expected,
         )

@@ -20,10 +20,10 @@ module _ (p : Forecast) where
   agree-cons o os h all = ap₂ (λ (a b : Bool). a && b) h all
 
   -- all agree, or there is a first that doesn't
-  first-or_all : (os : List Observation) → ((o : Observation) × IsFirst p os o) ⊎ (all_agree p os ≡ true)
+  first-or-all : (os : List Observation) → ((o : Observation) × IsFirst p os o) ⊎ (all_agree p os ≡ true)
   unfolding all_agree
-  first-or_all [] = inr refl
-  first-or_all (o ∷ os) = at (agrees p o) refl (first-or_all os)
+  first-or-all [] = inr refl
+  first-or-all (o ∷ os) = at (agrees p o) refl (first-or-all os)
     where
       at : (b : Bool) → agrees p o ≡ b → ((q : Observation) × IsFirst p os q) ⊎ (all_agree p os ≡ true) → ((q : Observation) × IsFirst p (o ∷ os) q) ⊎ (all_agree p (o ∷ os) ≡ true)
       at false e more = inl (o, record { before = []; after = os; are = refl; agree = refl; differs = e })
@@ -53,11 +53,11 @@ module _ (p : Forecast) where
       absurd (true≢false (sym (subst (λ (z : Observation). agrees p z ≡ true) (ap (head-of b) e) (agree-first b bs hb).0) ∙ hq))
   one-first (b ∷ bs) (c ∷ cs) o q us vs e hb ho hc hq = one-first bs cs o q us vs (ap rest-of e) (agree-first b bs hb).1 ho (agree-first c cs hc).1 hq
 
-  first-is_one : (os : List Observation) (o q : Observation) → IsFirst p os o → IsFirst p os q → o ≡ q
-  first-is_one os o q f g = one-first f.before g.before o q f.after g.after (sym f.are ∙ g.are) f.agree f.differs g.agree g.differs
+  first-is-one : (os : List Observation) (o q : Observation) → IsFirst p os o → IsFirst p os q → o ≡ q
+  first-is-one os o q f g = one-first f.before g.before o q f.after g.after (sym f.are ∙ g.are) f.agree f.differs g.agree g.differs
 
-  first-not_all : (os : List Observation) (o : Observation) → IsFirst p os o → all_agree p os ≡ true → ⊥
-  first-not_all os o f all =
+  first-not-all : (os : List Observation) (o : Observation) → IsFirst p os o → all_agree p os ≡ true → ⊥
+  first-not-all os o f all =
       let parts = and_parts (all_agree p f.before) (all_agree p (o ∷ f.after)) (sym (agree-append p f.before (o ∷ f.after)) ∙ ap (all_agree p) (sym f.are) ∙ all) in
       true≢false (sym (agree-first o f.after parts.1).0 ∙ f.differs)
 
@@ -124,20 +124,20 @@ halted-done h e = cc
 limited-done : Limited ≡ Done → ⊥
 limited-done e = cc
 
-pub deviation-is_one : DeviationIsOne
+pub deviation-is-one : DeviationIsOne
 unfolding finish-halts
-deviation-is_one p run (Differs o) (Differs q) d e = ap Differs (first-is_one p run.observations o q d e)
-deviation-is_one p run (Differs o) (Halts halt) d e = absurd (first-not_all p run.observations o d e.0)
-deviation-is_one p run (Differs o) Limit d e = absurd (first-not_all p run.observations o d e.0)
-deviation-is_one p run (Halts halt) (Differs q) d e = absurd (first-not_all p run.observations q e d.0)
-deviation-is_one p run (Halts h) (Halts k) d e = ap Halts (some-halt h k (ap finish-halts (sym d.1 ∙ e.1)))
-deviation-is_one p run (Halts h) Limit d e = absurd (halted-limited h (sym d.1 ∙ e.1))
-deviation-is_one p run Limit (Differs q) d e = absurd (first-not_all p run.observations q e d.0)
-deviation-is_one p run Limit (Halts k) d e = absurd (halted-limited k (sym e.1 ∙ d.1))
-deviation-is_one p run Limit Limit d e = refl
+deviation-is-one p run (Differs o) (Differs q) d e = ap Differs (first-is-one p run.observations o q d e)
+deviation-is-one p run (Differs o) (Halts halt) d e = absurd (first-not-all p run.observations o d e.0)
+deviation-is-one p run (Differs o) Limit d e = absurd (first-not-all p run.observations o d e.0)
+deviation-is-one p run (Halts halt) (Differs q) d e = absurd (first-not-all p run.observations q e d.0)
+deviation-is-one p run (Halts h) (Halts k) d e = ap Halts (some-halt h k (ap finish-halts (sym d.1 ∙ e.1)))
+deviation-is-one p run (Halts h) Limit d e = absurd (halted-limited h (sym d.1 ∙ e.1))
+deviation-is-one p run Limit (Differs q) d e = absurd (first-not-all p run.observations q e d.0)
+deviation-is-one p run Limit (Halts k) d e = absurd (halted-limited k (sym e.1 ∙ d.1))
+deviation-is-one p run Limit Limit d e = refl
 
-pub deviates-or_follows : DeviatesOrFollows
-deviates-or_follows p run = at (first-or_all p run.observations) run.finish refl
+pub deviates-or-follows : DeviatesOrFollows
+deviates-or-follows p run = at (first-or-all p run.observations) run.finish refl
   where
     at : ((o : Observation) × IsFirst p run.observations o) ⊎ (all_agree p run.observations ≡ true) → (e : Finish) → run.finish ≡ e → ((d : Deviation) × IsDeviation p run d) ⊎ FollowsPrediction p run
     at (inl (o, f)) e is = inl (Differs o, f)
@@ -146,6 +146,6 @@ deviates-or_follows p run = at (first-or_all p run.observations) run.finish refl
     at (inr all) Limited is = inl (Limit, (all, is))
 
 pub not-both : NotBoth
-not-both p run (Differs o) d f = first-not_all p run.observations o d f.0
+not-both p run (Differs o) d f = first-not-all p run.observations o d f.0
 not-both p run (Halts halt) d f = halted-done halt (sym d.1 ∙ f.1)
 not-both p run Limit d f = limited-done (sym d.1 ∙ f.1)

@@ -38,11 +38,11 @@ module _ (P : Item → Type 0) where
 
 block-at : (by : Part) (level : ℕ) (a : Around) (block : List Stmt) (x : Item) → block_item by level a block ≡ Some x → x.at ≡ occurrence by level a
 block-at by level a [] x e = absurd (cc)
-block-at by level a (y ∷ ys) x e = sym (ap at_or e)
+block-at by level a (y ∷ ys) x e = sym (ap at-or e)
   where
-    at_or : Option Item → Occurrence
-    at_or None = occurrence by level a
-    at_or (Some z) = z.at
+    at-or : Option Item → Occurrence
+    at-or None = occurrence by level a
+    at-or (Some z) = z.at
 
 pick-true : (b : Bool) (u v : Option Item) → b ≡ true → (if b then u else v) ≡ u
 pick-true b u v e = rw e refl
@@ -145,10 +145,10 @@ module _ (p : Forecast) (o : Outer) where
         deep = omega arith;
       }) each
 
-pub planned-by_instance : PlannedByInstance
+pub planned-by-instance : PlannedByInstance
 unfolding planned
-planned-by_instance p [] o c = tt
-planned-by_instance p (l ∷ ls) o c =
+planned-by-instance p [] o c = tt
+planned-by-instance p (l ∷ ls) o c =
     all-map (Found p o 1 (l ∷ ls) outside) (λ x. item_of p o (l ∷ ls) x.at ≡ Some x) (plan_outer l.head l.head (plan_turn 1 l (plan_loops p 2 ls)) o c)
     (λ x h. ap (λ (cs : List ℤ). item_from p o 1 (l ∷ ls) outside cs x.at.block.part x.at.block.level) h.counters ∙ h.found)
     (outer-found p o l.head l ls (plan_turn 1 l (plan_loops p 2 ls)) c refl

@@ -40,17 +40,17 @@ module _ (p : Forecast) (at next : Occurrence) (values scalars : List ℤ) (inte
   abbrev from : Store
   from = store_of words scalars []
 
-  abbrev trace_with : Expectation → Trace
-  trace_with x = instance_trace (frame_with at values x) block from
+  abbrev trace-with : Expectation → Trace
+  trace-with x = instance_trace (frame_with at values x) block from
 
   abbrev Was : ℕ → Cut → Type 0
-  Was left c = c ≡ cut (trace_with (verified_by intervals)) from left 0
+  Was left c = c ≡ cut (trace-with (verified_by intervals)) from left 0
 
   abbrev trace : Trace
-  trace = trace_with (expectation_at p at)
+  trace = trace-with (expectation_at p at)
 
   fits : (left : ℕ) (c : Cut) → Was left c → c ≡ cut trace from left 0
-  fits left c is = is ∙ ap (λ (x : Expectation). cut (trace_with x) from left 0) (foretold-verified p at next scalars intervals after told)
+  fits left c is = is ∙ ap (λ (x : Expectation). cut (trace-with x) from left 0) (foretold-verified p at next scalars intervals after told)
 
   fine : FineTrace p at values trace
   fine = instance-fine p at values block from (foretold-announced p at next values scalars words intervals after told)

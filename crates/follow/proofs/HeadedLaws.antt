@@ -35,7 +35,7 @@ use Rattle.follow.specs.Followed.{Foretold, IsFollowed}
 use Rattle.follow.proofs.Showing.{Fine, fine-one, HeadFine, head-fine}
 use Rattle.follow.proofs.Yields.{agree-append}
 use Rattle.follow.proofs.FollowedLaws.{foretold-verified, foretold-announced}
-use Rattle.follow.proofs.Comparing.{run_by, Differ, Deviates, first-front, all-nil, followed-cut, followed-scalar, followed-done}
+use Rattle.follow.proofs.Comparing.{run-by, Differ, Deviates, first-front, all-nil, followed-cut, followed-scalar, followed-done}
 
 module _ (p : Forecast) (next : Occurrence) (at : Occurrence) (values : List ℤ) where
   both-agree : (xs ys : List Observation) → all_agree p xs ≡ true → all_agree p ys ≡ true → all_agree p (xs ++ ys) ≡ true
@@ -54,10 +54,10 @@ module _ (p : Forecast) (next : Occurrence) (at : Occurrence) (values : List ℤ
   some-how a b e = cc
 
   -- the bounds of a `for`
-  abbrev bounds_differ : ℤ → ℕ → Option How
-  bounds_differ from count = turns_differ at.block.level (turning.Bounds (p.lower at) (p.trip at.block at.counters)) (turns.Bounds from count)
+  abbrev bounds-differ : ℤ → ℕ → Option How
+  bounds-differ from count = turns_differ at.block.level (turning.Bounds (p.lower at) (p.trip at.block at.counters)) (turns.Bounds from count)
 
-  bounds-some : (from : ℤ) (count : ℕ) (h : How) → bounds_differ from count ≡ Some h → Differ p next (low from ∷ many count ∷ []) h
+  bounds-some : (from : ℤ) (count : ℕ) (h : How) → bounds-differ from count ≡ Some h → Differ p next (low from ∷ many count ∷ []) h
   unfolding all_agree
   bounds-some from count h e = by (same from (p.lower at)) (same (pos count) (p.trip at.block at.counters)) refl refl e
     where
@@ -67,7 +67,7 @@ module _ (p : Forecast) (next : Occurrence) (at : Occurrence) (values : List ℤ
       by true false f g k = (many count, record { before = low from ∷ []; after = []; are = refl; agree = ap (λ (z : Bool). z && true) f; differs = g }, sym (some-how _ _ k))
       by true true f g k = absurd (cc)
 
-  bounds-none : (from : ℤ) (count : ℕ) → bounds_differ from count ≡ None → all_agree p (low from ∷ many count ∷ []) ≡ true
+  bounds-none : (from : ℤ) (count : ℕ) → bounds-differ from count ≡ None → all_agree p (low from ∷ many count ∷ []) ≡ true
   unfolding all_agree
   bounds-none from count e = by (same from (p.lower at)) (same (pos count) (p.trip at.block at.counters)) e
     where
@@ -77,13 +77,13 @@ module _ (p : Forecast) (next : Occurrence) (at : Occurrence) (values : List ℤ
       by true true k = refl
 
   -- the condition of a `while`
-  abbrev test_differs : Bool → Option How
-  test_differs holds = turns_differ at.block.level (turning.Holds (expects_turn p at)) (turns.Holds holds)
+  abbrev test-differs : Bool → Option How
+  test-differs holds = turns_differ at.block.level (turning.Holds (expects_turn p at)) (turns.Holds holds)
 
   abbrev tested : Bool → Bool → How
   tested wanted holds = if nat_le at.block.level 1 then how.Ended else how.Condition wanted holds
 
-  test-some : (holds : Bool) (h : How) → test_differs holds ≡ Some h → Differ p next (test holds ∷ []) h
+  test-some : (holds : Bool) (h : How) → test-differs holds ≡ Some h → Differ p next (test holds ∷ []) h
   unfolding all_agree
   test-some holds h e = by (expects_turn p at) holds refl e
     where
@@ -96,7 +96,7 @@ module _ (p : Forecast) (next : Occurrence) (at : Occurrence) (values : List ℤ
       by true false f k = (test false, first false (ap (λ (z : Bool). same (pos 0) (as_number z)) f), sym (some-how _ _ k) ∙ ap (λ (z : Bool). tested z false) (sym f))
       by false true f k = (test true, first true (ap (λ (z : Bool). same (pos 1) (as_number z)) f), sym (some-how _ _ k) ∙ ap (λ (z : Bool). tested z true) (sym f))
 
-  test-none : (holds : Bool) → test_differs holds ≡ None → all_agree p (test holds ∷ []) ≡ true
+  test-none : (holds : Bool) → test-differs holds ≡ None → all_agree p (test holds ∷ []) ≡ true
   unfolding all_agree
   test-none holds e = by (expects_turn p at) holds refl e
     where
@@ -110,27 +110,27 @@ module _ (p : Forecast) (next : Occurrence) (at : Occurrence) (values : List ℤ
   moved : (xs ys zs : List Observation) (h : How) → zs ≡ xs ++ ys → all_agree p xs ≡ true → Differ p next ys h → Differ p next zs h
   moved xs ys zs h is agree d = subst (λ (os : List Observation). Differ p next os h) (sym is) (d.0, first-front p next xs ys d.0 agree d.1, d.2)
 
-  abbrev differs_at : Turning → Turns → Option How
-  differs_at t y = turns_differ at.block.level t y
+  abbrev differs-at : Turning → Turns → Option How
+  differs-at t y = turns_differ at.block.level t y
 
-  turns-some : (head : Head) (t : Turning) (y : Turns) (os : List Observation) (h : How) → HeadFine p at values head os (Ok (yield_by y)) → IsTurning p at head t → differs_at t y ≡ Some h → Differ p next os h
+  turns-some : (head : Head) (t : Turning) (y : Turns) (os : List Observation) (h : How) → HeadFine p at values head os (Ok (yield_by y)) → IsTurning p at head t → differs-at t y ≡ Some h → Differ p next os h
   turns-some (For lower upper stride) t (turns.Bounds from count) os h fine is e =
-      moved fine.0 (low from ∷ many count ∷ []) os h fine.1 fine.2 (bounds-some from count h (ap (λ (z : Turning). differs_at z (turns.Bounds from count)) (sym is) ∙ e))
+      moved fine.0 (low from ∷ many count ∷ []) os h fine.1 fine.2 (bounds-some from count h (ap (λ (z : Turning). differs-at z (turns.Bounds from count)) (sym is) ∙ e))
   turns-some (For lower upper stride) t (turns.Holds holds) os h fine is e = absurd fine
   turns-some (While condition) t (turns.Bounds from count) os h fine is e = absurd fine
   turns-some (While condition) t (turns.Holds holds) os h fine is e =
-      moved fine.0 (test holds ∷ []) os h fine.1 fine.2 (test-some holds h (ap (λ (z : Turning). differs_at z (turns.Holds holds)) (sym is) ∙ e))
+      moved fine.0 (test holds ∷ []) os h fine.1 fine.2 (test-some holds h (ap (λ (z : Turning). differs-at z (turns.Holds holds)) (sym is) ∙ e))
 
   all-moved : (xs ys zs : List Observation) → zs ≡ xs ++ ys → all_agree p xs ≡ true → all_agree p ys ≡ true → all_agree p zs ≡ true
   all-moved xs ys zs is h k = ap (all_agree p) is ∙ both-agree xs ys h k
 
-  turns-none : (head : Head) (t : Turning) (y : Turns) (os : List Observation) → HeadFine p at values head os (Ok (yield_by y)) → IsTurning p at head t → differs_at t y ≡ None → all_agree p os ≡ true
+  turns-none : (head : Head) (t : Turning) (y : Turns) (os : List Observation) → HeadFine p at values head os (Ok (yield_by y)) → IsTurning p at head t → differs-at t y ≡ None → all_agree p os ≡ true
   turns-none (For lower upper stride) t (turns.Bounds from count) os fine is e =
-      all-moved fine.0 (low from ∷ many count ∷ []) os fine.1 fine.2 (bounds-none from count (ap (λ (z : Turning). differs_at z (turns.Bounds from count)) (sym is) ∙ e))
+      all-moved fine.0 (low from ∷ many count ∷ []) os fine.1 fine.2 (bounds-none from count (ap (λ (z : Turning). differs-at z (turns.Bounds from count)) (sym is) ∙ e))
   turns-none (For lower upper stride) t (turns.Holds holds) os fine is e = absurd fine
   turns-none (While condition) t (turns.Bounds from count) os fine is e = absurd fine
   turns-none (While condition) t (turns.Holds holds) os fine is e =
-      all-moved fine.0 (test holds ∷ []) os fine.1 fine.2 (test-none holds (ap (λ (z : Turning). differs_at z (turns.Holds holds)) (sym is) ∙ e))
+      all-moved fine.0 (test holds ∷ []) os fine.1 fine.2 (test-none holds (ap (λ (z : Turning). differs-at z (turns.Holds holds)) (sym is) ∙ e))
 
   -- the trace of a head: one entry that changes nothing
   module _ (head : Head) (announce : List Observation) (agree : all_agree p announce ≡ true) (s : Store) where
@@ -153,12 +153,12 @@ module _ (p : Forecast) (next : Occurrence) (at : Occurrence) (values : List ℤ
     unfolding seen_in
     limited seen value words' = by value
       where
-        shown : (halt : Option Halt) → Deviates p next at values (run_by p next announce Limited s.scalars) how.Limit
+        shown : (halt : Option Halt) → Deviates p next at values (run-by p next announce Limited s.scalars) how.Limit
         shown halt = (Limit, (all-nil p next at values announce agree, refl), refl)
 
         by : (v : Result Yield Halt) → IsFollowed p next (trace_by seen v) s 0 (Err how.Limit) words'
-        by (Ok y) = subst (λ (c : Cut). Deviates p next at values (run_by p next announce c.ending c.store.scalars) how.Limit) (sym (cut-stop (entry seen) [] None s 0)) (shown None)
-        by (Err h) = subst (λ (c : Cut). Deviates p next at values (run_by p next announce c.ending c.store.scalars) how.Limit) (sym (cut-stop (entry seen) [] (Some h) s 0)) (shown (Some h))
+        by (Ok y) = subst (λ (c : Cut). Deviates p next at values (run-by p next announce c.ending c.store.scalars) how.Limit) (sym (cut-stop (entry seen) [] None s 0)) (shown None)
+        by (Err h) = subst (λ (c : Cut). Deviates p next at values (run-by p next announce c.ending c.store.scalars) how.Limit) (sym (cut-stop (entry seen) [] (Some h) s 0)) (shown (Some h))
 
     -- it is cut short
     pub head-cut : (left : ℕ) (seen : List Observation) (value : Result Yield Halt) (e : Result Turns code_cut.Cut) (c : code_cut.Cut) (halt : code.Halt) (words' : List ℤ) (h : How) → HeadFine p at values head seen value
@@ -188,7 +188,7 @@ module _ (p : Forecast) (next : Occurrence) (at : Occurrence) (values : List ℤ
 
     -- it yields something else than is expected
     pub head-differs : (left : ℕ) (seen : List Observation) (value : Result Yield Halt) (e : Result Turns code_cut.Cut) (y : Turns) (halt : code.Halt) (t : Turning) (words' : List ℤ) (h : How) → HeadFine p at values head seen value
-        → IsTurning p at head t → yield_where_left yield_by e halt ≡ where_left left value → e ≡ Ok y → differs_at t y ≡ Some h → IsFollowed p next (trace_by seen value) s left (Err h) words'
+        → IsTurning p at head t → yield_where_left yield_by e halt ≡ where_left left value → e ≡ Ok y → differs-at t y ≡ Some h → IsFollowed p next (trace_by seen value) s left (Err h) words'
     unfolding seen_in
     head-differs left seen value e y halt t words' h fine turning yields is differ =
         let got = yielded left value e y halt yields is in
@@ -201,13 +201,13 @@ module _ (p : Forecast) (next : Occurrence) (at : Occurrence) (values : List ℤ
             let os : List Observation = announce ++ seen ++ [] in
             let shown = moved announce seen (announce ++ seen) h refl agree d in
             let first = shown in
-            let nil : os ≡ announce ++ seen = append-nil_of (announce ++ seen) in
-            subst (λ (c : Cut). Deviates p next at values (run_by p next os c.ending c.store.scalars) h) (cut-one seen None n)
+            let nil : os ≡ announce ++ seen = append-nil-of (announce ++ seen) in
+            subst (λ (c : Cut). Deviates p next at values (run-by p next os c.ending c.store.scalars) h) (cut-one seen None n)
             (Differs first.0, behind os (announce ++ seen) nil first.0 first.1, first.2)
           where
-            append-nil_of : (xs : List Observation) → xs ++ [] ≡ xs
-            append-nil_of [] = refl
-            append-nil_of (x ∷ xs) = ap (λ (ys : List Observation). x ∷ ys) (append-nil_of xs)
+            append-nil-of : (xs : List Observation) → xs ++ [] ≡ xs
+            append-nil-of [] = refl
+            append-nil-of (x ∷ xs) = ap (λ (ys : List Observation). x ∷ ys) (append-nil-of xs)
 
             behind : (os us : List Observation) → os ≡ us → (o : Observation) → IsFirst p us o → IsFirst p (os ++ closing_at next Done s.scalars) o
             behind os us is o f =
@@ -221,7 +221,7 @@ module _ (p : Forecast) (next : Occurrence) (at : Occurrence) (values : List ℤ
 
     -- it yields what is expected
     pub head-scalar : (left : ℕ) (seen : List Observation) (value : Result Yield Halt) (e : Result Turns code_cut.Cut) (y : Turns) (halt : code.Halt) (t : Turning) (words' : List ℤ) (h : How) → HeadFine p at values head seen value
-        → IsTurning p at head t → yield_where_left yield_by e halt ≡ where_left left value → e ≡ Ok y → differs_at t y ≡ None → scalars_differ (p.scalars next) 0 s.scalars ≡ Some h
+        → IsTurning p at head t → yield_where_left yield_by e halt ≡ where_left left value → e ≡ Ok y → differs-at t y ≡ None → scalars_differ (p.scalars next) 0 s.scalars ≡ Some h
         → IsFollowed p next (trace_by seen value) s left (Err h) words'
     head-scalar left seen value e y halt t words' h fine turning yields is none differ =
         let got = yielded left value e y halt yields is in
@@ -231,7 +231,7 @@ module _ (p : Forecast) (next : Occurrence) (at : Occurrence) (values : List ℤ
         (followed-scalar p next at values (trace_by seen (Ok (yield_by y))) s (suc got.0) (cut_of s got.0 1 Done) words' h (fine-one p at values (entry seen) None agree all) (cut-one seen None got.0) refl differ))
 
     pub head-done : (left l u : ℕ) (seen : List Observation) (value : Result Yield Halt) (e : Result Turns code_cut.Cut) (y : Turns) (halt : code.Halt) (t : Turning) → HeadFine p at values head seen value
-        → IsTurning p at head t → yield_where_left yield_by e halt ≡ where_left left value → e ≡ Ok y → differs_at t y ≡ None → l ≡ left - 1 → l + u ≡ left → length (p.scalars next) ≡ length s.scalars
+        → IsTurning p at head t → yield_where_left yield_by e halt ≡ where_left left value → e ≡ Ok y → differs-at t y ≡ None → l ≡ left - 1 → l + u ≡ left → length (p.scalars next) ≡ length s.scalars
         → scalars_differ (p.scalars next) 0 s.scalars ≡ None → IsFollowed p next (trace_by seen value) s left (Ok u) s.memory
     head-done left l u seen value e y halt t fine turning yields is none rest sum sizes same =
         let got = yielded left value e y halt yields is in

@@ -26,8 +26,8 @@ use Rattle.block_exec.specs.Laws.{AlikeWhereLoaded}
 use Rattle.block_exec.proofs.AlikeStores.{depends_where_loaded}
 use Rattle.block_exec.proofs.StoredWords.{changes_where_stored}
 use Rattle.orders.specs.Runs.{Outcome, word, Machine, touches, SameOn, Alike, Lawful}
-use Rattle.orders.proofs.Swaps.{some_injective}
-use Rattle.orders.proofs.Lifts.{any_has, has_any, or_from_first, or_from_second}
+use Rattle.orders.proofs.Swaps.{some-injective}
+use Rattle.orders.proofs.Lifts.{any-has, has_any, or-from-first, or-from-second}
 use Rattle.follow.specs.Forecasts.{same_all, all_agree, Forecast}
 use Rattle.follow.specs.Reaches.{plus, reach_by, reach, Reached}
 use Rattle.follow.specs.Plans.{frame_with, work_trace, item_trace, Item, Work, Runs, Evaluates}
@@ -37,8 +37,8 @@ use Rattle.follow.specs.ReorderLaws.{FollowIsLawful}
 use Rattle.follow.proofs.Accessing.{only, is_access, own_accesses, own-accesses}
 
 -- lists of words
-same_set : (m w : List ℤ) (i a : ℕ) (v : ℤ) → length m ≡ length w → word m a ≡ word w a → word (set m i v) a ≡ word (set w i v) a
-same_set m w i a v size h =
+same-set : (m w : List ℤ) (i a : ℕ) (v : ℤ) → length m ≡ length w → word m a ≡ word w a → word (set m i v) a ≡ word (set w i v) a
+same-set m w i a v size h =
     ⊎_elim
     (λ e. ⊎_elim
     (λ l. subst (λ k. word (set m i v) k ≡ word (set w i v) k) (sym e) (get_or-set_same m i v (pos 0) l ∙ sym (get_or-set_same w i v (pos 0) (omega arith))))
@@ -117,7 +117,7 @@ module _ (p : Forecast) where
     effect-beside s t (Word address value) h = record {
       scalars = h.scalars;
       long = length-set s.memory address value ∙ h.long ∙ sym (length-set t.memory address value);
-      memory = λ a k. same_set s.memory t.memory address a value h.long (h.memory a k);
+      memory = λ a k. same-set s.memory t.memory address a value h.long (h.memory a k);
     }
 
     Both : Option Reached → Option Reached → Type 0
@@ -166,7 +166,7 @@ module _ (p : Forecast) where
       where
         by : (b : Bool) → list_any (is_access k access) accesses ≡ b → lies_in (if b then p.interval at access else None) (pos a) ≡ true → lies_in_one p k at accesses a ≡ true
         by true e h =
-            let (x, has, is) = any_has (is_access k access) accesses e in
+            let (x, has, is) = any-has (is_access k access) accesses e in
             let parts = and_parts (same_kind x.kind k) (nat_eq x.number access) is in
             let one : access ≡ x.number = let n = parts.1 in grind (arith, nat_tests) in
             has_any (λ (z : Access). same_kind z.kind k && lies_in (p.interval at z.number) (pos a)) accesses x has
@@ -252,31 +252,31 @@ module _ (p : Forecast) where
     abbrev begin : Item → List ℤ → Store
     begin i m = store_of m (p.scalars i.at) []
 
-    own_trace : Item → List ℤ → Trace
-    own_trace i m = work_trace (own i.at i.values i.work) i.work (begin i m)
+    own-trace : Item → List ℤ → Trace
+    own-trace i m = work_trace (own i.at i.values i.work) i.work (begin i m)
 
-    runs : (i : Item) (m : List ℤ) → s.run i m ≡ ended_with (after i) (state_of (reach p (own_trace i m) (begin i m)))
-    unfolding own_trace
+    runs : (i : Item) (m : List ℤ) → s.run i m ≡ ended_with (after i) (state_of (reach p (own-trace i m) (begin i m)))
+    unfolding own-trace
     runs i m = ap (λ (t : Trace). ended_with (after i) (state_of (reach p t (begin i m)))) (own-accesses p i.at i.values i.work (begin i m))
 
     -- the words that a run gives are those after its trace
-    gives : (i : Item) (m : List ℤ) (r : Outcome) → s.run i m ≡ Some r → r.memory ≡ (after_all (begin i m) (own_trace i m).entries).memory
+    gives : (i : Item) (m : List ℤ) (r : Outcome) → s.run i m ≡ Some r → r.memory ≡ (after_all (begin i m) (own-trace i m).entries).memory
     unfolding Ends
-    gives i m r e = from (reach p (own_trace i m) (begin i m)) (reach-after (own_trace i m) (begin i m)) (sym (runs i m) ∙ e)
+    gives i m r e = from (reach p (own-trace i m) (begin i m)) (reach-after (own-trace i m) (begin i m)) (sym (runs i m) ∙ e)
       where
-        from : (o : Option Reached) → Ends o (after_all (begin i m) (own_trace i m).entries) → ended_with (after i) (state_of o) ≡ Some r → r.memory ≡ (after_all (begin i m) (own_trace i m).entries).memory
+        from : (o : Option Reached) → Ends o (after_all (begin i m) (own-trace i m).entries) → ended_with (after i) (state_of o) ≡ Some r → r.memory ≡ (after_all (begin i m) (own-trace i m).entries).memory
         from None ends k = absurd (cc)
         from (Some u) ends k = by (same_all u.store.scalars (after i)) k
           where
-            by : (b : Bool) → (if b then Some (record { memory = u.store.memory; steps = u.steps }) else None) ≡ Some r → r.memory ≡ (after_all (begin i m) (own_trace i m).entries).memory
-            by true k = sym (ap (λ (o : Outcome). o.memory) (some_injective _ _ k)) ∙ ap (λ (v : Store). v.memory) ends
+            by : (b : Bool) → (if b then Some (record { memory = u.store.memory; steps = u.steps }) else None) ≡ Some r → r.memory ≡ (after_all (begin i m) (own-trace i m).entries).memory
+            by true k = sym (ap (λ (o : Outcome). o.memory) (some-injective _ _ k)) ∙ ap (λ (v : Store). v.memory) ends
             by false k = absurd (cc)
 
-    long_by : (i : Item) (m : List ℤ) (r : Outcome) → s.run i m ≡ Some r → length r.memory ≡ length m
-    long_by i m r e = ap length (gives i m r e) ∙ after-long (own_trace i m).entries (begin i m)
+    long-by : (i : Item) (m : List ℤ) (r : Outcome) → s.run i m ≡ Some r → length r.memory ≡ length m
+    long-by i m r e = ap length (gives i m r e) ∙ after-long (own-trace i m).entries (begin i m)
 
     kept_by : (i : Item) (m : List ℤ) (r : Outcome) → length m ≡ s.size → s.run i m ≡ Some r → (a : ℕ) → s.writes i a ≡ false → word r.memory a ≡ word m a
-    unfolding own_trace
+    unfolding own-trace
     kept_by i m r size e a none = ⊎_elim within past (cases_lt a s.size)
       where
         within : a < s.size → word r.memory a ≡ word m a
@@ -286,7 +286,7 @@ module _ (p : Forecast) where
 
         past : s.size ≤ a → word r.memory a ≡ word m a
         past l =
-            let long = long_by i m r e in
+            let long = long-by i m r e in
             word-get r.memory m a (slice_get_past r.memory a (omega (arith, long, size, l)) ∙ sym (slice_get_past m a (omega (arith, size, l))))
 
     small-and : (a : ℕ) (b : Bool) → a < words → b ≡ true → nat_lt a words && b ≡ true
@@ -294,19 +294,19 @@ module _ (p : Forecast) where
         let small : nat_lt a words ≡ true = grind (arith, nat_tests, l) in
         ap₂ (λ (c d : Bool). c && d) small e
 
-    near_by : (i : Item) (m n : List ℤ) → length m ≡ s.size → length n ≡ s.size → SameOn (touches s i) m n → Alike (s.writes i) (s.run i m) (s.run i n)
-    unfolding own_trace
-    near_by i m n lm ln alike =
+    near-by : (i : Item) (m n : List ℤ) → length m ≡ s.size → length n ≡ s.size → SameOn (touches s i) m n → Alike (s.writes i) (s.run i m) (s.run i n)
+    unfolding own-trace
+    near-by i m n lm ln alike =
         let q = s.writes i in
-        let one : own_trace i m ≡ own_trace i n = work-near i.at i.values i.work m n (p.scalars i.at) (alike-loaded i.at i.values i.work s.size m n lm ln (λ a l k. alike a (or_from_first _ _ (small-and a (lies_in_one p kind.Load i.at (work_accesses i.work) a) l k)))) in
-        let both = reach-beside q (own_trace i m) (begin i m) (begin i n) (record { scalars = refl; long = lm ∙ sym ln; memory = λ a k. alike a (or_from_second _ _ k) }) in
+        let one : own-trace i m ≡ own-trace i n = work-near i.at i.values i.work m n (p.scalars i.at) (alike-loaded i.at i.values i.work s.size m n lm ln (λ a l k. alike a (or-from-first _ _ (small-and a (lies_in_one p kind.Load i.at (work_accesses i.work) a) l k)))) in
+        let both = reach-beside q (own-trace i m) (begin i m) (begin i n) (record { scalars = refl; long = lm ∙ sym ln; memory = λ a k. alike a (or-from-second _ _ k) }) in
         subst (λ (o : Option Outcome). Alike q o (s.run i n)) (sym (runs i m))
-        (subst (λ (o : Option Outcome). Alike q (ended_with (after i) (state_of (reach p (own_trace i m) (begin i m)))) o) (sym (runs i n))
-        (subst (λ (t : Trace). Alike q (ended_with (after i) (state_of (reach p (own_trace i m) (begin i m)))) (ended_with (after i) (state_of (reach p t (begin i n))))) one
+        (subst (λ (o : Option Outcome). Alike q (ended_with (after i) (state_of (reach p (own-trace i m) (begin i m)))) o) (sym (runs i n))
+        (subst (λ (t : Trace). Alike q (ended_with (after i) (state_of (reach p (own-trace i m) (begin i m)))) (ended_with (after i) (state_of (reach p t (begin i n))))) one
         (ended-beside q after i _ _ both)))
 
-    pub lawful_at : Lawful s
-    lawful_at = record { long = λ i m r size e. long_by i m r e ∙ size; kept = kept_by; near = near_by }
+    pub lawful-at : Lawful s
+    lawful-at = record { long = λ i m r size e. long-by i m r e ∙ size; kept = kept_by; near = near-by }
 
-pub follow-is_lawful : FollowIsLawful
-follow-is_lawful p after words = lawful_at p after words
+pub follow-is-lawful : FollowIsLawful
+follow-is-lawful p after words = lawful-at p after words

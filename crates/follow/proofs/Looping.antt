@@ -158,10 +158,10 @@ module _ (p : Forecast) (k : ℕ) where
       tested-lead c (unsigned_abs o.next) (λ t. inward outside t (pos t)) condition (λ t. turn (inward outside t (pos t))) (λ t. plan (inward outside t (pos t)))
       (λ t. refl) (λ t. each (inward outside t (pos t))) few
 
-  pub turns-lead_planned : (loops : List Loop) (o : Outer) (c : ℕ) → HasTurnsIn loops o c → length (planned p loops o c) ≤ k → Leads p (turns_trace plain k loops o c) (planned p loops o c)
+  pub turns-lead-planned : (loops : List Loop) (o : Outer) (c : ℕ) → HasTurnsIn loops o c → length (planned p loops o c) ≤ k → Leads p (turns_trace plain k loops o c) (planned p loops o c)
   unfolding planned turns_trace
-  turns-lead_planned [] o c room few = leads-ends p
-  turns-lead_planned (l ∷ ls) o c room few =
+  turns-lead-planned [] o c room few = leads-ends p
+  turns-lead-planned (l ∷ ls) o c room few =
       outer-leads l.head (turn_trace plain 1 l (loops_trace plain k 2 ls)) (plan_turn 1 l (plan_loops p 2 ls)) o c room
       (λ b h. turn-leads 1 l (loops_trace plain k 2 ls) (plan_loops p 2 ls) b
       (loops-lead ls 2 b (omega arith) (first-few k (plan_loops p 2 ls b) (plan_block part.Post 1 b l.post)

@@ -69,7 +69,7 @@ module _ (D : ℕ) where
     where
       at : (z : Bool) → same_block a b ≡ z → same_block a b ≡ false
       at false e = e
-      at true e = absurd (let same_place = same_block-place a b e in omega (arith, h, same_place))
+      at true e = absurd (let same-place = same_block-place a b e in omega (arith, h, same-place))
 
   all-has : (P : BlockRef → Type 0) (xs : List BlockRef) (b : BlockRef) → AllByRecursion P xs → Has xs b → P b
   all-has P [] b all h = absurd h

@@ -1,11 +1,11 @@
 -- Instances that follow their prediction, in another order.
 use Rattle.std.proofs.Common.{◌≡◌, refl, ap, ◌∙◌, sym, ℕ, ℤ, List, [], ◌∷◌, length, Option, Some, None}
 use Rattle.orders.specs.Runs.{Outcome, and_then, follow, plus}
-use Rattle.orders.proofs.Swaps.{swap_law, apart_from_no_conflict}
+use Rattle.orders.proofs.Swaps.{swap_law, apart-from-no-conflict}
 use Rattle.orders.proofs.Permutations.{permutation_law}
 use Rattle.orders.proofs.Sorts.{sorted_law}
 use Rattle.orders.proofs.Shares.{places_law}
-use Rattle.follow.proofs.Lawful.{follow-is_lawful}
+use Rattle.follow.proofs.Lawful.{follow-is-lawful}
 use Rattle.follow.proofs.Ranking.{original-order}
 use Rattle.follow.specs.Forecasts.{Forecast}
 use Rattle.follow.specs.Plans.{planned, Item}
@@ -30,15 +30,15 @@ equal-runs : (p : Forecast) (after : Item → List ℤ) (xs ys : List Item) (m :
 equal-runs p after xs ys m e = follow-machine p after (length m) xs m ∙ e ∙ sym (follow-machine p after (length m) ys m)
 
 pub swap-keeps : SwapKeeps
-swap-keeps p after xs ys x y m apart = equal-runs p after _ _ m (swap_law (follow_machine p after (length m)) (follow-is_lawful p after (length m)) xs ys x y m refl (apart_from_no_conflict _ x y apart))
+swap-keeps p after xs ys x y m apart = equal-runs p after _ _ m (swap_law (follow_machine p after (length m)) (follow-is-lawful p after (length m)) xs ys x y m refl (apart-from-no-conflict _ x y apart))
 
 pub permutation-keeps : PermutationKeeps
-permutation-keeps p after xs ys m first second same keeps = equal-runs p after xs ys m (permutation_law (follow_machine p after (length m)) (follow-is_lawful p after (length m)) xs ys m refl first second same keeps)
+permutation-keeps p after xs ys m first second same keeps = equal-runs p after xs ys m (permutation_law (follow_machine p after (length m)) (follow-is-lawful p after (length m)) xs ys m refl first second same keeps)
 
 pub places-keep : PlacesKeep
-places-keep p after xs d places m once same keeps = equal-runs p after _ _ m (places_law (follow_machine p after (length m)) (follow-is_lawful p after (length m)) xs d places m refl once same keeps)
+places-keep p after xs d places m once same keeps = equal-runs p after _ _ m (places_law (follow_machine p after (length m)) (follow-is-lawful p after (length m)) xs d places m refl once same keeps)
 
 pub order-keeps : OrderKeeps
 order-keeps p after loops o c second ys m ordering keeps =
     equal-runs p after (planned p loops o c) ys m
-    (sorted_law (follow_machine p after (length m)) (follow-is_lawful p after (length m)) (ranked_key p loops) second (planned p loops o c) ys m refl (original-order p loops o c) ordering keeps)
+    (sorted_law (follow_machine p after (length m)) (follow-is-lawful p after (length m)) (ranked_key p loops) second (planned p loops o c) ys m refl (original-order p loops o c) ordering keeps)

@@ -18,7 +18,7 @@ use Rattle.follow.specs.FollowRuns.{follow_run}
 use Rattle.follow.specs.Successors.{first_scalars, closing_scalars, successor_scalars}
 use Rattle.follow.specs.ChainLaw.{ChainHolds, IsChunk, Chains}
 use Rattle.follow.proofs.Chaining.{same_all-exact}
-use Rattle.follow.proofs.Closing.{chain-of_chunk, same_all-self}
+use Rattle.follow.proofs.Closing.{chain-of-chunk, same_all-self}
 use Rattle.follow.proofs.Deviating.{done-is, follows-tests, tests-follow}
 
 -- what the right side of the law gives, where it gives something
@@ -54,7 +54,7 @@ sides p k loops o c s left x y chunk bound bare =
     let closing_is : closing_scalars p loops o c ≡ p.scalars y.at = ap (first_scalars p) chunk.goes_on.1 in
     let sizes = subst (AllByRecursion (λ (i : Item). length (p.scalars i.at) ≡ length s.scalars)) is chunk.sizes in
     ap (λ (z : List ℤ). undeviated p z (turns_trace plain k loops o c s) s left) (sym closing_is)
-    ∙ chain-of_chunk p k loops o c s left x chunk.begins.0 chunk.turns is bound bare sizes
+    ∙ chain-of-chunk p k loops o c s left x chunk.begins.0 chunk.turns is bound bare sizes
     ∙ ap (λ (z : List ℤ). if same_all s.scalars (p.scalars x.at) then closed_with z left (follow_run p (successor_scalars p loops o c) (x ∷ chunk.begins.0) s.memory) else None) closing_is
     ∙ ap (λ (is : List Item). if same_all s.scalars (p.scalars x.at) then closed_with (p.scalars y.at) left (follow_run p (successor_scalars p loops o c) is s.memory) else None) (sym is)
 

@@ -63,9 +63,9 @@ module _ (p : Forecast) (at : Occurrence) (values : List ℤ) where
         lined = k.lined;
       }
 
-  fine-front_or : (xs ys : List Observation) (halt : Option Halt) → all_agree p xs ≡ true → FineOr ys halt → FineOr (xs ++ ys) halt
-  fine-front_or xs ys None h k = agree-both xs ys h k
-  fine-front_or xs ys (Some halt) h k = fine-front xs ys halt h k
+  fine-front-or : (xs ys : List Observation) (halt : Option Halt) → all_agree p xs ≡ true → FineOr ys halt → FineOr (xs ++ ys) halt
+  fine-front-or xs ys None h k = agree-both xs ys h k
+  fine-front-or xs ys (Some halt) h k = fine-front xs ys halt h k
 
   -- entries: each but the last agrees
   FineRest : List Observation → List Entry → Option Halt → Type 0
@@ -185,11 +185,11 @@ module _ (p : Forecast) (at : Occurrence) (values : List ℤ) where
   fine-stored seen access z v (Ok old) h k = fine-step (seen ++ shown f (Address access) z ∷ []) _ None (agree-both seen (shown f (Address access) z ∷ []) h k)
   fine-stored seen access z v (Err halt) h k = fine-step (seen ++ shown f (Address access) z ∷ []) Nothing (Some halt) (fine-front seen (shown f (Address access) z ∷ []) halt h k)
 
-  Runs_fine : Stmt → Type 0
-  Runs_fine st = (s : Store) → FineTrace (statement_trace f st s)
+  Runs-fine : Stmt → Type 0
+  Runs-fine st = (s : Store) → FineTrace (statement_trace f st s)
 
-  statements-fine : (xs : List ((st : Stmt) × Runs_fine st)) (s : Store) → FineTrace (in_turn (map (statement_trace f) (map (λ e. e.0) xs)) s)
-  unfolding Runs_fine
+  statements-fine : (xs : List ((st : Stmt) × Runs-fine st)) (s : Store) → FineTrace (in_turn (map (statement_trace f) (map (λ e. e.0) xs)) s)
+  unfolding Runs-fine
   statements-fine [] s = fine-ends s
   statements-fine (st ∷ xs) s = fine-then s _ _ (st.1 s) (statements-fine xs)
 
@@ -215,32 +215,32 @@ module _ (p : Forecast) (at : Occurrence) (values : List ℤ) where
       fine-with_value a.seen a.value _ h (λ front address. fine-with_value (a.seen ++ e.seen) e.value _ (fine-tail a.seen e.value e.seen front k)
       (λ both v. fine-stored (a.seen ++ e.seen) access address v (found address) both (each address)))
 
-  statement_level-fine : (y : Stmt-F ((st : Stmt) × Runs_fine st)) (s : Store) → FineStep (statement_level f (map-Stmt _ _ (statement_trace f) (map-Stmt _ _ (λ e. e.0) y)) s)
-  unfolding Runs_fine
+  statement_level-fine : (y : Stmt-F ((st : Stmt) × Runs-fine st)) (s : Store) → FineStep (statement_level f (map-Stmt _ _ (statement_trace f) (map-Stmt _ _ (λ e. e.0) y)) s)
+  unfolding Runs-fine
   statement_level-fine (Stmt-F.Let number e) s = fine-with_value _ _ _ (told-fine s e) (λ h v. fine-step _ _ None h)
   statement_level-fine (Stmt-F.Set number e) s = fine-with_value _ _ _ (told-fine s e) (λ h v. fine-step _ _ None h)
   statement_level-fine (Stmt-F.Store access a e) s = fine-store access _ _ (λ z. or_stopped access (look_store (expectation_at p at) s.memory access z)) (told-fine s a) (told-fine s e) (λ z. fine-looked s.memory access z)
   statement_level-fine (Stmt-F.If e first second) s =
       fine-with_value _ _ _ (told-fine s e) (λ h v. fine-branch _ _ h (chosen-fine (same v (pos 0)) _ _ (statements-fine second) (statements-fine first)))
 
-  every_statement-fine : (st : Stmt) → Runs_fine st
-  unfolding Runs_fine
-  every_statement-fine = ind-Stmt Runs_fine (λ y z is. subst (λ w. Runs_fine (roll-Stmt w)) is
+  every-statement-fine : (st : Stmt) → Runs-fine st
+  unfolding Runs-fine
+  every-statement-fine = ind-Stmt Runs-fine (λ y z is. subst (λ w. Runs-fine (roll-Stmt w)) is
       (subst (λ (r : Store → Trace). (s : Store) → FineTrace (r s)) (sym (statement-rolled (map-Stmt _ _ (λ e. e.0) z)))
       (λ s. fine-traced (statement_level f (map-Stmt _ _ (statement_trace f) (map-Stmt _ _ (λ e. e.0) z)) s) s (statement_level-fine z s))))
 
   block-fine : (block : List Stmt) (s : Store) → FineTrace (block_trace f block s)
-  unfolding Runs_fine block_trace
+  unfolding Runs-fine block_trace
   block-fine [] s = fine-ends s
-  block-fine (st ∷ block) s = fine-then s _ _ (every_statement-fine st s) (block-fine block)
+  block-fine (st ∷ block) s = fine-then s _ _ (every-statement-fine st s) (block-fine block)
 
   pub instance-fine : (block : List Stmt) (s : Store) → all_agree p (announced f s) ≡ true → FineTrace (instance_trace f block s)
   unfolding instance_trace FineEntries
-  instance-fine block s h = at_first (block_trace f block (started s)).entries (block_trace f block (started s)).halt (block-fine block (started s))
+  instance-fine block s h = at-first (block_trace f block (started s)).entries (block_trace f block (started s)).halt (block-fine block (started s))
     where
-      at_first : (es : List Entry) (halt : Option Halt) → FineEntries es halt → FineEntries (shown_before (announced f s) es) halt
-      at_first [] halt k = k
-      at_first (e ∷ es) halt k = (agree-both (announced f s) e.before h k.0, k.1)
+      at-first : (es : List Entry) (halt : Option Halt) → FineEntries es halt → FineEntries (shown_before (announced f s) es) halt
+      at-first [] halt k = k
+      at-first (e ∷ es) halt k = (agree-both (announced f s) e.before h k.0, k.1)
 
   -- what of it is shown
   pub shows-cut : (es : List Entry) (halt : Option Halt) (n : ℕ) → FineEntries es halt → n < length es → all_agree p (seen_of es n) ≡ true
@@ -255,9 +255,9 @@ module _ (p : Forecast) (at : Occurrence) (values : List ℤ) where
   unfolding FineEntries FineRest all_agree
   shows-all [] halt n h few = subst (FineOr []) (sym h) refl
   shows-all (e ∷ es) halt zero h few = absurd (omega (arith, few))
-  shows-all (e ∷ []) halt (suc n) h few = subst (λ (os : List Observation). FineOr os halt) (sym (append-nil (e.before ++ e.seen))) (fine-front_or e.before e.seen halt h.0 h.1)
+  shows-all (e ∷ []) halt (suc n) h few = subst (λ (os : List Observation). FineOr os halt) (sym (append-nil (e.before ++ e.seen))) (fine-front-or e.before e.seen halt h.0 h.1)
   shows-all (e ∷ g ∷ es) halt (suc n) h few =
-      fine-front_or (e.before ++ e.seen) (seen_of (g ∷ es) n) halt (agree-both e.before e.seen h.0 h.1.0) (shows-all (g ∷ es) halt n (h.1.1, h.1.2) (omega (arith, few)))
+      fine-front-or (e.before ++ e.seen) (seen_of (g ∷ es) n) halt (agree-both e.before e.seen h.0 h.1.0) (shows-all (g ∷ es) halt n (h.1.1, h.1.2) (omega (arith, few)))
 
   -- one entry
   pub fine-one : (e : Entry) (halt : Option Halt) → all_agree p e.before ≡ true → FineOr e.seen halt → FineEntries (e ∷ []) halt

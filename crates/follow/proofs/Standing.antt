@@ -76,14 +76,14 @@ upto-zero (suc n) d = inl (omega arith)
 under-less : (xs ys : List ℕ) → Under xs ys → slice_cmp int_cmp (map pos xs) (map pos ys) ≡ Less
 under-less [] ys h = absurd h
 under-less (x ∷ xs) [] h = absurd h
-under-less (x ∷ xs) (y ∷ ys) (inl h) = step_less (pos x) (pos y) (slice_cmp int_cmp (map pos xs) (map pos ys)) (omega (arith, ints))
+under-less (x ∷ xs) (y ∷ ys) (inl h) = step-less (pos x) (pos y) (slice_cmp int_cmp (map pos xs) (map pos ys)) (omega (arith, ints))
   where
-    step_less : (a b : ℤ) (o : Ordering) → a <ℤ b → ordering_then (int_cmp a b) o ≡ Less
-    step_less a b o l = ap (λ (r : Ordering). ordering_then r o) (sym (int_cmp_is a b Less l))
-under-less (x ∷ xs) (y ∷ ys) (inr h) = step_same (pos x) (pos y) (slice_cmp int_cmp (map pos xs) (map pos ys)) (ap pos h.0) ∙ under-less xs ys h.1
+    step-less : (a b : ℤ) (o : Ordering) → a <ℤ b → ordering_then (int_cmp a b) o ≡ Less
+    step-less a b o l = ap (λ (r : Ordering). ordering_then r o) (sym (int_cmp_is a b Less l))
+under-less (x ∷ xs) (y ∷ ys) (inr h) = step-same (pos x) (pos y) (slice_cmp int_cmp (map pos xs) (map pos ys)) (ap pos h.0) ∙ under-less xs ys h.1
   where
-    step_same : (a b : ℤ) (o : Ordering) → a ≡ b → ordering_then (int_cmp a b) o ≡ o
-    step_same a b o e = ap (λ (z : ℤ). ordering_then (int_cmp a z) o) (sym e) ∙ ap (λ (r : Ordering). ordering_then r o) (tied_itself int_cmp_total a)
+    step-same : (a b : ℤ) (o : Ordering) → a ≡ b → ordering_then (int_cmp a b) o ≡ o
+    step-same a b o e = ap (λ (z : ℤ). ordering_then (int_cmp a z) o) (sym e) ∙ ap (λ (r : Ordering). ordering_then r o) (tied_itself int_cmp_total a)
 
 -- keys
 map-append : (us ws : List ℕ) → map pos us ++ map pos ws ≡ map pos (us ++ ws)
@@ -106,8 +106,8 @@ key-of D tail xs cs d m e size =
     ∙ key-map cs (tail d) m
 
 module _ (p : Forecast) (D : ℕ) where
-  abbrev last_place : ℕ → ℕ
-  last_place level = D + D + D + 3 - level
+  abbrev last-place : ℕ → ℕ
+  last-place level = D + D + D + 3 - level
 
   abbrev Keyed : Item → List ℕ → Type 0
   Keyed x ks = key p D x ≡ map pos ks
@@ -116,7 +116,7 @@ module _ (p : Forecast) (D : ℕ) where
     first : List ℕ
     second : List ℕ
     first_is : Keyed x first
-    second_is : Keyed y second
+    second-is : Keyed y second
     under : Under first second
 
   -- an instance in turns that begin with these numbers
@@ -148,35 +148,35 @@ module _ (p : Forecast) (D : ℕ) where
   block-spread P by level a (x ∷ xs) each = ((tt, tt), (each _, tt))
 
   turn-spread : (level : ℕ) (l : Loop) (inner : Around → List Item) (a : Around) (cs : List ℕ) (d : ℕ) → a.counters ≡ map pos cs → length cs ≡ level → level + d ≡ D
-      → Spread (inner a) (Placed cs d 0 (turns_in (p.trip (record { part = part.Head; level = level + 1 }) a.counters)) (level + 1 + (level + 1)) (last_place (level + 1)))
-      → Spread (plan_turn level l inner a) (Sits cs d (level + level + 1) (last_place level))
+      → Spread (inner a) (Placed cs d 0 (turns_in (p.trip (record { part = part.Head; level = level + 1 }) a.counters)) (level + 1 + (level + 1)) (last-place (level + 1)))
+      → Spread (plan_turn level l inner a) (Sits cs d (level + level + 1) (last-place level))
   turn-spread level l inner a cs d counters size deep within =
       let n : ℕ = turns_in (p.trip (record { part = part.Head; level = level + 1 }) a.counters) in
       let IsPre : Item → Type 0 = λ x. Keyed x (cs ++ (zeros d ++ (level + level + 1) ∷ [])) in
-      let IsPost : Item → Type 0 = λ x. Keyed x (cs ++ (behind d n ++ last_place level ∷ [])) in
-      let Inside : Item → Type 0 = Placed cs d 0 n (level + 1 + (level + 1)) (last_place (level + 1)) in
-      let Behind : Item → Type 0 = Sits cs d (level + level + 2) (last_place level) in
+      let IsPost : Item → Type 0 = λ x. Keyed x (cs ++ (behind d n ++ last-place level ∷ [])) in
+      let Inside : Item → Type 0 = Placed cs d 0 n (level + 1 + (level + 1)) (last-place (level + 1)) in
+      let Behind : Item → Type 0 = Sits cs d (level + level + 2) (last-place level) in
       let pre : List Item = plan_block part.Pre level a l.pre in
       let post : List Item = plan_block part.Post level a l.post in
       let pres : Spread pre IsPre = block-spread IsPre part.Pre level a l.pre (λ w. key-of D zeros a.counters cs d (level + level + 1) counters (omega (arith, size, deep))) in
-      let posts : Spread post IsPost = block-spread IsPost part.Post level a l.post (λ w. key-of D (λ m. behind m n) a.counters cs d (last_place level) counters (omega (arith, size, deep))) in
+      let posts : Spread post IsPost = block-spread IsPost part.Post level a l.post (λ w. key-of D (λ m. behind m n) a.counters cs d (last-place level) counters (omega (arith, size, deep))) in
       let inside_behind : AllByRecursion Behind (inner a) =
       all-map Inside Behind (inner a) (λ x h. record { rest = h.turn ∷ h.rest; place = h.place; is = h.is; size = h.size; above = omega (arith, h.above); within = omega (arith, h.within, deep) }) within.1 in
       let post_behind : AllByRecursion Behind post =
-      all-map IsPost Behind post (λ x h. record { rest = behind d n; place = last_place level; is = h; size = length-behind d n; above = omega (arith, deep); within = omega arith }) posts.1 in
-      let pre_sits : AllByRecursion (Sits cs d (level + level + 1) (last_place level)) pre =
-      all-map IsPre (Sits cs d (level + level + 1) (last_place level)) pre (λ x h. record { rest = zeros d; place = level + level + 1; is = h; size = length-zeros d; above = omega arith; within = omega (arith, deep) }) pres.1 in
-      let behind_sits : AllByRecursion (Sits cs d (level + level + 1) (last_place level)) (inner a ++ post) =
-      all-map Behind (Sits cs d (level + level + 1) (last_place level)) (inner a ++ post) (λ x h. record { rest = h.rest; place = h.place; is = h.is; size = h.size; above = omega (arith, h.above); within = h.within })
+      all-map IsPost Behind post (λ x h. record { rest = behind d n; place = last-place level; is = h; size = length-behind d n; above = omega (arith, deep); within = omega arith }) posts.1 in
+      let pre_sits : AllByRecursion (Sits cs d (level + level + 1) (last-place level)) pre =
+      all-map IsPre (Sits cs d (level + level + 1) (last-place level)) pre (λ x h. record { rest = zeros d; place = level + level + 1; is = h; size = length-zeros d; above = omega arith; within = omega (arith, deep) }) pres.1 in
+      let behind_sits : AllByRecursion (Sits cs d (level + level + 1) (last-place level)) (inner a ++ post) =
+      all-map Behind (Sits cs d (level + level + 1) (last-place level)) (inner a ++ post) (λ x h. record { rest = h.rest; place = h.place; is = h.is; size = h.size; above = omega (arith, h.above); within = h.within })
       (all-append Behind (inner a) post inside_behind post_behind) in
       let second : Ordered Earlier (inner a ++ post) =
       ordered-append Earlier Inside IsPost (inner a) post within.1 posts.1
       (λ x y h i. record {
         first = cs ++ (h.turn ∷ (h.rest ++ h.place ∷ []));
-        second = cs ++ (behind d n ++ last_place level ∷ []);
+        second = cs ++ (behind d n ++ last-place level ∷ []);
         first_is = h.is;
-        second_is = i;
-        under = under-front cs (h.turn ∷ (h.rest ++ h.place ∷ [])) (behind d n ++ last_place level ∷ []) (upto-under d h.turn n h.rest h.place (last_place level) h.upto h.size (omega (arith, h.within, deep)));
+        second-is = i;
+        under = under-front cs (h.turn ∷ (h.rest ++ h.place ∷ [])) (behind d n ++ last-place level ∷ []) (upto-under d h.turn n h.rest h.place (last-place level) h.upto h.size (omega (arith, h.within, deep)));
       }) within.0 posts.0 in
       let whole : Ordered Earlier (pre ++ (inner a ++ post)) =
       ordered-append Earlier IsPre Behind pre (inner a ++ post) pres.1 (all-append Behind (inner a) post inside_behind post_behind)
@@ -184,10 +184,10 @@ module _ (p : Forecast) (D : ℕ) where
         first = cs ++ (zeros d ++ (level + level + 1) ∷ []);
         second = cs ++ (i.rest ++ i.place ∷ []);
         first_is = h;
-        second_is = i.is;
+        second-is = i.is;
         under = under-front cs (zeros d ++ (level + level + 1) ∷ []) (i.rest ++ i.place ∷ []) (zeros-under d i.rest (level + level + 1) i.place i.size (omega (arith, i.above)));
       }) pres.0 second in
-      (whole, all-append (Sits cs d (level + level + 1) (last_place level)) pre (inner a ++ post) pre_sits behind_sits)
+      (whole, all-append (Sits cs d (level + level + 1) (last-place level)) pre (inner a ++ post) pre_sits behind_sits)
 
   -- turns of a loop
   module _ (cs : List ℕ) (d low high : ℕ) (plan : ℕ → List Item) (each : (i : ℕ) → Spread (plan i) (Sits (cs ++ i ∷ []) d low high)) where
@@ -205,7 +205,7 @@ module _ (p : Forecast) (D : ℕ) where
       first = cs ++ (t ∷ (s.rest ++ s.place ∷ []));
       second = cs ++ (q.turn ∷ (q.rest ++ q.place ∷ []));
       first_is = in-turn t x s;
-      second_is = q.is;
+      second-is = q.is;
       under = under-front cs (t ∷ (s.rest ++ s.place ∷ [])) (q.turn ∷ (q.rest ++ q.place ∷ [])) (inl (omega (arith, q.from)));
     }
 
@@ -232,7 +232,7 @@ module _ (p : Forecast) (D : ℕ) where
             first = cs ++ (t ∷ (zeros d ++ place ∷ []));
             second = cs ++ (t ∷ (s.rest ++ s.place ∷ []));
             first_is = test_is t;
-            second_is = in-turn t x s;
+            second-is = in-turn t x s;
             under = under-front cs (t ∷ (zeros d ++ place ∷ [])) (t ∷ (s.rest ++ s.place ∷ [])) (inr (refl, zeros-under d s.rest place s.place s.size (omega (arith, lower, s.above))));
           }) (each t).1)
           (all-map (Placed cs (suc d) (t + 1) n place high) (Earlier (test t)) more
@@ -240,7 +240,7 @@ module _ (p : Forecast) (D : ℕ) where
             first = cs ++ (t ∷ (zeros d ++ place ∷ []));
             second = cs ++ (q.turn ∷ (q.rest ++ q.place ∷ []));
             first_is = test_is t;
-            second_is = q.is;
+            second-is = q.is;
             under = under-front cs (t ∷ (zeros d ++ place ∷ [])) (q.turn ∷ (q.rest ++ q.place ∷ [])) (inl (omega (arith, q.from)));
           }) h)
 
@@ -277,48 +277,48 @@ module _ (p : Forecast) (D : ℕ) where
       ∙ ap (map pos) (append_assoc cs (t ∷ []) (zeros d ++ (level + level) ∷ []))
 
   loop-spread : (h : Head) (level : ℕ) (plan : Around → List Item) (a : Around) (cs : List ℕ) (d : ℕ) → a.counters ≡ map pos cs → length cs + 1 ≡ level → level + d ≡ D
-      → ((b : Around) (bs : List ℕ) → b.counters ≡ map pos bs → length bs ≡ level → Spread (plan b) (Sits bs d (level + level + 1) (last_place level)))
-      → Spread (plan_loop h p level h plan a) (Placed cs (suc d) 0 (turns_in (p.trip (record { part = part.Head; level = level }) a.counters)) (level + level) (last_place level))
+      → ((b : Around) (bs : List ℕ) → b.counters ≡ map pos bs → length bs ≡ level → Spread (plan b) (Sits bs d (level + level + 1) (last-place level)))
+      → Spread (plan_loop h p level h plan a) (Placed cs (suc d) 0 (turns_in (p.trip (record { part = part.Head; level = level }) a.counters)) (level + level) (last-place level))
   loop-spread (For lower upper stride) level plan a cs d counters size deep each =
       let n : ℕ = turns_in (p.trip (record { part = part.Head; level = level }) a.counters) in
       let value : ℕ → ℤ = λ t. turn_value (p.lower (record { block = record { part = part.Head; level = level }; counters = a.counters })) stride t in
       let one : Item = item part.Head level a (Evaluates (For lower upper stride)) in
-      let rest = turns-spread cs d (level + level + 1) (last_place level) (λ t. plan (inward a t (value t)))
+      let rest = turns-spread cs d (level + level + 1) (last-place level) (λ t. plan (inward a t (value t)))
       (λ t. each (inward a t (value t)) (cs ++ t ∷ []) (inward-is a cs t counters) (let e = length-more cs t in omega (arith, e, size))) n 0 n (omega arith) in
       let one_is : Keyed one (cs ++ (zeros (suc d) ++ (level + level) ∷ [])) = key-of D zeros a.counters cs (suc d) (level + level) counters (omega (arith, size, deep)) in
       let heads : AllByRecursion (Earlier one) (plan_turns n 0 (λ t. plan (inward a t (value t)))) =
-      all-map (Placed cs (suc d) 0 n (level + level + 1) (last_place level)) (Earlier one) (plan_turns n 0 (λ t. plan (inward a t (value t))))
+      all-map (Placed cs (suc d) 0 n (level + level + 1) (last-place level)) (Earlier one) (plan_turns n 0 (λ t. plan (inward a t (value t))))
       (λ x q. record {
         first = cs ++ (zeros (suc d) ++ (level + level) ∷ []);
         second = cs ++ (q.turn ∷ (q.rest ++ q.place ∷ []));
         first_is = one_is;
-        second_is = q.is;
+        second-is = q.is;
         under = under-front cs (zeros (suc d) ++ (level + level) ∷ []) (q.turn ∷ (q.rest ++ q.place ∷ [])) (zeros-under (suc d) (q.turn ∷ q.rest) (level + level) q.place q.size (omega (arith, q.above)));
       }) rest.1 in
-      let low : AllByRecursion (Placed cs (suc d) 0 n (level + level) (last_place level)) (plan_turns n 0 (λ t. plan (inward a t (value t)))) =
-      all-map (Placed cs (suc d) 0 n (level + level + 1) (last_place level)) (Placed cs (suc d) 0 n (level + level) (last_place level)) (plan_turns n 0 (λ t. plan (inward a t (value t))))
+      let low : AllByRecursion (Placed cs (suc d) 0 n (level + level) (last-place level)) (plan_turns n 0 (λ t. plan (inward a t (value t)))) =
+      all-map (Placed cs (suc d) 0 n (level + level + 1) (last-place level)) (Placed cs (suc d) 0 n (level + level) (last-place level)) (plan_turns n 0 (λ t. plan (inward a t (value t))))
       (λ x q. record { turn = q.turn; rest = q.rest; place = q.place; is = q.is; size = q.size; from = q.from; upto = q.upto; above = omega (arith, q.above); within = q.within }) rest.1 in
       ((heads, rest.0), (record { turn = 0; rest = zeros d; place = level + level; is = one_is; size = ap suc (length-zeros d); from = omega arith; upto = upto-zero n d; above = omega arith; within = omega (arith, deep) }, low))
   loop-spread (While condition) level plan a cs d counters size deep each =
       let n : ℕ = turns_in (p.trip (record { part = part.Head; level = level }) a.counters) in
-      whiles-spread cs d (level + level + 1) (last_place level) (λ t. plan (inward a t (pos t)))
+      whiles-spread cs d (level + level + 1) (last-place level) (λ t. plan (inward a t (pos t)))
       (λ t. each (inward a t (pos t)) (cs ++ t ∷ []) (inward-is a cs t counters) (let e = length-more cs t in omega (arith, e, size)))
       (λ t. item part.Head level (inward a t (pos t)) (Evaluates (While condition))) (level + level)
       (λ t. test-key level d t a cs (While condition) (pos t) counters size deep) (omega arith) (omega (arith, deep)) n 0 n (omega arith)
 
   loops-spread : (ls : List Loop) (level : ℕ) (a : Around) (cs : List ℕ) → a.counters ≡ map pos cs → length cs + 1 ≡ level → level + length ls ≡ D + 1
-      → Spread (plan_loops p level ls a) (Placed cs (length ls) 0 (turns_in (p.trip (record { part = part.Head; level = level }) a.counters)) (level + level) (last_place level))
+      → Spread (plan_loops p level ls a) (Placed cs (length ls) 0 (turns_in (p.trip (record { part = part.Head; level = level }) a.counters)) (level + level) (last-place level))
   loops-spread [] level a cs counters size deep = (tt, tt)
   loops-spread (l ∷ ls) level a cs counters size deep =
       loop-spread l.head level (plan_turn level l (plan_loops p (level + 1) ls)) a cs (length ls) counters size (omega (arith, deep))
       (λ b bs is long. turn-spread level l (plan_loops p (level + 1) ls) b bs (length ls) is long (omega (arith, deep)) (loops-spread ls (level + 1) b bs is (omega (arith, long)) (omega (arith, deep))))
 
   outer-spread : (h : Head) (plan : Around → List Item) (o : Outer) (c d : ℕ) → 1 + d ≡ D
-      → ((b : Around) (bs : List ℕ) → b.counters ≡ map pos bs → length bs ≡ 1 → Spread (plan b) (Sits bs d 3 (last_place 1))) → Ordered Earlier (plan_outer h h plan o c)
+      → ((b : Around) (bs : List ℕ) → b.counters ≡ map pos bs → length bs ≡ 1 → Spread (plan b) (Sits bs d 3 (last-place 1))) → Ordered Earlier (plan_outer h h plan o c)
   outer-spread (For lower upper stride) plan o c d deep each =
-      (turns-spread [] d 3 (last_place 1) (λ t. plan (inward outside t (turn_value o.lower stride t))) (λ t. each (inward outside t (turn_value o.lower stride t)) (t ∷ []) refl refl) c (unsigned_abs o.next) (unsigned_abs o.next + c) refl).0
+      (turns-spread [] d 3 (last-place 1) (λ t. plan (inward outside t (turn_value o.lower stride t))) (λ t. each (inward outside t (turn_value o.lower stride t)) (t ∷ []) refl refl) c (unsigned_abs o.next) (unsigned_abs o.next + c) refl).0
   outer-spread (While condition) plan o c d deep each =
-      (tested-spread [] d 3 (last_place 1) (λ t. plan (inward outside t (pos t))) (λ t. each (inward outside t (pos t)) (t ∷ []) refl refl)
+      (tested-spread [] d 3 (last-place 1) (λ t. plan (inward outside t (pos t))) (λ t. each (inward outside t (pos t)) (t ∷ []) refl refl)
       (λ t. item part.Head 1 (inward outside t (pos t)) (Evaluates (While condition))) 2 (λ t. test-key 1 d t outside [] (While condition) (pos t) refl refl deep) (omega arith) (omega (arith, deep))
       c (unsigned_abs o.next) (unsigned_abs o.next + c) refl).0
 
@@ -327,7 +327,7 @@ module _ (p : Forecast) (D : ℕ) where
   precedes (x ∷ xs) h = (all-map (Earlier x) (Precedes (slice_cmp int_cmp) (key p D) x) xs (λ y e. one y e) h.0, precedes xs h.1)
     where
       one : (y : Item) → Earlier x y → slice_cmp int_cmp (key p D x) (key p D y) ≡ Less
-      one y e = ap (λ (ks : List ℤ). slice_cmp int_cmp ks (key p D y)) e.first_is ∙ ap (λ (ks : List ℤ). slice_cmp int_cmp (map pos e.first) ks) e.second_is ∙ under-less e.first e.second e.under
+      one y e = ap (λ (ks : List ℤ). slice_cmp int_cmp ks (key p D y)) e.first_is ∙ ap (λ (ks : List ℤ). slice_cmp int_cmp (map pos e.first) ks) e.second-is ∙ under-less e.first e.second e.under
 
 pub planned-in_order : PlannedInOrder
 unfolding planned

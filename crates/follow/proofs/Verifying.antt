@@ -211,11 +211,11 @@ module _ (p : Forecast) where
     stored-seen seen z v (Ok old) = refl
     stored-seen seen z v (Err halt) = refl
 
-    Runs_alike : Stmt → Type 0
-    Runs_alike st = AlikeOn (statement_trace f st) (statement_trace g st)
+    Runs-alike : Stmt → Type 0
+    Runs-alike st = AlikeOn (statement_trace f st) (statement_trace g st)
 
-    statements-alike : (xs : List ((st : Stmt) × Runs_alike st)) → AlikeOn (in_turn (map (statement_trace f) (map (λ e. e.0) xs))) (in_turn (map (statement_trace g) (map (λ e. e.0) xs)))
-    unfolding Runs_alike
+    statements-alike : (xs : List ((st : Stmt) × Runs-alike st)) → AlikeOn (in_turn (map (statement_trace f) (map (λ e. e.0) xs))) (in_turn (map (statement_trace g) (map (λ e. e.0) xs)))
+    unfolding Runs-alike
     statements-alike [] s = inl refl
     statements-alike (st ∷ xs) s = then-alike s _ _ _ _ (st.1 s) (statements-alike xs)
 
@@ -246,19 +246,19 @@ module _ (p : Forecast) where
           step-fails (with_value b.seen b.value (λ v. step_of [] b.seen Nothing None (if same v (pos 0) then second' else first'))) s (with_value-wrong b.seen b.value _ h.1 (λ z. h.1)),
         )
 
-    abbrev value_step : ℕ → Told → Told → (ℤ → Result ℤ Halt) → ℤ → Transition
-    value_step access a e found address = with_value (a.seen ++ e.seen) e.value (λ v. stored (a.seen ++ e.seen ++ shown g (Address access) address ∷ []) address v (found address))
+    abbrev value-step : ℕ → Told → Told → (ℤ → Result ℤ Halt) → ℤ → Transition
+    value-step access a e found address = with_value (a.seen ++ e.seen) e.value (λ v. stored (a.seen ++ e.seen ++ shown g (Address access) address ∷ []) address v (found address))
 
-    abbrev store_step : ℕ → Told → Told → (ℤ → Result ℤ Halt) → Transition
-    store_step access a e found = with_value a.seen a.value (value_step access a e found)
+    abbrev store-step : ℕ → Told → Told → (ℤ → Result ℤ Halt) → Transition
+    store-step access a e found = with_value a.seen a.value (value-step access a e found)
 
-    value-wrong : (access : ℕ) (a e : Told) (found : ℤ → Result ℤ Halt) (z : ℤ) → Wrong (a.seen ++ e.seen) → Wrong (value_step access a e found z).entry.seen
+    value-wrong : (access : ℕ) (a e : Told) (found : ℤ → Result ℤ Halt) (z : ℤ) → Wrong (a.seen ++ e.seen) → Wrong (value-step access a e found z).entry.seen
     value-wrong access a e found z h =
         with_value-wrong (a.seen ++ e.seen) e.value (λ v. stored (a.seen ++ e.seen ++ shown g (Address access) z ∷ []) z v (found z)) h
         (λ v. ap (all_agree p) (stored-seen (a.seen ++ e.seen ++ shown g (Address access) z ∷ []) z v (found z)) ∙ wrong-front (a.seen ++ e.seen) (shown g (Address access) z ∷ []) h)
 
-    store-wrong : (access : ℕ) (a e : Told) (found : ℤ → Result ℤ Halt) → Wrong a.seen → Wrong (store_step access a e found).entry.seen
-    store-wrong access a e found h = with_value-wrong a.seen a.value (value_step access a e found) h (λ z. value-wrong access a e found z (wrong-front a.seen e.seen h))
+    store-wrong : (access : ℕ) (a e : Told) (found : ℤ → Result ℤ Halt) → Wrong a.seen → Wrong (store-step access a e found).entry.seen
+    store-wrong access a e found h = with_value-wrong a.seen a.value (value-step access a e found) h (λ z. value-wrong access a e found z (wrong-front a.seen e.seen h))
 
     stored-alike : (access : ℕ) (seen : List Observation) (z v : ℤ) (r r' : Result ℤ Halt) (s : Store) → LookedAlike access z r r'
         → Alike (traced (stored (seen ++ shown g (Address access) z ∷ []) z v r) s) (traced (stored (seen ++ shown g (Address access) z ∷ []) z v r') s)
@@ -270,43 +270,43 @@ module _ (p : Forecast) where
         inr (step-fails (stored all z v r) s (ap (all_agree p) (stored-seen all z v r) ∙ wrong), step-fails (stored all z v r') s (ap (all_agree p) (stored-seen all z v r') ∙ wrong))
 
     value-alike : (access : ℕ) (a e e' : Told) (found found' : ℤ → Result ℤ Halt) (s : Store) (z : ℤ) → ToldAlike e e' → LookedAlike access z (found z) (found' z)
-        → Alike (traced (value_step access a e found z) s) (traced (value_step access a e' found' z) s)
+        → Alike (traced (value-step access a e found z) s) (traced (value-step access a e' found' z) s)
     value-alike access a e e' found found' s z (inr h) fu =
-        inr (step-fails (value_step access a e found z) s (value-wrong access a e found z (wrong-back a.seen e.seen h.0)), step-fails (value_step access a e' found' z) s (value-wrong access a e' found' z (wrong-back a.seen e'.seen h.1)))
+        inr (step-fails (value-step access a e found z) s (value-wrong access a e found z (wrong-back a.seen e.seen h.0)), step-fails (value-step access a e' found' z) s (value-wrong access a e' found' z (wrong-back a.seen e'.seen h.1)))
     value-alike access a e e' found found' s z (inl se) fu =
-        subst (λ (r : Told). Alike (traced (value_step access a e found z) s) (traced (value_step access a r found' z) s)) se
+        subst (λ (r : Told). Alike (traced (value-step access a e found z) s) (traced (value-step access a r found' z) s)) se
         (with_value-alike (a.seen ++ e.seen) e.value (λ v. stored (a.seen ++ e.seen ++ shown g (Address access) z ∷ []) z v (found z)) (λ v. stored (a.seen ++ e.seen ++ shown g (Address access) z ∷ []) z v (found' z)) s
         (λ v. stored-alike access (a.seen ++ e.seen) z v (found z) (found' z) s fu))
 
     store-alike : (access : ℕ) (a a' e e' : Told) (found found' : ℤ → Result ℤ Halt) (s : Store) → ToldAlike a a' → ToldAlike e e' → ((z : ℤ) → LookedAlike access z (found z) (found' z))
-        → Alike (traced (store_step access a e found) s) (traced (store_step access a' e' found') s)
-    store-alike access a a' e e' found found' s (inr h) eu fu = inr (step-fails (store_step access a e found) s (store-wrong access a e found h.0), step-fails (store_step access a' e' found') s (store-wrong access a' e' found' h.1))
+        → Alike (traced (store-step access a e found) s) (traced (store-step access a' e' found') s)
+    store-alike access a a' e e' found found' s (inr h) eu fu = inr (step-fails (store-step access a e found) s (store-wrong access a e found h.0), step-fails (store-step access a' e' found') s (store-wrong access a' e' found' h.1))
     store-alike access a a' e e' found found' s (inl sa) eu fu =
-        subst (λ (r : Told). Alike (traced (store_step access a e found) s) (traced (store_step access r e' found') s)) sa
-        (with_value-alike a.seen a.value (value_step access a e found) (value_step access a e' found') s (λ z. value-alike access a e e' found found' s z eu (fu z)))
+        subst (λ (r : Told). Alike (traced (store-step access a e found) s) (traced (store-step access r e' found') s)) sa
+        (with_value-alike a.seen a.value (value-step access a e found) (value-step access a e' found') s (λ z. value-alike access a e e' found found' s z eu (fu z)))
 
     statement-rolled : (h : Frame) (y : Stmt-F Stmt) → statement_trace h (roll-Stmt y) ≡ (λ s. traced (statement_level h (map-Stmt _ _ (statement_trace h) y) s) s)
     unfolding statement_trace
     statement-rolled h y = fold-roll-Stmt (Store → Trace) (λ z s. traced (statement_level h z s) s) y
 
-    statement_level-alike : (y : Stmt-F ((st : Stmt) × Runs_alike st)) → AlikeOn (λ s. traced (statement_level f (map-Stmt _ _ (statement_trace f) (map-Stmt _ _ (λ e. e.0) y)) s) s) (λ s. traced (statement_level g (map-Stmt _ _ (statement_trace g) (map-Stmt _ _ (λ e. e.0) y)) s) s)
-    unfolding Runs_alike f g
+    statement_level-alike : (y : Stmt-F ((st : Stmt) × Runs-alike st)) → AlikeOn (λ s. traced (statement_level f (map-Stmt _ _ (statement_trace f) (map-Stmt _ _ (λ e. e.0) y)) s) s) (λ s. traced (statement_level g (map-Stmt _ _ (statement_trace g) (map-Stmt _ _ (λ e. e.0) y)) s) s)
+    unfolding Runs-alike f g
     statement_level-alike (Stmt-F.Let number e) s = set-alike (λ v os. step_of [] os (Local number v) None []) _ _ s (λ z os. refl) (told-alike s e)
     statement_level-alike (Stmt-F.Set number e) s = set-alike (λ v os. step_of [] os (Scalar number v) None []) _ _ s (λ z os. refl) (told-alike s e)
     statement_level-alike (Stmt-F.Store access a e) s =
         store-alike access _ _ _ _ (λ z. or_stopped access (look_store (expectation_at p at) s.memory access z)) (λ z. or_stopped access (look_store plain s.memory access z)) s (told-alike s a) (told-alike s e) (λ z. look-alike s.memory access z)
     statement_level-alike (Stmt-F.If e first second) s = if-alike _ _ _ _ _ _ s (statements-alike first) (statements-alike second) (told-alike s e)
 
-    every_statement-alike : (st : Stmt) → Runs_alike st
-    unfolding Runs_alike
-    every_statement-alike = ind-Stmt Runs_alike (λ y z is. subst (λ w. Runs_alike (roll-Stmt w)) is
+    every-statement-alike : (st : Stmt) → Runs-alike st
+    unfolding Runs-alike
+    every-statement-alike = ind-Stmt Runs-alike (λ y z is. subst (λ w. Runs-alike (roll-Stmt w)) is
         (subst (λ (r : Store → Trace). AlikeOn r (statement_trace g (roll-Stmt (map-Stmt _ _ (λ e. e.0) z)))) (sym (statement-rolled f (map-Stmt _ _ (λ e. e.0) z)))
         (subst (λ (q : Store → Trace). AlikeOn (λ s. traced (statement_level f (map-Stmt _ _ (statement_trace f) (map-Stmt _ _ (λ e. e.0) z)) s) s) q) (sym (statement-rolled g (map-Stmt _ _ (λ e. e.0) z))) (statement_level-alike z))))
 
     block-alike : (block : List Stmt) → AlikeOn (block_trace f block) (block_trace g block)
-    unfolding Runs_alike block_trace
+    unfolding Runs-alike block_trace
     block-alike [] s = inl refl
-    block-alike (st ∷ block) s = then-alike s _ _ _ _ (every_statement-alike st s) (block-alike block)
+    block-alike (st ∷ block) s = then-alike s _ _ _ _ (every-statement-alike st s) (block-alike block)
 
     fails-shown : (os : List Observation) (es : List Entry) (halt : Option Halt) → fine es halt ≡ false → fine (shown_before os es) halt ≡ false
     unfolding fine
@@ -319,11 +319,11 @@ module _ (p : Forecast) where
 
     instance-alike : (block : List Stmt) → AlikeOn (instance_trace f block) (instance_trace g block)
     unfolding instance_trace announced f g
-    instance-alike block s = at_first (block_trace f block (started s)) (block_trace g block (started s)) (block-alike block (started s))
+    instance-alike block s = at-first (block_trace f block (started s)) (block_trace g block (started s)) (block-alike block (started s))
       where
-        at_first : (t u : Trace) → Alike t u → Alike (record t { entries = shown_before (announced f s) t.entries }) (record u { entries = shown_before (announced g s) u.entries })
-        at_first t u (inl e) = inl (ap (λ (w : Trace). record w { entries = shown_before (announced f s) w.entries }) e)
-        at_first t u (inr h) = inr (fails-shown (announced f s) t.entries t.halt h.0, fails-shown (announced g s) u.entries u.halt h.1)
+        at-first : (t u : Trace) → Alike t u → Alike (record t { entries = shown_before (announced f s) t.entries }) (record u { entries = shown_before (announced g s) u.entries })
+        at-first t u (inl e) = inl (ap (λ (w : Trace). record w { entries = shown_before (announced f s) w.entries }) e)
+        at-first t u (inr h) = inr (fails-shown (announced f s) t.entries t.halt h.0, fails-shown (announced g s) u.entries u.halt h.1)
 
     head-alike : (head : Head) (s : Store) → HeadedAlike (head_of f head s) (head_of g head s)
     unfolding head_of f g

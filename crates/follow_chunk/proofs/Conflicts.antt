@@ -6,7 +6,7 @@ use Rattle.std.proofs.lemmas.Int.{ints}
 use Rattle.std.proofs.lemmas.Bool.{and_parts}
 use Rattle.std.proofs.lemmas.Bool.Decides.{nat_tests}
 use Rattle.std.proofs.lemmas.Option.{slice_get-map}
-use Rattle.plain_lemmas.proofs.MembershipLaws.{Has, list_any_has}
+use Rattle.plain_lemmas.proofs.MembershipLaws.{Has, list-any-has}
 use Rattle.affine.specs.Forms.{Affine, value_at}
 use Rattle.nest_lang.specs.declared.tree.Access.{Access as NestAccess}
 use Rattle.nest_lang.specs.declared.tree.AccessKind.{AccessKind}
@@ -41,11 +41,11 @@ use Rattle.follow_chunk.proofs.Whole as whole
 pub instances-return : InstancesReturn
 instances-return D t x is i = instance-occurrence D t is x i
 
-pub next-is_successor : NextIsSuccessor
-next-is_successor D t chunk x y is p = (λ s. successor-is D t is chunk x y p s, λ e. subst (IsSuccessor t chunk x) (sym e) (successor-law D t is chunk x p))
+pub next-is-successor : NextIsSuccessor
+next-is-successor D t chunk x y is p = (λ s. successor-is D t is chunk x y p s, λ e. subst (IsSuccessor t chunk x) (sym e) (successor-law D t is chunk x p))
 
-pub instances-have_items : InstancesHaveItems
-instances-have_items D scalars words loops t o chunk x task p = (standing.item-found D scalars loops t o chunk (pos words) task x p, whole.item-at D scalars loops t o chunk (pos words) task x p)
+pub instances-have-items : InstancesHaveItems
+instances-have-items D scalars words loops t o chunk x task p = (standing.item-found D scalars loops t o chunk (pos words) task x p, whole.item-at D scalars loops t o chunk (pos words) task x p)
 
 -- ---- an access whose interval has an address
 
@@ -143,7 +143,7 @@ module _ (D scalars : ℕ) (words : ℤ) (loops : List Loop) (t : Table) (o : Ou
   -- an access with the address in its interval, in the nest and in the table
   to-table : (kind : AccessKind) (a : ℕ) → lies_in_one (forecast_of t) kind i.at accesses a ≡ true → Touches t x (pos a) (is_store kind)
   to-table kind a h =
-      let (na, has, test) = list_any_has (λ (y : NestAccess). same_kind y.kind kind && lies_in ((forecast_of t).interval i.at y.number) (pos a)) accesses h in
+      let (na, has, test) = list-any-has (λ (y : NestAccess). same_kind y.kind kind && lies_in ((forecast_of t).interval i.at y.number) (pos a)) accesses h in
       let (k, e) = has-place accesses na has in
       let parts = and_parts (same_kind na.kind kind) (lies_in ((forecast_of t).interval i.at na.number) (pos a)) test in
       let number : na.number ≡ suc k = number-at accesses 1 k na numbered.0 e ∙ (let z : 1 + k ≡ suc k = omega arith in z) in

@@ -74,18 +74,18 @@ module _ (D scalars : ℕ) (loops : List Loop) (t : Table) (o : Outer) (chunk : 
       verified : frame_at site (verified_by intervals) ≡ frame_at site (expectation_at (forecast_of t) (occurrence_at site))
       verified = ap (frame_at site) (foretold-verified (forecast_of t) (occurrence_at site) (occurrence_of t (next t x)) (scalars_at t x) intervals (scalars_at t (next t x)) (running.told D scalars loops t o chunk words task x p site frames intervals each m after (Ok 0)))
 
-      trace_is : (s : Store) → instance_trace (frame_at site (verified_by intervals)) ss s ≡ item_trace (forecast_of t) (item_at t loops o x) s
-      trace_is s =
-          let (first, rest, are, item_is) = standing.item-statements D scalars loops t o chunk words task x p ss ss_is in
+      trace-is : (s : Store) → instance_trace (frame_at site (verified_by intervals)) ss s ≡ item_trace (forecast_of t) (item_at t loops o x) s
+      trace-is s =
+          let (first, rest, are, item-is) = standing.item-statements D scalars loops t o chunk words task x p ss ss_is in
           ap (λ (f : Frame). instance_trace f ss s) (verified ∙ running.frame-is D scalars loops t o chunk words task x p site frames intervals each m after (Ok 0))
           ∙ ap (λ (us : List Stmt). instance_trace frame us s) are
-          ∙ sym (ap (λ (i : Item). item_trace (forecast_of t) i s) item_is)
+          ∙ sym (ap (λ (i : Item). item_trace (forecast_of t) i s) item-is)
 
       here : (cut (instance_trace (frame_at site (verified_by intervals)) ss (store_of m sc [])) (store_of m sc []) (2 ^ 32) 0).store.memory
           ≡ (cut (item_trace (forecast_of t) (item_at t loops o x) (store_at t x m)) (store_at t x m) (2 ^ 32) 0).store.memory
       here =
           ap (λ (us : List ℤ). (cut (instance_trace (frame_at site (verified_by intervals)) ss (store_of m us [])) (store_of m us []) (2 ^ 32) 0).store.memory) sc_is
-          ∙ ap (λ (tr : Trace). (cut tr (store_at t x m) (2 ^ 32) 0).store.memory) (trace_is (store_at t x m))
+          ∙ ap (λ (tr : Trace). (cut tr (store_at t x m) (2 ^ 32) 0).store.memory) (trace-is (store_at t x m))
 
   -- numbers that fit as far as there are scalars
   pub closes-small : (sc aft : List ℤ) → sc ≡ scalars_at t x → aft ≡ scalars_at t (next t x) → ((k : ℕ) → k < length sc → FitsSigned w64 (get_or aft k (pos 0))) → ClosesSmall t x

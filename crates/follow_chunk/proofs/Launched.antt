@@ -129,7 +129,7 @@ module _ (D scalars : ℕ) (loops : List Loop) (t : Table) (o : Outer) (chunk : 
       → FitsSigned w64 (value_or_zero (level_at t k).lower (cut k x.at)) × FitsSigned w64 (turn_value (value_or_zero (level_at t k).lower (cut k x.at)) stride i)
   name-fits x k rank stride i p some inside s is l =
       let h = heads-none (instance rank (cut k x.at)) (head-predicted x k rank p some inside s) in
-      let head : head_by Head (suc k) t (cut k x.at) ≡ None = sym (ap₂ (λ (q : Part) (n : ℕ). head_by q n t (cut k x.at)) s.part_is s.level_is) ∙ h in
+      let head : head_by Head (suc k) t (cut k x.at) ≡ None = sym (ap₂ (λ (q : Part) (n : ℕ). head_by q n t (cut k x.at)) s.part-is s.level-is) ∙ h in
       let test : nat_lt 1 (suc k) ≡ true = grind (arith, nat_tests) in
       let around : suc k - 1 ≡ k = omega arith in
       let loop : loop_failure (level_at t k).kind (level_at t k).lower (trip t k (cut k x.at)) (counter (cut k x.at) k) (cut k x.at) ≡ None =

@@ -12,7 +12,7 @@ use Rattle.follow.specs.declared.how.How.{How}
 use Rattle.follow.specs.Forecasts.{Forecast}
 use Rattle.follow.specs.Plans.{Item}
 use Rattle.follow.specs.FollowRuns.{follow_one, follow_run}
-use Rattle.follow.proofs.Lawful.{follow-is_lawful}
+use Rattle.follow.proofs.Lawful.{follow-is-lawful}
 use Rattle.follow_chunk.specs.Predicted.{forecast_of}
 use Rattle.follow_chunk.specs.Items.{item_at, items_at, scalars_after}
 use Rattle.follow_chunk.specs.Followed.{Follows, Deviates, FirstDeviates}
@@ -71,4 +71,4 @@ module _ (t : Table) (loops : List Loop) (o : Outer) (xs : List Instance) (k : �
 
 -- an instance that follows leaves as many words
 pub long-after : (t : Table) (loops : List Loop) (o : Outer) (x : Instance) (steps : ℕ) (words after : List ℤ) → Follows t loops o x steps words after → length after ≡ length words
-long-after t loops o x steps words after f = (follow-is_lawful (forecast_of t) (scalars_after t) (length words)).long (item_at t loops o x) words (record { memory = after; steps = steps }) refl f.one
+long-after t loops o x steps words after f = (follow-is-lawful (forecast_of t) (scalars_after t) (length words)).long (item_at t loops o x) words (record { memory = after; steps = steps }) refl f.one

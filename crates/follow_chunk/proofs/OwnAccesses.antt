@@ -59,12 +59,12 @@ module _ (D scalars : ℕ) (words : ℤ) (loops : List Loop) (t : Table) (o : Ou
 
   pub own-block : (ss : List Stmt) → statements_of loops (block_ref (block_of t x).part (block_of t x).level) ≡ Some ss → VerifiesOwn e (interval_at t x) (block_accesses ss)
   own-block ss is =
-      let (s, rest, are, item_is) = standing.item-statements D scalars loops t o chunk words task x p ss is in
-      subst (VerifiesOwn e (interval_at t x)) (sym (ap block_accesses are ∙ sym (ap (λ (i : Item). work_accesses i.work) item_is) ∙ work-is)) own
+      let (s, rest, are, item-is) = standing.item-statements D scalars loops t o chunk words task x p ss is in
+      subst (VerifiesOwn e (interval_at t x)) (sym (ap block_accesses are ∙ sym (ap (λ (i : Item). work_accesses i.work) item-is) ∙ work-is)) own
 
   pub own-head : (h : tree.Head) → head_at loops (block_of t x).level ≡ Some h → (block_of t x).part ≡ Head → VerifiesOwn e (interval_at t x) (head_accesses h)
   own-head h is part =
-      let item_is : item_at t loops o x ≡ item (block_of t x).part (block_of t x).level (standing.A D scalars loops t o chunk words task x p) (Evaluates h) =
+      let item-is : item_at t loops o x ≡ item (block_of t x).part (block_of t x).level (standing.A D scalars loops t o chunk words task x p) (Evaluates h) =
       standing.item-head D scalars loops t o chunk words task x p part
       ∙ ap (λ (z : tree.Head). item (block_of t x).part (block_of t x).level (standing.A D scalars loops t o chunk words task x p) (Evaluates z)) (standing.head-same D scalars loops t o chunk words task x p h is) in
-      subst (VerifiesOwn e (interval_at t x)) (sym work-is ∙ ap (λ (i : Item). work_accesses i.work) item_is) own
+      subst (VerifiesOwn e (interval_at t x)) (sym work-is ∙ ap (λ (i : Item). work_accesses i.work) item-is) own

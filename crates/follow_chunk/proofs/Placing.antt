@@ -28,7 +28,7 @@ use Rattle.domain.specs.Instances.{Instance, instance, block_of, counter, Predic
 use Rattle.domain.specs.Expected.{form_of, expected_of}
 use Rattle.domain.specs.Shapes.{kind_of}
 use Rattle.domain.proofs.CounterLaws.{launched_counters}
-use Rattle.domain.proofs.RankLaws.{Stands, stands, has_rank}
+use Rattle.domain.proofs.RankLaws.{Stands, stands, has-rank}
 use Rattle.follow.specs.ChunkRuns.{HasTurns, HasTurnsIn}
 use Rattle.follow.specs.Forecasts.{Forecast}
 use Rattle.follow.specs.Instances.{value_in, into}
@@ -37,7 +37,7 @@ use Rattle.follow_chunk.specs.Predicted.{value_or_zero, instance_of, padded_to, 
 use Rattle.follow_chunk.specs.Predicted as predicted
 use Rattle.follow_chunk.specs.Items.{value_by, name_value, inside_of, around_of}
 use Rattle.follow_chunk.specs.Tasks.{IsTask}
-use Rattle.follow_chunk.proofs.Points.{padded-take_of}
+use Rattle.follow_chunk.proofs.Points.{padded-take-of}
 use Rattle.follow_chunk.proofs.Ranks.{depth-same}
 use Rattle.follow_chunk.proofs.Arounds.{inside-none, inside-more, inside-counters}
 use Rattle.follow_chunk.proofs.Launched.{name-fits}
@@ -78,7 +78,7 @@ lower-get (m ∷ ms) (suc k) at = lower-get ms k at
 lower-value : (t : Table) (k rank : ℕ) (at : List ℤ) → Stands t Head (suc k) rank → unwrap_or (expected_of t (instance rank at) Lower) (pos 0) ≡ value_or_zero (level_at t k).lower at
 unfolding expected_of form_of
 lower-value t k rank at s =
-    ap₂ (λ (q : Part) (n : ℕ). unwrap_or (option_map (λ (form : Affine). value_at form at) (option_and_then (λ (l : Level). l.lower) (head_level_by q (loop_of t n)))) (pos 0)) s.part_is s.level_is
+    ap₂ (λ (q : Part) (n : ℕ). unwrap_or (option_map (λ (form : Affine). value_at form at) (option_and_then (λ (l : Level). l.lower) (head_level_by q (loop_of t n)))) (pos 0)) s.part-is s.level-is
     ∙ lower-get t.levels k at
 
 -- a `for` with a counter is in a turn
@@ -114,7 +114,7 @@ module _ (D scalars : ℕ) (loops : List Loop) (t : Table) (o : Outer) (chunk : 
   -- ---- heads of inner loops
 
   pub head-stands : (k : ℕ) → 1 ≤ k → k < D → (rank : ℕ) × (rank_of t Head (suc k) ≡ Some rank)
-  head-stands k some l = has_rank t Head (suc k) ((task.shape).heads (suc k) (omega arith) (omega arith))
+  head-stands k some l = has-rank t Head (suc k) ((task.shape).heads (suc k) (omega arith) (omega arith))
 
   -- ---- lower bounds and values of names
 
@@ -124,7 +124,7 @@ module _ (D scalars : ℕ) (loops : List Loop) (t : Table) (o : Outer) (chunk : 
   lower-inner at k rank size some e =
       let test : nat_le (k + 1) 1 ≡ false = grind (arith, nat_tests) in
       ap (λ (b : Bool). if b then o.lower else (forecast_of t).lower (record { block = block_ref Head (k + 1); counters = take k at })) test
-      ∙ ap₂ (λ (r : Option ℕ) (point : List ℤ). unwrap_or (expected_of t (instance (unwrap_or r (length t.blocks)) point) Lower) (pos 0)) e (padded-take_of (depth t) k at size)
+      ∙ ap₂ (λ (r : Option ℕ) (point : List ℤ). unwrap_or (expected_of t (instance (unwrap_or r (length t.blocks)) point) Lower) (pos 0)) e (padded-take-of (depth t) k at size)
 
   -- the same by the form of the loop
   pub lower-level : (at : List ℤ) (k : ℕ) → length at ≡ depth t → 1 ≤ k → k < D → plan.lower_at (forecast_of t) o (k + 1) (take k at) ≡ value_or_zero (level_at t k).lower (cut k at)
@@ -134,7 +134,7 @@ module _ (D scalars : ℕ) (loops : List Loop) (t : Table) (o : Outer) (chunk : 
       lower-inner at k rank size some (ap (rank_of t Head) (sym next) ∙ e) ∙ lower-value t k rank (cut k at) (stands t Head (suc k) rank e)
 
   pub loop-kind : (k : ℕ) (h : tree.Head) → head_at loops (suc k) ≡ Some h → (level_at t k).kind ≡ kind_of h
-  loop-kind k h e = let (l, is, head_is) = head-loop (slice_get loops k) h e in kinds t.levels loops k l (task.table).levels is ∙ ap kind_of head_is
+  loop-kind k h e = let (l, is, head-is) = head-loop (slice_get loops k) h e in kinds t.levels loops k l (task.table).levels is ∙ ap kind_of head-is
 
   from-head : (h : tree.Head) → IsPosition h o → pos 0 ≤ℤ chunk.first
   from-head (head.For lower upper stride) (n, m, is, left, rest) = let e = task.first in omega (arith, ints)
@@ -251,12 +251,12 @@ module _ (D scalars : ℕ) (loops : List Loop) (t : Table) (o : Outer) (chunk : 
         front : length (take k x.at) ≡ k
         front = length-take-le k x.at (omega (arith, size))
 
-        counters_is : (inside_of (forecast_of t) o 1 loops outside (take k x.at)).counters ≡ take k x.at
-        counters_is = inside-counters (forecast_of t) o 1 loops outside (take k x.at) (let d = depth-same scalars loops t task.table in let e = (task.shape).deep in omega (arith, front)) (fronts-up k x.at up)
+        counters-is : (inside_of (forecast_of t) o 1 loops outside (take k x.at)).counters ≡ take k x.at
+        counters-is = inside-counters (forecast_of t) o 1 loops outside (take k x.at) (let d = depth-same scalars loops t task.table in let e = (task.shape).deep in omega (arith, front)) (fronts-up k x.at up)
 
-        value_is : value_in (forecast_of t) o h (1 + k) (inside_of (forecast_of t) o 1 loops outside (take k x.at)) (unsigned_abs (counter x.at k)) ≡ name_value t loops o x.at k
-        value_is =
-            values-same (forecast_of t) o h (1 + k) (inside_of (forecast_of t) o 1 loops outside (take k x.at)) (take k x.at) (unsigned_abs (counter x.at k)) counters_is
+        value-is : value_in (forecast_of t) o h (1 + k) (inside_of (forecast_of t) o 1 loops outside (take k x.at)) (unsigned_abs (counter x.at k)) ≡ name_value t loops o x.at k
+        value-is =
+            values-same (forecast_of t) o h (1 + k) (inside_of (forecast_of t) o 1 loops outside (take k x.at)) (take k x.at) (unsigned_abs (counter x.at k)) counters-is
             ∙ (let swap : 1 + k ≡ k + 1 = omega arith in ap (λ (n : ℕ). value_in (forecast_of t) o h n (record { counters = take k x.at; values = [] }) (unsigned_abs (counter x.at k))) swap)
             ∙ sym (ap (λ (z : Option tree.Head). value_by (forecast_of t) o z (k + 1) (take k x.at) (counter x.at k)) is)
 
@@ -265,7 +265,7 @@ module _ (D scalars : ℕ) (loops : List Loop) (t : Table) (o : Outer) (chunk : 
             ap (inside_of (forecast_of t) o 1 loops outside) (take_more x.at k (pos 0) (omega (arith, size)))
             ∙ inside-more (forecast_of t) o 1 loops outside (take k x.at) (counter x.at k) found.0 (ap (slice_get loops) front ∙ found.1)
             ∙ ap₂ (λ (z : tree.Head) (n : ℕ). into (forecast_of t) o z n (inside_of (forecast_of t) o 1 loops outside (take k x.at)) (counter x.at k)) found.2 (ap (λ (n : ℕ). 1 + n) front)
-            ∙ ap (inward (inside_of (forecast_of t) o 1 loops outside (take k x.at)) (unsigned_abs (counter x.at k))) value_is
+            ∙ ap (inward (inside_of (forecast_of t) o 1 loops outside (take k x.at)) (unsigned_abs (counter x.at k))) value-is
 
 pub around-none : (t : Table) (loops : List Loop) (o : Outer) → around_of t loops o [] ≡ outside
 unfolding around_of

@@ -6,8 +6,8 @@ use Rattle.domain.specs.declared.chunk.Chunk.{Chunk}
 use Rattle.domain.specs.Tables.{Table, depth, rank_of, counters, cut, IsTable}
 use Rattle.domain.specs.Instances.{Instance, instance, block_of, IsInstance, IsSuccessor, Predicted, Precedes, original_key, opening_at}
 use Rattle.domain.specs.Steps.{next}
-use Rattle.domain.proofs.PointLaws.{cut_same}
-use Rattle.domain.proofs.RankLaws.{Stands, stands, has_rank, is_some-stands, same-rank, text-stands}
+use Rattle.domain.proofs.PointLaws.{cut-same}
+use Rattle.domain.proofs.RankLaws.{Stands, stands, has-rank, is_some-stands, same-rank, text-stands}
 use Rattle.domain.proofs.OriginalLaws.{not-back, opening-last, successor-law}
 use Rattle.follow_chunk.specs.Predicted.{padded_to, occurrence_of, instance_of}
 
@@ -17,26 +17,26 @@ padded-take (suc n) [] = refl
 padded-take zero (x ∷ xs) = ap (λ (zs : List ℤ). pos 0 ∷ zs) (padded-take zero xs)
 padded-take (suc n) (x ∷ xs) = ap (λ (zs : List ℤ). x ∷ zs) (padded-take n xs)
 
-pub padded-take_of : (d n : ℕ) (xs : List ℤ) → length xs ≡ d → padded_to d (take n xs) ≡ cut n xs
-padded-take_of d n xs size = ap (λ (m : ℕ). padded_to m (take n xs)) (sym size) ∙ padded-take n xs
+pub padded-take-of : (d n : ℕ) (xs : List ℤ) → length xs ≡ d → padded_to d (take n xs) ≡ cut n xs
+padded-take-of d n xs size = ap (λ (m : ℕ). padded_to m (take n xs)) (sym size) ∙ padded-take n xs
 
 module _ (D : ℕ) (t : Table) (is : IsTable D t) where
   -- a block that stands somewhere has that rank
   pub rank-here : (part : Part) (level rank : ℕ) → Stands t part level rank → rank_of t part level ≡ Some rank
   rank-here part level rank s =
-      let found = has_rank t part level (is_some-stands t part level rank s) in
+      let found = has-rank t part level (is_some-stands t part level rank s) in
       let there = stands t part level found.0 found.1 in
       found.1 ∙ ap (λ (n : ℕ). Some n) (same-rank D t is found.0 rank there.inside s.inside (text-stands D t is part level found.0 there ∙ sym (text-stands D t is part level rank s)))
 
   here : (x : Instance) → x.block < length t.blocks → Stands t (block_of t x).part (block_of t x).level x.block
-  here x l = record { inside = l; part_is = refl; level_is = refl }
+  here x l = record { inside = l; part-is = refl; level-is = refl }
 
   pub instance-occurrence : (x : Instance) → IsInstance t x → instance_of t (occurrence_of t x) ≡ x
   unfolding instance_of occurrence_of
   instance-occurrence x i =
       ap₂ instance
       (ap (λ (r : Option ℕ). unwrap_or r (length t.blocks)) (rank-here (block_of t x).part (block_of t x).level x.block (here x i.block)))
-      (padded-take_of (depth t) (counters t (block_of t x)) x.at i.size ∙ cut_same (counters t (block_of t x)) x.at (λ k from to. i.rest k from))
+      (padded-take-of (depth t) (counters t (block_of t x)) x.at i.size ∙ cut-same (counters t (block_of t x)) x.at (λ k from to. i.rest k from))
 
   module _ (chunk : Chunk) (x y : Instance) (p : Predicted t chunk x) (s : IsSuccessor t chunk x y) where
     z : IsSuccessor t chunk x (next t x)

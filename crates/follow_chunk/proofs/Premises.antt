@@ -5,7 +5,7 @@ use Rattle.std.specs.List.{All}
 use Rattle.std.proofs.lemmas.Int.{ints}
 use Rattle.std.proofs.lemmas.List.{length-append}
 use Rattle.std.proofs.lemmas.List.Elements.{All-nil, All-cons}
-use Rattle.plain_lemmas.proofs.MembershipLaws.{Has, has_from_contains, contains_from_has}
+use Rattle.plain_lemmas.proofs.MembershipLaws.{Has, has-from-contains, contains-from-has}
 use Rattle.nest_lang.specs.declared.tree.BlockRef.{BlockRef}
 use Rattle.nest_lang.specs.declared.tree.Loop.{Loop}
 use Rattle.nest_lang.specs.declared.tree.Part.TheVariants.{Pre}
@@ -112,9 +112,9 @@ unfolding failure
 passes [] x vs e = let f : i ≡ x = ap (λ (xs : List Instance). get_or xs 0 i) e in subst (λ (y : Instance). failure row (pos 40) [] y ≡ None) f refl
 passes (u ∷ us) x vs e = absurd (let f = ap length e in let g = length-append us (x ∷ vs) in omega arith)
 
-pub premises-can_hold : PremisesCanHold
+pub premises-can-hold : PremisesCanHold
 unfolding present_blocks
-premises-can_hold = record {
+premises-can-hold = record {
   keeps = nest-keeps;
   shape = premises_can_hold;
   table = record { levels = refl; count = refl; each = block-here };
@@ -129,16 +129,16 @@ premises-can_hold = record {
     1,
     record {
       list = i ∷ [];
-      original = record { ordered = (tt, tt); has = λ x. (λ c. has_to x (has_from_contains (i ∷ []) x c), λ p. contains_from_has (i ∷ []) x (inl (only x p))) };
+      original = record { ordered = (tt, tt); has = λ x. (λ c. has-to x (has-from-contains (i ∷ []) x c), λ p. contains-from-has (i ∷ []) x (inl (only x p))) };
       count = refl;
       passes = passes;
     },
   );
 }
   where
-    has_to : (x : Instance) → Has (i ∷ []) x → Predicted row one_turn x
-    has_to x (inl e) = subst (Predicted row one_turn) (sym e) here
-    has_to x (inr h) = absurd h
+    has-to : (x : Instance) → Has (i ∷ []) x → Predicted row one_turn x
+    has-to x (inl e) = subst (Predicted row one_turn) (sym e) here
+    has-to x (inr h) = absurd h
 
     lowers : (k : ℕ) (stride : ℤ) → (level_at row k).kind ≡ kinds.For stride → (level_at row k).lower ≡ None → (level_at row k).trip ≡ None
     lowers zero stride is e = refl

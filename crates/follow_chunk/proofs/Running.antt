@@ -42,7 +42,7 @@ use Rattle.follow_chunk.specs.Predicted.{padded_to, occurrence_of, instance_of, 
 use Rattle.follow_chunk.specs.Items.{item_at}
 use Rattle.follow_chunk.specs.Tasks.{IsTask}
 use Rattle.follow_chunk.specs.Followed.{store_at, IsRun}
-use Rattle.follow_chunk.proofs.Points.{padded-take_of, instance-occurrence, successor-is}
+use Rattle.follow_chunk.proofs.Points.{padded-take-of, instance-occurrence, successor-is}
 use Rattle.follow_chunk.proofs.Launched.{scalars-fit, scalars-none}
 use Rattle.follow_chunk.proofs.Predicting.{length-scalars}
 use Rattle.follow_chunk.proofs.Standing as standing
@@ -60,7 +60,7 @@ trip-get (m ∷ ms) (suc k) at = trip-get ms k at
 pub trip-value : (t : Table) (k rank : ℕ) (at : List ℤ) → Stands t Head (suc k) rank → unwrap_or (expected_of t (instance rank (cut k at)) Trip) (pos 0) ≡ trip t k at
 unfolding expected_of form_of
 trip-value t k rank at s =
-    ap₂ (λ (q : Part) (n : ℕ). unwrap_or (option_map (λ (form : Affine). value_at form (cut k at)) (option_and_then (λ (l : Level). l.trip) (head_level_by q (loop_of t n)))) (pos 0)) s.part_is s.level_is
+    ap₂ (λ (q : Part) (n : ℕ). unwrap_or (option_map (λ (form : Affine). value_at form (cut k at)) (option_and_then (λ (l : Level). l.trip) (head_level_by q (loop_of t n)))) (pos 0)) s.part-is s.level-is
     ∙ trip-get t.levels k (cut k at) ∙ by (level_at t k).trip refl
   where
     by : (f : Option Affine) → (level_at t k).trip ≡ f → value_or_zero f (cut k at) ≡ trip t k at
@@ -73,13 +73,13 @@ get-take (suc n) [] k l = refl
 get-take (suc n) (x ∷ xs) zero l = refl
 get-take (suc n) (x ∷ xs) (suc k) l = get-take n xs k (omega arith)
 
-take-take_less : (n m : ℕ) (xs : List ℤ) → n ≤ m → take n (take m xs) ≡ take n xs
-take-take_less zero zero xs l = refl
-take-take_less zero (suc m) [] l = refl
-take-take_less zero (suc m) (x ∷ xs) l = refl
-take-take_less (suc n) zero xs l = absurd (omega arith)
-take-take_less (suc n) (suc m) [] l = refl
-take-take_less (suc n) (suc m) (x ∷ xs) l = ap (λ (zs : List ℤ). x ∷ zs) (take-take_less n m xs (omega arith))
+take-take-less : (n m : ℕ) (xs : List ℤ) → n ≤ m → take n (take m xs) ≡ take n xs
+take-take-less zero zero xs l = refl
+take-take-less zero (suc m) [] l = refl
+take-take-less zero (suc m) (x ∷ xs) l = refl
+take-take-less (suc n) zero xs l = absurd (omega arith)
+take-take-less (suc n) (suc m) [] l = refl
+take-take-less (suc n) (suc m) (x ∷ xs) l = ap (λ (zs : List ℤ). x ∷ zs) (take-take-less n m xs (omega arith))
 
 nothing : (xs : List ℤ) → length xs ≡ 0 → xs ≡ []
 nothing [] e = refl
@@ -96,7 +96,7 @@ module _ (D scalars : ℕ) (loops : List Loop) (t : Table) (o : Outer) (chunk : 
   next-io = instance-occurrence D t task.shape (next t x) (standing.next-instance D scalars loops t o chunk words task x p)
 
   forms-of : (rank : ℕ) → rank < length t.blocks → length (block_of t (instance rank [])).scalars ≡ scalars
-  forms-of rank l = (standing.block-of_rank D scalars loops t o chunk words task rank l).forms
+  forms-of rank l = (standing.block-of-rank D scalars loops t o chunk words task rank l).forms
 
   pub count-here : length (block_of t x).scalars ≡ scalars
   count-here = forms-of x.block p.is.block
@@ -152,33 +152,33 @@ module _ (D scalars : ℕ) (loops : List Loop) (t : Table) (o : Outer) (chunk : 
         → IsRun t loops o x m result after
     run-block sc aft ss sc_is aft_is ss_is followed = by (standing.item-statements D scalars loops t o chunk words task x p ss ss_is)
       where
-        with_all : (r : Forecast) (nx : Occurrence) → Foretold r (occurrence_at site) nx (scalars_at t x) intervals (scalars_at t (next t x))
+        with-all : (r : Forecast) (nx : Occurrence) → Foretold r (occurrence_at site) nx (scalars_at t x) intervals (scalars_at t (next t x))
             → IsFollowed r nx (instance_trace (frame_at site (expectation_at r (occurrence_at site))) ss (store_at t x m)) (store_at t x m) (2 ^ 32) result after
-        with_all r nx =
+        with-all r nx =
             subst (λ (us : List ℤ). Foretold r (occurrence_at site) nx us intervals (scalars_at t (next t x)) → IsFollowed r nx (instance_trace (frame_at site (expectation_at r (occurrence_at site))) ss (store_of m us [])) (store_of m us []) (2 ^ 32) result after) sc_is
             (subst (λ (us : List ℤ). Foretold r (occurrence_at site) nx sc intervals us → IsFollowed r nx (instance_trace (frame_at site (expectation_at r (occurrence_at site))) ss (store_of m sc [])) (store_of m sc []) (2 ^ 32) result after) aft_is (followed r nx))
 
         by : (s : Stmt) × (rest : List Stmt) × (ss ≡ s ∷ rest) × (item_at t loops o x ≡ item (block_of t x).part (block_of t x).level (standing.A D scalars loops t o chunk words task x p) (Runs s rest)) → IsRun t loops o x m result after
         by (s, rest, ss_are, is) =
             run-work (Runs s rest) is
-            (λ r nx told. subst (λ (us : List Stmt). IsFollowed r nx (instance_trace (frame_at site (expectation_at r (occurrence_at site))) us (store_at t x m)) (store_at t x m) (2 ^ 32) result after) ss_are (with_all r nx told))
+            (λ r nx told. subst (λ (us : List Stmt). IsFollowed r nx (instance_trace (frame_at site (expectation_at r (occurrence_at site))) us (store_at t x m)) (store_at t x m) (2 ^ 32) result after) ss_are (with-all r nx told))
 
     pub run-head : (sc aft : List ℤ) (h : tree.Head) (tu : Turning) → sc ≡ scalars_at t x → aft ≡ scalars_at t (next t x) → blocks.head_at loops (block_of t x).level ≡ Some h → (block_of t x).part ≡ Head → IsTurning q (occurrence_of t x) h tu
         → ((r : Forecast) (nx : Occurrence) → Foretold r (occurrence_at site) nx sc intervals aft → IsTurning r (occurrence_at site) h tu
         → IsFollowed r nx (work_trace (frame_at site (expectation_at r (occurrence_at site))) (Evaluates h) (store_of m sc [])) (store_of m sc []) (2 ^ 32) result after)
         → IsRun t loops o x m result after
-    run-head sc aft h tu sc_is aft_is head_is part_is turning followed =
+    run-head sc aft h tu sc_is aft_is head-is part-is turning followed =
         subst (λ (tr : Trace). IsFollowed q (occurrence_of t (next t x)) tr (store_at t x m) (2 ^ 32) result after)
-        (ap (λ (f : Frame). work_trace f (Evaluates h) (store_at t x m)) frame-is ∙ sym (ap (λ (i : Item). item_trace q i (store_at t x m)) item_is))
+        (ap (λ (f : Frame). work_trace f (Evaluates h) (store_at t x m)) frame-is ∙ sym (ap (λ (i : Item). item_trace q i (store_at t x m)) item-is))
         (subst (λ (us : List ℤ). IsFollowed q (occurrence_of t (next t x)) (work_trace (frame_at site (expectation_at q (occurrence_at site))) (Evaluates h) (store_of m us [])) (store_of m us []) (2 ^ 32) result after) sc_is
         (followed q (occurrence_of t (next t x))
         (subst (λ (us : List ℤ). Foretold q (occurrence_at site) (occurrence_of t (next t x)) us intervals aft) (sym sc_is) (subst (λ (us : List ℤ). Foretold q (occurrence_at site) (occurrence_of t (next t x)) (scalars_at t x) intervals us) (sym aft_is) told))
         (subst (λ (i : Occurrence). IsTurning q i h tu) (sym site-is) turning)))
       where
-        item_is : item_at t loops o x ≡ item (block_of t x).part (block_of t x).level (standing.A D scalars loops t o chunk words task x p) (Evaluates h)
-        item_is =
-            standing.item-head D scalars loops t o chunk words task x p part_is
-            ∙ ap (λ (z : tree.Head). item (block_of t x).part (block_of t x).level (standing.A D scalars loops t o chunk words task x p) (Evaluates z)) (standing.head-same D scalars loops t o chunk words task x p h head_is)
+        item-is : item_at t loops o x ≡ item (block_of t x).part (block_of t x).level (standing.A D scalars loops t o chunk words task x p) (Evaluates h)
+        item-is =
+            standing.item-head D scalars loops t o chunk words task x p part-is
+            ∙ ap (λ (z : tree.Head). item (block_of t x).part (block_of t x).level (standing.A D scalars loops t o chunk words task x p) (Evaluates z)) (standing.head-same D scalars loops t o chunk words task x p h head-is)
 
   -- ---- heads
 
@@ -186,13 +186,13 @@ module _ (D scalars : ℕ) (loops : List Loop) (t : Table) (o : Outer) (chunk : 
   n = counters t (block_of t x)
 
   stands-here : (block_of t x).part ≡ Head → Stands t Head (suc ((block_of t x).level - 1)) x.block
-  stands-here e = record { inside = p.is.block; part_is = e; level_is = let s = ((task.shape).blocks x.block p.is.block).from in omega (arith, s) }
+  stands-here e = record { inside = p.is.block; part-is = e; level-is = let s = ((task.shape).blocks x.block p.is.block).from in omega (arith, s) }
 
   pub trip-here : (block_of t x).part ≡ Head → unwrap_or (expected_of t (instance x.block (cut ((block_of t x).level - 1) x.at)) Trip) (pos 0) ≡ trip t ((block_of t x).level - 1) x.at
   trip-here e = trip-value t ((block_of t x).level - 1) x.block x.at (stands-here e)
 
   trip-padded : (j m : ℕ) → j ≤ m → trip t j (padded_to (depth t) (take m x.at)) ≡ trip t j x.at
-  trip-padded j m l = ap (trip t j) (padded-take_of (depth t) m x.at p.is.size) ∙ trip-cut t j m x.at l
+  trip-padded j m l = ap (trip t j) (padded-take-of (depth t) m x.at p.is.size) ∙ trip-cut t j m x.at l
 
   count-head : (h : tree.Head) → blocks.head_at loops (block_of t x).level ≡ Some h → (block_of t x).part ≡ Head → blocks.counters_by Head h (block_of t x).level ≡ n
   count-head h is e = standing.counts-by D scalars loops t o chunk words task x p h is e
@@ -212,7 +212,7 @@ module _ (D scalars : ℕ) (loops : List Loop) (t : Table) (o : Outer) (chunk : 
       let some = ((task.shape).blocks x.block p.is.block).from in
       let long : length (take n x.at) ≡ n = length-take-le n x.at (let s = p.is.size in let d = (task.shape).deep in let m = standing.deep-here D scalars loops t o chunk words task x p in omega arith) in
       let last : last_of (take n x.at) ≡ counter x.at ((block_of t x).level - 1) = (let f : length (take n x.at) - 1 ≡ (block_of t x).level - 1 = omega arith in ap (λ (i : ℕ). get_or (take n x.at) i (pos 0)) f) ∙ get-take n x.at ((block_of t x).level - 1) (omega arith) in
-      let rest : around_last (take n x.at) ≡ take ((block_of t x).level - 1) x.at = (let f : length (take n x.at) - 1 ≡ (block_of t x).level - 1 = omega arith in ap (λ (i : ℕ). take i (take n x.at)) f) ∙ take-take_less ((block_of t x).level - 1) n x.at (omega arith) in
+      let rest : around_last (take n x.at) ≡ take ((block_of t x).level - 1) x.at = (let f : length (take n x.at) - 1 ≡ (block_of t x).level - 1 = omega arith in ap (λ (i : ℕ). take i (take n x.at)) f) ∙ take-take-less ((block_of t x).level - 1) n x.at (omega arith) in
       let around = ap (λ (cs : List ℤ). trip t ((block_of t x).level - 1) (padded_to (depth t) cs)) rest ∙ trip-padded ((block_of t x).level - 1) ((block_of t x).level - 1) (omega arith) in
       ap (λ (b : Bool). Holds (nat_le (block_of t x).level 1 || b)) (sym (ap₂ int_lt last around))
 

@@ -21,7 +21,7 @@ use Rattle.nest_lang.specs.BlockLaws.{IsPresentPart}
 use Rattle.nest_lang.specs.Loops.{Around, outside}
 use Rattle.nest_lang.specs.Places.{block_size}
 use Rattle.nest_lang.specs.Rules.{strides, loop_keeps, loops_keep, AreNumbered, LoopKeeps}
-use Rattle.nest_lang.proofs.Ranks.{ranks-are_numbers, present_blocks-have_ranks}
+use Rattle.nest_lang.proofs.Ranks.{ranks-are-numbers, present_blocks-have-ranks}
 use Rattle.domain.specs.declared.chunk.Chunk.{Chunk}
 use Rattle.domain.specs.declared.table.LoopKind.{LoopKind}
 use Rattle.domain.specs.Tables.{Table, Block, Access, block_at, level_at, is_while, counters, counters_by}
@@ -62,9 +62,9 @@ unfolding loops_keep
 all-strides [] keeps k m e = absurd (cc)
 all-strides (l ∷ ls) keeps k m e = loop-strides l ls (and_parts _ (loop_keeps l ls) keeps).1 k m e
 
-pub block-of_rank : (D scalars : ℕ) (loops : List Loop) (t : Table) (o : Outer) (chunk : Chunk) (words : ℤ) → IsTask D scalars loops t o chunk words → (rank : ℕ) → rank < length t.blocks
+pub block-of-rank : (D scalars : ℕ) (loops : List Loop) (t : Table) (o : Outer) (chunk : Chunk) (words : ℤ) → IsTask D scalars loops t o chunk words → (rank : ℕ) → rank < length t.blocks
     → IsBlockOf scalars loops (get_or (present_blocks loops) rank (block_ref Pre 0)) (block_at t rank)
-block-of_rank D scalars loops t o chunk words task rank l =
+block-of-rank D scalars loops t o chunk words task rank l =
     (task.table).each rank (get_or (present_blocks loops) rank (block_ref Pre 0)) (get-here (present_blocks loops) rank (block_ref Pre 0) (let e = (task.table).count in omega arith))
 
 module _ (D scalars : ℕ) (loops : List Loop) (t : Table) (o : Outer) (chunk : Chunk) (words : ℤ) (task : IsTask D scalars loops t o chunk words) (x : Instance) (p : Predicted t chunk x) where
@@ -93,7 +93,7 @@ module _ (D scalars : ℕ) (loops : List Loop) (t : Table) (o : Outer) (chunk : 
   block-is = subst (λ (r : BlockRef). IsBlockOf scalars loops r b) same of
 
   pub loop-here : (l : Loop) × (loop_at loops b.level ≡ Some l) × IsPresentPart b.part b.level l
-  loop-here = (present_blocks-have_ranks loops (block_ref b.part b.level)).1 (x.block, (ranks-are_numbers loops (block_ref b.part b.level) x.block).1 block-here)
+  loop-here = (present_blocks-have-ranks loops (block_ref b.part b.level)).1 (x.block, (ranks-are-numbers loops (block_ref b.part b.level) x.block).1 block-here)
 
   abbrev l : Loop
   l = loop-here.0
@@ -121,8 +121,8 @@ module _ (D scalars : ℕ) (loops : List Loop) (t : Table) (o : Outer) (chunk : 
 
   pub counts-by : (h : tree.Head) → head_at loops b.level ≡ Some h → b.part ≡ Head → blocks.counters_by Head h b.level ≡ counters t b
   counts-by h is e =
-      let same_head : l.head ≡ h = (let f : Some l.head ≡ Some h = sym head-here ∙ is in cc) in
-      ap (λ (z : tree.Head). blocks.counters_by Head z b.level) (sym same_head) ∙ ap (λ (r : Part). blocks.counters_by r l.head b.level) (sym e) ∙ counts
+      let same-head : l.head ≡ h = (let f : Some l.head ≡ Some h = sym head-here ∙ is in cc) in
+      ap (λ (z : tree.Head). blocks.counters_by Head z b.level) (sym same-head) ∙ ap (λ (r : Part). blocks.counters_by r l.head b.level) (sym e) ∙ counts
 
   pub deep-here : counters t b ≤ D
   deep-here = counters-deep D scalars loops t o chunk words task x p
@@ -215,13 +215,13 @@ module _ (D scalars : ℕ) (loops : List Loop) (t : Table) (o : Outer) (chunk : 
       block-part : (us : List Stmt) → statements_by b.part l ≡ Some us → (s : Stmt) (rest : List Stmt) → us ≡ s ∷ rest → part_item b.part b.level A l ≡ Some (item b.part b.level A (Runs s rest))
       block-part us e s rest f = at b.part refl e
         where
-          same_list : (v w : List Stmt) → Some v ≡ Some w → v ≡ w
-          same_list v w g = cc
+          same-list : (v w : List Stmt) → Some v ≡ Some w → v ≡ w
+          same-list v w g = cc
 
           at : (q : Part) → b.part ≡ q → statements_by q l ≡ Some us → part_item b.part b.level A l ≡ Some (item b.part b.level A (Runs s rest))
           at Head g h = absurd (cc)
-          at Pre g h = ap (λ (q : Part). part_item q b.level A l) g ∙ ap (λ (us : List Stmt). block_item Pre b.level A us) (same_list l.pre us h ∙ f) ∙ ap (λ (q : Part). Some (item q b.level A (Runs s rest))) (sym g)
-          at Post g h = ap (λ (q : Part). part_item q b.level A l) g ∙ ap (λ (us : List Stmt). block_item Post b.level A us) (same_list l.post us h ∙ f) ∙ ap (λ (q : Part). Some (item q b.level A (Runs s rest))) (sym g)
+          at Pre g h = ap (λ (q : Part). part_item q b.level A l) g ∙ ap (λ (us : List Stmt). block_item Pre b.level A us) (same-list l.pre us h ∙ f) ∙ ap (λ (q : Part). Some (item q b.level A (Runs s rest))) (sym g)
+          at Post g h = ap (λ (q : Part). part_item q b.level A l) g ∙ ap (λ (us : List Stmt). block_item Post b.level A us) (same-list l.post us h ∙ f) ∙ ap (λ (q : Part). Some (item q b.level A (Runs s rest))) (sym g)
 
       by : (ss : Option (List Stmt)) → statements_of loops (block_ref b.part b.level) ≡ ss → item_of (forecast_of t) o loops (occurrence_of t x) ≡ Some (item_at t loops o x)
       by None e = let h = none-head e in is-some (item b.part b.level A (Evaluates l.head)) (ap (λ (q : Part). part_item q b.level A l) h ∙ ap (λ (q : Part). Some (item q b.level A (Evaluates l.head))) (sym h))
@@ -236,19 +236,19 @@ module _ (D scalars : ℕ) (loops : List Loop) (t : Table) (o : Outer) (chunk : 
       part-is : accesses_of loops (block_ref b.part b.level) ≡ part_accesses b.part l
       part-is = ap (accesses_by b.part) loop-here.1
 
-      same_list : (v w : List Stmt) → Some v ≡ Some w → v ≡ w
-      same_list v w g = cc
+      same-list : (v w : List Stmt) → Some v ≡ Some w → v ≡ w
+      same-list v w g = cc
 
-      of_part : (us : List Stmt) (q : Part) → statements_by q l ≡ Some us → block_accesses us ≡ part_accesses q l
-      of_part us Head e = absurd (cc)
-      of_part us Pre e = ap block_accesses (sym (same_list l.pre us e))
-      of_part us Post e = ap block_accesses (sym (same_list l.post us e))
+      of-part : (us : List Stmt) (q : Part) → statements_by q l ≡ Some us → block_accesses us ≡ part_accesses q l
+      of-part us Head e = absurd (cc)
+      of-part us Pre e = ap block_accesses (sym (same-list l.pre us e))
+      of-part us Post e = ap block_accesses (sym (same-list l.post us e))
 
       by : (ss : Option (List Stmt)) → statements_of loops (block_ref b.part b.level) ≡ ss → work_accesses (item_at t loops o x).work ≡ accesses_of loops (block_ref b.part b.level)
       by None e = let h = none-head e in ap (λ (i : Item). work_accesses i.work) (item-head h) ∙ ap (λ (q : Part). part_accesses q l) (sym h) ∙ sym part-is
       by (Some ss) e =
           let (s, rest, are, is) = item-statements ss e in
-          ap (λ (i : Item). work_accesses i.work) is ∙ ap block_accesses (sym are) ∙ of_part ss b.part (ap (λ (m : Option Loop). option_and_then (statements_by b.part) m) (sym loop-here.1) ∙ e) ∙ sym part-is
+          ap (λ (i : Item). work_accesses i.work) is ∙ ap block_accesses (sym are) ∙ of-part ss b.part (ap (λ (m : Option Loop). option_and_then (statements_by b.part) m) (sym loop-here.1) ∙ e) ∙ sym part-is
 
   pub numbered-here : AreNumbered (accesses_of loops (block_ref b.part b.level))
   numbered-here = subst AreNumbered (sym (ap (accesses_by b.part) loop-here.1)) (by b.part)

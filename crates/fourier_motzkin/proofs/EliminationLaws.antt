@@ -10,10 +10,10 @@ with_rows-append : (set xs ys : List Row) → with_rows set (xs ++ ys) ≡ with_
 with_rows-append set [] ys = refl
 with_rows-append set (x ∷ xs) ys = with_rows-append (with_row x set) xs ys
 
-pub judged_tidied : (rows made : List Row) → made ≡ with_rows [] rows → judged made ≡ judged (tidied rows)
-judged_tidied rows made e = ap judged (e ∙ with_rows-is rows)
+pub judged-tidied : (rows made : List Row) → made ≡ with_rows [] rows → judged made ≡ judged (tidied rows)
+judged-tidied rows made e = ap judged (e ∙ with_rows-is rows)
 
 pub eliminated-is : (variable : ℕ) (rows first second made : List Row) → first ≡ with_rows [] (filter (is_without variable) rows) → second ≡ with_rows first (flat_map (λ P. map (crossed variable P) (filter (bounds_above variable) rows)) (filter (bounds_below variable) rows)) → made ≡ second → judged made ≡ eliminated variable rows
 unfolding eliminated projected
 eliminated-is variable rows first second made e f g =
-    judged_tidied (projected variable rows) made (g ∙ f ∙ ap (λ set. with_rows set (flat_map (λ P. map (crossed variable P) (filter (bounds_above variable) rows)) (filter (bounds_below variable) rows))) e ∙ sym (with_rows-append [] (filter (is_without variable) rows) (flat_map (λ P. map (crossed variable P) (filter (bounds_above variable) rows)) (filter (bounds_below variable) rows))))
+    judged-tidied (projected variable rows) made (g ∙ f ∙ ap (λ set. with_rows set (flat_map (λ P. map (crossed variable P) (filter (bounds_above variable) rows)) (filter (bounds_below variable) rows))) e ∙ sym (with_rows-append [] (filter (is_without variable) rows) (flat_map (λ P. map (crossed variable P) (filter (bounds_above variable) rows)) (filter (bounds_below variable) rows))))

@@ -12,7 +12,7 @@ use Rattle.plain_lemmas.proofs.IntegerLaws.{*ℤ-neg_ℤ}
 use Rattle.affine.specs.declared.row.Row.{Row}
 use Rattle.affine.specs.Sums.{dot, weighted}
 use Rattle.affine.specs.Rows.{Meets, coefficient, variables}
-use Rattle.affine.proofs.NormalLemmas.{coefficient-normal_zero}
+use Rattle.affine.proofs.NormalLemmas.{coefficient-normal-zero}
 use Rattle.affine.proofs.SumLemmas.{dot-nil}
 use Rattle.fourier_motzkin.specs.RowSets.{tidied}
 use Rattle.fourier_motzkin.specs.Elimination.{AllOver, MeetsSaid, eliminated, judged, projected}
@@ -20,10 +20,10 @@ use Rattle.fourier_motzkin.specs.declared.elimination.Eliminated.{Eliminated}
 use Rattle.fourier_motzkin.specs.declared.elimination.Eliminated.TheVariants as set
 use Rattle.fourier_motzkin.specs.Laws.{LevelsReach, PointsLieInRanges}
 use Rattle.fourier_motzkin.specs.Verdicts.{bounds_of, levels, next, standing}
-use Rattle.plain_lemmas.proofs.MembershipLaws.{All_from, All_has}
-use Rattle.fourier_motzkin.proofs.Points.{OverSaid, judged_cases, judged_met, judged_over, next_met, next_over, projected_from, tidied_met, tidied_over, told_from}
+use Rattle.plain_lemmas.proofs.MembershipLaws.{All-from, All-has}
+use Rattle.fourier_motzkin.proofs.Points.{OverSaid, judged-cases, judged-met, judged-over, next-met, next-over, projected-from, tidied-met, tidied-over, told-from}
 use Rattle.fourier_motzkin.proofs.EliminationRunLaws.{length-levels}
-use Rattle.fourier_motzkin.proofs.Sets.{least_tidied}
+use Rattle.fourier_motzkin.proofs.Sets.{least-tidied}
 
 -- a coefficient that is 0 stays so, and that of the variable becomes 0
 
@@ -36,8 +36,8 @@ weighted-zero q (x ∷ xs) p [] j h = refl
 weighted-zero q (x ∷ xs) p (y ∷ ys) zero h = h
 weighted-zero q (x ∷ xs) p (y ∷ ys) (suc j) h = weighted-zero q xs p ys j h
 
-both_zero : (q x p y : ℤ) → x ≡ pos 0 → y ≡ pos 0 → q *ℤ x +ℤ p *ℤ y ≡ pos 0
-both_zero q x p y e f = rw (e, f) (omega (arith, ints))
+both-zero : (q x p y : ℤ) → x ≡ pos 0 → y ≡ pos 0 → q *ℤ x +ℤ p *ℤ y ≡ pos 0
+both-zero q x p y e f = rw (e, f) (omega (arith, ints))
 
 cancels : (a b : ℤ) → neg_ℤ b *ℤ a +ℤ a *ℤ b ≡ pos 0
 cancels a b =
@@ -45,47 +45,47 @@ cancels a b =
     let minus = *ℤ-neg_ℤ a b in
     omega (arith, ints, turned, minus)
 
-tidied_zero : (j : ℕ) (rows : List Row) → IsZeroAt j rows → IsZeroAt j (tidied rows)
+tidied-zero : (j : ℕ) (rows : List Row) → IsZeroAt j rows → IsZeroAt j (tidied rows)
 unfolding IsZeroAt
-tidied_zero j rows zeros = All_from (λ row. coefficient row j ≡ pos 0) (tidied rows) (λ row h.
-    let (given, k, is) = told_from rows row ((least_tidied rows).from row h) in
-    ap (λ r. coefficient r j) is ∙ coefficient-normal_zero given j (All_has (λ row. coefficient row j ≡ pos 0) rows given zeros k))
+tidied-zero j rows zeros = All-from (λ row. coefficient row j ≡ pos 0) (tidied rows) (λ row h.
+    let (given, k, is) = told-from rows row ((least-tidied rows).from row h) in
+    ap (λ r. coefficient r j) is ∙ coefficient-normal-zero given j (All-has (λ row. coefficient row j ≡ pos 0) rows given zeros k))
 
-projected_zero : (j variable : ℕ) (rows : List Row) → IsZeroAt j rows → IsZeroAt j (projected variable rows)
+projected-zero : (j variable : ℕ) (rows : List Row) → IsZeroAt j rows → IsZeroAt j (projected variable rows)
 unfolding IsZeroAt
-projected_zero j variable rows zeros = All_from (λ row. coefficient row j ≡ pos 0) (projected variable rows) (projected_from variable rows (λ row. coefficient row j ≡ pos 0)
-    (λ row h is. All_has (λ row. coefficient row j ≡ pos 0) rows row zeros h)
+projected-zero j variable rows zeros = All-from (λ row. coefficient row j ≡ pos 0) (projected variable rows) (projected-from variable rows (λ row. coefficient row j ≡ pos 0)
+    (λ row h is. All-has (λ row. coefficient row j ≡ pos 0) rows row zeros h)
     (λ below above h k p q. weighted-zero (neg_ℤ (coefficient above variable)) below.coef.items (coefficient below variable) above.coef.items j
-    (both_zero (neg_ℤ (coefficient above variable)) (coefficient below j) (coefficient below variable) (coefficient above j)
-    (All_has (λ row. coefficient row j ≡ pos 0) rows below zeros h) (All_has (λ row. coefficient row j ≡ pos 0) rows above zeros k))))
+    (both-zero (neg_ℤ (coefficient above variable)) (coefficient below j) (coefficient below variable) (coefficient above j)
+    (All-has (λ row. coefficient row j ≡ pos 0) rows below zeros h) (All-has (λ row. coefficient row j ≡ pos 0) rows above zeros k))))
 
-projected_gone : (variable : ℕ) (rows : List Row) → IsZeroAt variable (projected variable rows)
+projected-gone : (variable : ℕ) (rows : List Row) → IsZeroAt variable (projected variable rows)
 unfolding IsZeroAt
-projected_gone variable rows = All_from (λ row. coefficient row variable ≡ pos 0) (projected variable rows) (projected_from variable rows (λ row. coefficient row variable ≡ pos 0)
+projected-gone variable rows = All-from (λ row. coefficient row variable ≡ pos 0) (projected variable rows) (projected-from variable rows (λ row. coefficient row variable ≡ pos 0)
     (λ row h is. (Decides-int_eq (coefficient row variable) (pos 0)).0 is)
     (λ below above h k p q. weighted-zero (neg_ℤ (coefficient above variable)) below.coef.items (coefficient below variable) above.coef.items variable
     (cancels (coefficient below variable) (coefficient above variable))))
 
-standing_judged : (j : ℕ) (rows : List Row) → IsZeroAt j rows → IsZeroAt j (standing (judged rows))
+standing-judged : (j : ℕ) (rows : List Row) → IsZeroAt j rows → IsZeroAt j (standing (judged rows))
 unfolding IsZeroAt
-standing_judged j rows zeros = judged_cases (λ said. All (λ row. coefficient row j ≡ pos 0) (standing said)) rows
+standing-judged j rows zeros = judged-cases (λ said. All (λ row. coefficient row j ≡ pos 0) (standing said)) rows
     (λ some. All-nil (λ row. coefficient row j ≡ pos 0)) (All-nil (λ row. coefficient row j ≡ pos 0)) (λ narrow few. zeros)
 
-standing_eliminated : (j variable : ℕ) (rows : List Row) → IsZeroAt j (projected variable rows) → IsZeroAt j (standing (eliminated variable rows))
+standing-eliminated : (j variable : ℕ) (rows : List Row) → IsZeroAt j (projected variable rows) → IsZeroAt j (standing (eliminated variable rows))
 unfolding eliminated
-standing_eliminated j variable rows zeros = standing_judged j (tidied (projected variable rows)) (tidied_zero j (projected variable rows) zeros)
+standing-eliminated j variable rows zeros = standing-judged j (tidied (projected variable rows)) (tidied-zero j (projected variable rows) zeros)
 
 -- the rows that stand have variables below m alone
 ReachesBelow : ℕ → Eliminated → Type 0
 ReachesBelow m said = (j : ℕ) → m ≤ j → IsZeroAt j (standing said)
 
-next_zero : (m j : ℕ) (said : Eliminated) → ReachesBelow (suc m) said → m ≤ j → IsZeroAt j (standing (next m said))
+next-zero : (m j : ℕ) (said : Eliminated) → ReachesBelow (suc m) said → m ≤ j → IsZeroAt j (standing (next m said))
 unfolding ReachesBelow IsZeroAt
-next_zero m j set.False reach above = All-nil (λ row. coefficient row j ≡ pos 0)
-next_zero m j set.Wide reach above = All-nil (λ row. coefficient row j ≡ pos 0)
-next_zero m j (set.Rows rows) reach above = standing_eliminated j m rows (⊎_elim
-    (λ e. subst (λ v. IsZeroAt v (projected m rows)) e (projected_gone m rows))
-    (λ more. projected_zero j m rows (reach j more))
+next-zero m j set.False reach above = All-nil (λ row. coefficient row j ≡ pos 0)
+next-zero m j set.Wide reach above = All-nil (λ row. coefficient row j ≡ pos 0)
+next-zero m j (set.Rows rows) reach above = standing-eliminated j m rows (⊎_elim
+    (λ e. subst (λ v. IsZeroAt v (projected m rows)) e (projected-gone m rows))
+    (λ more. projected-zero j m rows (reach j more))
     (apart m j above))
   where
     apart : (m j : ℕ) → m ≤ j → (m ≡ j) ⊎ (suc m ≤ j)
@@ -94,18 +94,18 @@ next_zero m j (set.Rows rows) reach above = standing_eliminated j m rows (⊎_el
     apart (suc m) zero h = absurd (omega arith)
     apart (suc m) (suc j) h = ⊎_elim (λ e. inl (ap suc e)) (λ k. inr (omega arith)) (apart m j (omega arith))
 
-start_reaches : (n : ℕ) (rows : List Row) → AllOver n rows → ReachesBelow n (judged (tidied rows))
+start-reaches : (n : ℕ) (rows : List Row) → AllOver n rows → ReachesBelow n (judged (tidied rows))
 unfolding ReachesBelow IsZeroAt
-start_reaches n rows over j above = standing_judged j (tidied rows) (All_from (λ row. coefficient row j ≡ pos 0) (tidied rows) (λ row h.
-    get_or_past row.coef.items j (pos 0) (let long = All_has (λ row. variables row ≡ n) (tidied rows) row (tidied_over n rows over) h in omega (arith, long))))
+start-reaches n rows over j above = standing-judged j (tidied rows) (All-from (λ row. coefficient row j ≡ pos 0) (tidied rows) (λ row h.
+    get_or_past row.coef.items j (pos 0) (let long = All-has (λ row. variables row ≡ n) (tidied rows) row (tidied-over n rows over) h in omega (arith, long))))
 
 -- what holds of the rows that stand before each elimination holds of its level
 
-pub below_or_last : (k m : ℕ) → k < suc m → (k < m) ⊎ (k ≡ m)
-below_or_last zero zero h = inr refl
-below_or_last zero (suc m) h = inl (omega arith)
-below_or_last (suc k) zero h = absurd (omega arith)
-below_or_last (suc k) (suc m) h = ⊎_elim (λ less. inl (omega arith)) (λ e. inr (ap suc e)) (below_or_last k m (omega arith))
+pub below-or-last : (k m : ℕ) → k < suc m → (k < m) ⊎ (k ≡ m)
+below-or-last zero zero h = inr refl
+below-or-last zero (suc m) h = inl (omega arith)
+below-or-last (suc k) zero h = absurd (omega arith)
+below-or-last (suc k) (suc m) h = ⊎_elim (λ less. inl (omega arith)) (λ e. inr (ap suc e)) (below-or-last k m (omega arith))
 
 level_at : (P : ℕ → List Row → Type 0) (Q : ℕ → Eliminated → Type 0) → ((m : ℕ) (said : Eliminated) → Q (suc m) said → Q m (next m said)) → ((m : ℕ) (said : Eliminated) → Q (suc m) said → P m (standing said))
     → (m : ℕ) (said : Eliminated) → Q m said → (k : ℕ) → k < m → P k (get_or (levels m said) k [])
@@ -116,30 +116,30 @@ level_at P Q step holds (suc m) said start k below = ⊎_elim
     (λ last. subst (λ i. P i (get_or (levels m (next m said) ++ standing said ∷ []) i [])) (length-levels m (next m said) ∙ sym last)
     (subst (P (length (levels m (next m said)))) (sym (get_or-append_seam (levels m (next m said)) (standing said) [] []))
     (subst (λ i. P i (standing said)) (sym (length-levels m (next m said))) (holds m said start))))
-    (below_or_last k m below)
+    (below-or-last k m below)
 
-reaches_next : (m : ℕ) (said : Eliminated) → ReachesBelow (suc m) said → ReachesBelow m (next m said)
+reaches-next : (m : ℕ) (said : Eliminated) → ReachesBelow (suc m) said → ReachesBelow m (next m said)
 unfolding ReachesBelow
-reaches_next m said reach j above = next_zero m j said reach above
+reaches-next m said reach j above = next-zero m j said reach above
 
-reaches_level : (m : ℕ) (said : Eliminated) → ReachesBelow (suc m) said → (j : ℕ) → m < j → IsZeroAt j (standing said)
+reaches-level : (m : ℕ) (said : Eliminated) → ReachesBelow (suc m) said → (j : ℕ) → m < j → IsZeroAt j (standing said)
 unfolding ReachesBelow
-reaches_level m said reach j above = reach j (omega arith)
+reaches-level m said reach j above = reach j (omega arith)
 
-level_reaches : (n : ℕ) (rows : List Row) → AllOver n rows → (k : ℕ) → k < n → (j : ℕ) → k < j → IsZeroAt j (get_or (levels n (judged (tidied rows))) k [])
-level_reaches n rows over = level_at (λ m rows. (j : ℕ) → m < j → IsZeroAt j rows) ReachesBelow reaches_next reaches_level n (judged (tidied rows)) (start_reaches n rows over)
+level-reaches : (n : ℕ) (rows : List Row) → AllOver n rows → (k : ℕ) → k < n → (j : ℕ) → k < j → IsZeroAt j (get_or (levels n (judged (tidied rows))) k [])
+level-reaches n rows over = level_at (λ m rows. (j : ℕ) → m < j → IsZeroAt j rows) ReachesBelow reaches-next reaches-level n (judged (tidied rows)) (start-reaches n rows over)
 
-standing_met : (said : Eliminated) (point : List ℤ) → MeetsSaid point said → All (Meets point) (standing said)
-standing_met set.False point met = absurd met
-standing_met set.Wide point met = All-nil (Meets point)
-standing_met (set.Rows rows) point met = met
+standing-met : (said : Eliminated) (point : List ℤ) → MeetsSaid point said → All (Meets point) (standing said)
+standing-met set.False point met = absurd met
+standing-met set.Wide point met = All-nil (Meets point)
+standing-met (set.Rows rows) point met = met
 
-level_met : (n : ℕ) (rows : List Row) (point : List ℤ) → AllOver n rows → All (Meets point) rows → (k : ℕ) → k < n → All (Meets point) (get_or (levels n (judged (tidied rows))) k [])
-level_met n rows point over met k below =
+level-met : (n : ℕ) (rows : List Row) (point : List ℤ) → AllOver n rows → All (Meets point) rows → (k : ℕ) → k < n → All (Meets point) (get_or (levels n (judged (tidied rows))) k [])
+level-met n rows point over met k below =
     level_at (λ m rows. All (Meets point) rows) (λ m said. OverSaid n said × MeetsSaid point said)
-    (λ m said h. (next_over n m said h.0, next_met n m said point h.0 h.1))
-    (λ m said h. standing_met said point h.1)
-    n (judged (tidied rows)) (judged_over n (tidied rows) (tidied_over n rows over), judged_met (tidied rows) point (tidied_met rows point met)) k below
+    (λ m said h. (next-over n m said h.0, next-met n m said point h.0 h.1))
+    (λ m said h. standing-met said point h.1)
+    n (judged (tidied rows)) (judged-over n (tidied rows) (tidied-over n rows over), judged-met (tidied rows) point (tidied-met rows point met)) k below
 
 -- a row whose further coefficients are 0 at the front of a point
 
@@ -156,21 +156,21 @@ dot-front (x ∷ xs) (y ∷ point) zero zeros =
     nothing y a b e f = omega (arith, ints, e, f)
 dot-front (x ∷ xs) (y ∷ point) (suc k) zeros = ap (λ s. x *ℤ y +ℤ s) (dot-front xs point k (λ j h. zeros (suc j) (omega arith)))
 
-front_meets : (row : Row) (point : List ℤ) (k : ℕ) → ((j : ℕ) → k < j → coefficient row j ≡ pos 0) → k < length point → Meets point row → Meets (take k point ++ get_or point k (pos 0) ∷ []) row
-front_meets row point k zeros below met =
+front-meets : (row : Row) (point : List ℤ) (k : ℕ) → ((j : ℕ) → k < j → coefficient row j ≡ pos 0) → k < length point → Meets point row → Meets (take k point ++ get_or point k (pos 0) ∷ []) row
+front-meets row point k zeros below met =
     let front : dot row.coef.items (take (k + 1) point) ≡ dot row.coef.items point = dot-front row.coef.items point (k + 1) (λ j h. zeros j (omega arith)) in
     let is : take (k + 1) point ≡ take k point ++ get_or point k (pos 0) ∷ [] = take_more point k (pos 0) below in
     subst (λ p. Meets p row) is (subst (λ s. pos 0 ≤ℤ (s +ℤ row.cst)) (sym front) met)
 
 pub levels_reach : LevelsReach
 unfolding bounds_of IsZeroAt
-levels_reach n rows k j over below above = level_reaches n rows over k below j above
+levels_reach n rows k j over below above = level-reaches n rows over k below j above
 
 pub points_lie_in_ranges : PointsLieInRanges
 unfolding bounds_of IsZeroAt
 points_lie_in_ranges n rows point k over met long below =
-    All_from (Meets (take k point ++ get_or point k (pos 0) ∷ [])) (get_or (levels n (judged (tidied rows))) k []) (λ row h.
-    front_meets row point k
-    (λ j above. All_has (λ row. coefficient row j ≡ pos 0) (get_or (levels n (judged (tidied rows))) k []) row (level_reaches n rows over k below j above) h)
+    All-from (Meets (take k point ++ get_or point k (pos 0) ∷ [])) (get_or (levels n (judged (tidied rows))) k []) (λ row h.
+    front-meets row point k
+    (λ j above. All-has (λ row. coefficient row j ≡ pos 0) (get_or (levels n (judged (tidied rows))) k []) row (level-reaches n rows over k below j above) h)
     (omega (arith, long))
-    (All_has (Meets point) (get_or (levels n (judged (tidied rows))) k []) row (level_met n rows point over met k below) h))
+    (All-has (Meets point) (get_or (levels n (judged (tidied rows))) k []) row (level-met n rows point over met k below) h))

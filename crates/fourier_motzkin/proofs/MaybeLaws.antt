@@ -16,7 +16,7 @@ use Rattle.affine.specs.Divisors.{common_divisor}
 use Rattle.affine.specs.Rows.{Meets, coefficient, normal, row_over}
 use Rattle.affine.proofs.DivisorLemmas.{IsGreatestDivisor-common_divisor}
 use Rattle.affine.proofs.FloorLemmas.{mul-floor}
-use Rattle.affine.proofs.NormalLemmas.{coefficient-normal_zero}
+use Rattle.affine.proofs.NormalLemmas.{coefficient-normal-zero}
 use Rattle.fourier_motzkin.specs.Elimination.{bounds_above, bounds_below, crossed, eliminated, is_without, judged, projected}
 use Rattle.fourier_motzkin.specs.Laws.{AllowedPointsMeet, BoundedLevelsClose}
 use Rattle.fourier_motzkin.specs.Ranges.{IsAlone}
@@ -25,17 +25,17 @@ use Rattle.fourier_motzkin.specs.Verdicts.{bounds_of, levels, next, ruling, stan
 use Rattle.fourier_motzkin.specs.declared.elimination.Eliminated.{Eliminated}
 use Rattle.fourier_motzkin.specs.declared.elimination.Eliminated.TheVariants as set
 use Rattle.fourier_motzkin.specs.declared.verdicts.Ruling.TheVariants.{Empty, Maybe, Wide}
-use Rattle.plain_lemmas.proofs.MembershipLaws.{Has, All_has, has_filter, has_from_contains, has_left}
-use Rattle.fourier_motzkin.proofs.Levels.{below_or_last}
-use Rattle.fourier_motzkin.proofs.Points.{has_told, judged_cases, met_tidied}
+use Rattle.plain_lemmas.proofs.MembershipLaws.{Has, All-has, has-filter, has-from-contains, has-left}
+use Rattle.fourier_motzkin.proofs.Levels.{below-or-last}
+use Rattle.fourier_motzkin.proofs.Points.{has-told, judged-cases, met-tidied}
 use Rattle.fourier_motzkin.proofs.EliminationRunLaws.{length-levels}
-use Rattle.fourier_motzkin.proofs.Sets.{least_tidied, tied_coefficients}
+use Rattle.fourier_motzkin.proofs.Sets.{least-tidied, tied-coefficients}
 
 -- the normal form over its divisor
 
-pub normal_scale : (row : Row) (k : ℕ) → (d : ℕ) × (coefficient row k ≡ pos (suc d) *ℤ coefficient (normal row) k)
+pub normal-scale : (row : Row) (k : ℕ) → (d : ℕ) × (coefficient row k ≡ pos (suc d) *ℤ coefficient (normal row) k)
 unfolding normal
-normal_scale row k = at (common_divisor row.coef.items) (IsGreatestDivisor-common_divisor row.coef.items).0
+normal-scale row k = at (common_divisor row.coef.items) (IsGreatestDivisor-common_divisor row.coef.items).0
   where
     divides : (n : ℕ) (xs : List ℤ) (i : ℕ) → All (λ x. suc n ∣ unsigned_abs x) xs → get_or xs i (pos 0) ≡ pos (suc n) *ℤ get_or (map (λ x. int_div_euclid x (pos (suc n))) xs) i (pos 0)
     divides n [] i all = nothing n
@@ -58,7 +58,7 @@ above : IsSign (λ z. pos 0 <ℤ z)
 above = record { kept = λ d q h. positive d q h (λ below. *ℤ-≤ℤ (pos (suc d)) q (pos 0) (omega (arith, ints)) below); not_zero = λ h. omega (arith, ints, h) }
   where
     positive : (d : ℕ) (q : ℤ) → pos 0 <ℤ (pos (suc d) *ℤ q) → (q ≤ℤ pos 0 → (pos (suc d) *ℤ q) ≤ℤ (pos (suc d) *ℤ pos 0)) → pos 0 <ℤ q
-    positive d q h wrong = ⊎_elim (λ is. is) (λ below. absurd (let no_more = wrong below in let none : pos (suc d) *ℤ pos 0 ≡ pos 0 = omega (arith, ints) in omega (arith, ints, no_more, none, h))) (apart q)
+    positive d q h wrong = ⊎_elim (λ is. is) (λ below. absurd (let no-more = wrong below in let none : pos (suc d) *ℤ pos 0 ≡ pos 0 = omega (arith, ints) in omega (arith, ints, no-more, none, h))) (apart q)
       where
         apart : (q : ℤ) → (pos 0 <ℤ q) ⊎ (q ≤ℤ pos 0)
         apart (pos zero) = inr (omega (arith, ints))
@@ -69,7 +69,7 @@ below_zero : IsSign (λ z. z <ℤ pos 0)
 below_zero = record { kept = λ d q h. negative d q h (λ over. *ℤ-≤ℤ (pos (suc d)) (pos 0) q (omega (arith, ints)) over); not_zero = λ h. omega (arith, ints, h) }
   where
     negative : (d : ℕ) (q : ℤ) → (pos (suc d) *ℤ q) <ℤ pos 0 → (pos 0 ≤ℤ q → (pos (suc d) *ℤ pos 0) ≤ℤ (pos (suc d) *ℤ q)) → q <ℤ pos 0
-    negative d q h wrong = ⊎_elim (λ is. is) (λ over. absurd (let no_less = wrong over in let none : pos (suc d) *ℤ pos 0 ≡ pos 0 = omega (arith, ints) in omega (arith, ints, no_less, none, h))) (apart q)
+    negative d q h wrong = ⊎_elim (λ is. is) (λ over. absurd (let no-less = wrong over in let none : pos (suc d) *ℤ pos 0 ≡ pos 0 = omega (arith, ints) in omega (arith, ints, no-less, none, h))) (apart q)
       where
         apart : (q : ℤ) → (q <ℤ pos 0) ⊎ (pos 0 ≤ℤ q)
         apart (pos n) = inr (omega (arith, ints))
@@ -94,25 +94,25 @@ module _ (S : ℤ → Type 0) (sign : IsSign S) (k : ℕ) where
       at true b e = absurd (sign.not_zero (subst S (zero-at row.coef.items k e) side))
       at false b e = refl
 
-  tidied_holds : (rows : List Row) → Holds rows → Holds (tidied rows)
-  tidied_holds rows holds =
-      let scale = normal_scale holds.row k in
+  tidied-holds : (rows : List Row) → Holds rows → Holds (tidied rows)
+  tidied-holds rows holds =
+      let scale = normal-scale holds.row k in
       let side : S (coefficient (normal holds.row) k) = sign.kept scale.0 (coefficient (normal holds.row) k) (subst S scale.1 holds.side) in
-      let (least, has, tie, below) = (least_tidied rows).covers (normal holds.row) (has_told rows holds.row holds.has (tells (normal holds.row) side)) in
-      let same = tied_coefficients (normal holds.row) least tie in
+      let (least, has, tie, below) = (least-tidied rows).covers (normal holds.row) (has-told rows holds.row holds.has (tells (normal holds.row) side)) in
+      let same = tied-coefficients (normal holds.row) least tie in
       record {
         row = least;
         has = has;
-        alone = λ other apart. ap (λ (c : _). get_or c.items other (pos 0)) (sym same) ∙ coefficient-normal_zero holds.row other (holds.alone other apart);
+        alone = λ other apart. ap (λ (c : _). get_or c.items other (pos 0)) (sym same) ∙ coefficient-normal-zero holds.row other (holds.alone other apart);
         side = subst (λ (c : _). S (get_or c.items k (pos 0))) same side;
       }
 
-  projected_holds : (variable : ℕ) (rows : List Row) → (variable ≡ k → ⊥) → Holds rows → Holds (projected variable rows)
+  projected-holds : (variable : ℕ) (rows : List Row) → (variable ≡ k → ⊥) → Holds rows → Holds (projected variable rows)
   unfolding projected
-  projected_holds variable rows apart holds = record {
+  projected-holds variable rows apart holds = record {
     row = holds.row;
-    has = has_left (filter (is_without variable) rows) (flat_map (λ P. map (crossed variable P) (filter (bounds_above variable) rows)) (filter (bounds_below variable) rows)) holds.row
-        (has_filter (is_without variable) rows holds.row holds.has ((Decides-int_eq (coefficient holds.row variable) (pos 0)).1 (holds.alone variable apart)));
+    has = has-left (filter (is_without variable) rows) (flat_map (λ P. map (crossed variable P) (filter (bounds_above variable) rows)) (filter (bounds_below variable) rows)) holds.row
+        (has-filter (is_without variable) rows holds.row holds.has ((Decides-int_eq (coefficient holds.row variable) (pos 0)).1 (holds.alone variable apart)));
     alone = holds.alone;
     side = holds.side;
   }
@@ -122,15 +122,15 @@ module _ (S : ℤ → Type 0) (sign : IsSign S) (k : ℕ) where
   Keeps set.Wide = Unit {0}
   Keeps (set.Rows rows) = Holds rows
 
-  judged_keeps : (rows : List Row) → Holds rows → Keeps (judged rows)
+  judged-keeps : (rows : List Row) → Holds rows → Keeps (judged rows)
   unfolding Keeps
-  judged_keeps rows holds = judged_cases Keeps rows (λ some. tt) tt (λ narrow few. holds)
+  judged-keeps rows holds = judged-cases Keeps rows (λ some. tt) tt (λ narrow few. holds)
 
-  next_keeps : (m : ℕ) (said : Eliminated) → (m ≡ k → ⊥) → Keeps said → Keeps (next m said)
+  next-keeps : (m : ℕ) (said : Eliminated) → (m ≡ k → ⊥) → Keeps said → Keeps (next m said)
   unfolding Keeps eliminated
-  next_keeps m set.False apart keeps = tt
-  next_keeps m set.Wide apart keeps = tt
-  next_keeps m (set.Rows rows) apart keeps = judged_keeps (tidied (projected m rows)) (tidied_holds (projected m rows) (projected_holds m rows apart keeps))
+  next-keeps m set.False apart keeps = tt
+  next-keeps m set.Wide apart keeps = tt
+  next-keeps m (set.Rows rows) apart keeps = judged-keeps (tidied (projected m rows)) (tidied-holds (projected m rows) (projected-holds m rows apart keeps))
 
   ruling-false : (m : ℕ) → ruling m set.False ≡ Empty
   ruling-false zero = refl
@@ -140,61 +140,61 @@ module _ (S : ℤ → Type 0) (sign : IsSign S) (k : ℕ) where
   ruling-wide zero = refl
   ruling-wide (suc m) = ruling-wide m
 
-  standing_holds : (m : ℕ) (said : Eliminated) → ruling m said ≡ Maybe → Keeps said → Holds (standing said)
+  standing-holds : (m : ℕ) (said : Eliminated) → ruling m said ≡ Maybe → Keeps said → Holds (standing said)
   unfolding Keeps
-  standing_holds m set.False is keeps = absurd (let e = ruling-false m in cc)
-  standing_holds m set.Wide is keeps = absurd (let e = ruling-wide m in cc)
-  standing_holds m (set.Rows rows) is keeps = keeps
+  standing-holds m set.False is keeps = absurd (let e = ruling-false m in cc)
+  standing-holds m set.Wide is keeps = absurd (let e = ruling-wide m in cc)
+  standing-holds m (set.Rows rows) is keeps = keeps
 
   -- down to level k, which the rows reach
-  level_holds : (m : ℕ) (said : Eliminated) → k < m → ruling m said ≡ Maybe → Keeps said → Holds (get_or (levels m said) k [])
-  level_holds zero said inside is keeps = absurd (omega arith)
-  level_holds (suc m) said inside is keeps = ⊎_elim
+  level-holds : (m : ℕ) (said : Eliminated) → k < m → ruling m said ≡ Maybe → Keeps said → Holds (get_or (levels m said) k [])
+  level-holds zero said inside is keeps = absurd (omega arith)
+  level-holds (suc m) said inside is keeps = ⊎_elim
       (λ less. subst Holds (sym (get_or_append_left (levels m (next m said)) (standing said ∷ []) [] k (let long = length-levels m (next m said) in omega (arith, long))))
-      (level_holds m (next m said) less is (next_keeps m said (λ e. omega arith) keeps)))
+      (level-holds m (next m said) less is (next-keeps m said (λ e. omega arith) keeps)))
       (λ last. subst (λ (i : ℕ). Holds (get_or (levels m (next m said) ++ standing said ∷ []) i [])) (length-levels m (next m said) ∙ sym last)
-      (subst Holds (sym (get_or-append_seam (levels m (next m said)) (standing said) [] [])) (standing_holds (suc m) said is keeps)))
-      (below_or_last k m inside)
+      (subst Holds (sym (get_or-append_seam (levels m (next m said)) (standing said) [] [])) (standing-holds (suc m) said is keeps)))
+      (below-or-last k m inside)
 
-  pub rows_hold : (n : ℕ) (rows : List Row) → verdict_of n rows ≡ Maybe → k < n → Holds rows → Holds (get_or (bounds_of n rows).levels k [])
+  pub rows-hold : (n : ℕ) (rows : List Row) → verdict_of n rows ≡ Maybe → k < n → Holds rows → Holds (get_or (bounds_of n rows).levels k [])
   unfolding bounds_of verdict_of
-  rows_hold n rows is inside holds = level_holds n (judged (tidied rows)) inside is (judged_keeps (tidied rows) (tidied_holds rows holds))
+  rows-hold n rows is inside holds = level-holds n (judged (tidied rows)) inside is (judged-keeps (tidied rows) (tidied-holds rows holds))
 
 pub bounded_levels_close : BoundedLevelsClose
 bounded_levels_close n rows k lower upper is inside has-lower alone-lower side-lower has-upper alone-upper side-upper open_ =
-    let first = rows_hold (λ z. pos 0 <ℤ z) above k n rows is inside (record { row = lower; has = has_from_contains rows lower has-lower; alone = alone-lower; side = side-lower }) in
-    let second = rows_hold (λ z. z <ℤ pos 0) below_zero k n rows is inside (record { row = upper; has = has_from_contains rows upper has-upper; alone = alone-upper; side = side-upper }) in
+    let first = rows-hold (λ z. pos 0 <ℤ z) above k n rows is inside (record { row = lower; has = has-from-contains rows lower has-lower; alone = alone-lower; side = side-lower }) in
+    let second = rows-hold (λ z. z <ℤ pos 0) below_zero k n rows is inside (record { row = upper; has = has-from-contains rows upper has-upper; alone = alone-upper; side = side-upper }) in
     ⊎_elim
-    (λ none. let at = All_has (λ row. coefficient row k ≤ℤ pos 0) (get_or (bounds_of n rows).levels k []) first.row none first.has in let side = first.side in omega (arith, ints, at, side))
-    (λ none. let at = All_has (λ row. pos 0 ≤ℤ coefficient row k) (get_or (bounds_of n rows).levels k []) second.row none second.has in let side = second.side in omega (arith, ints, at, side))
+    (λ none. let at = All-has (λ row. coefficient row k ≤ℤ pos 0) (get_or (bounds_of n rows).levels k []) first.row none first.has in let side = first.side in omega (arith, ints, at, side))
+    (λ none. let at = All-has (λ row. pos 0 ≤ℤ coefficient row k) (get_or (bounds_of n rows).levels k []) second.row none second.has in let side = second.side in omega (arith, ints, at, side))
     open_
 
 -- ---- the last level
 
 -- the rows of the last level say all that the rows say
-last_level : (m : ℕ) (rows : List Row) (point : List ℤ) → verdict_of (suc m) rows ≡ Maybe → All (Meets point) (get_or (bounds_of (suc m) rows).levels m []) → All (Meets point) rows
+last-level : (m : ℕ) (rows : List Row) (point : List ℤ) → verdict_of (suc m) rows ≡ Maybe → All (Meets point) (get_or (bounds_of (suc m) rows).levels m []) → All (Meets point) rows
 unfolding bounds_of verdict_of
-last_level m rows point is =
+last-level m rows point is =
     let said = judged (tidied rows) in
     let at : get_or (levels m (next m said) ++ standing said ∷ []) m [] ≡ standing said =
     subst (λ i. get_or (levels m (next m said) ++ standing said ∷ []) i [] ≡ standing said) (length-levels m (next m said)) (get_or-append_seam (levels m (next m said)) (standing said) [] []) in
     subst (λ (l : List Row). All (Meets point) l → All (Meets point) rows) (sym at)
-    (judged_cases (λ s. ruling (suc m) s ≡ Maybe → All (Meets point) (standing s) → All (Meets point) rows) (tidied rows)
-    (λ some e met. absurd (never_false (suc m) e))
-    (λ e met. absurd (never_wide (suc m) e))
-    (λ narrow few e met. met_tidied rows point met)
+    (judged-cases (λ s. ruling (suc m) s ≡ Maybe → All (Meets point) (standing s) → All (Meets point) rows) (tidied rows)
+    (λ some e met. absurd (never-false (suc m) e))
+    (λ e met. absurd (never-wide (suc m) e))
+    (λ narrow few e met. met-tidied rows point met)
     is)
   where
-    never_false : (m : ℕ) → ruling m set.False ≡ Maybe → ⊥
-    never_false zero e = cc
-    never_false (suc m) e = never_false m e
+    never-false : (m : ℕ) → ruling m set.False ≡ Maybe → ⊥
+    never-false zero e = cc
+    never-false (suc m) e = never-false m e
 
-    never_wide : (m : ℕ) → ruling m set.Wide ≡ Maybe → ⊥
-    never_wide zero e = cc
-    never_wide (suc m) e = never_wide m e
+    never-wide : (m : ℕ) → ruling m set.Wide ≡ Maybe → ⊥
+    never-wide zero e = cc
+    never-wide (suc m) e = never-wide m e
 
 pub allowed_points_meet : AllowedPointsMeet
 allowed_points_meet zero rows point is some long allowed = absurd (omega arith)
 allowed_points_meet (suc m) rows point is some long allowed =
     let whole : take m point ++ get_or point m (pos 0) ∷ [] ≡ point = sym (take_more point m (pos 0) (omega (arith, long))) ∙ take_all (m + 1) point (omega (arith, long)) in
-    last_level m rows point is (subst (λ (p : List ℤ). All (Meets p) (get_or (bounds_of (suc m) rows).levels m [])) whole (allowed m (omega arith)))
+    last-level m rows point is (subst (λ (p : List ℤ). All (Meets p) (get_or (bounds_of (suc m) rows).levels m [])) whole (allowed m (omega arith)))

@@ -17,33 +17,33 @@ use Rattle.fourier_motzkin.specs.declared.elimination.Eliminated.{Eliminated}
 use Rattle.fourier_motzkin.specs.declared.elimination.Eliminated.TheVariants as set
 use Rattle.fourier_motzkin.specs.Verdicts.{next, ruled, ruling, verdict_of}
 use Rattle.fourier_motzkin.specs.declared.verdicts.Ruling.TheVariants.{Empty}
-use Rattle.plain_lemmas.proofs.MembershipLaws.{Has, All_from, All_has, has_filter, filter_has, has_map, map_has, has_cases, flat_map_has, list_any_has}
-use Rattle.fourier_motzkin.proofs.Sets.{least_tidied, tied_coefficients}
+use Rattle.plain_lemmas.proofs.MembershipLaws.{Has, All-from, All-has, has-filter, filter-has, has-map, map-has, has-cases, flat-map-has, list-any-has}
+use Rattle.fourier_motzkin.proofs.Sets.{least-tidied, tied-coefficients}
 
 -- rows without variables
 
-zero_number : (x : ℤ) → int_eq x (pos 0) ≡ true → x ≡ pos 0
-zero_number x h = (Decides-int_eq x (pos 0)).0 h
+zero-number : (x : ℤ) → int_eq x (pos 0) ≡ true → x ≡ pos 0
+zero-number x h = (Decides-int_eq x (pos 0)).0 h
 
 dot-zeros : (xs point : List ℤ) → list_all (λ x. int_eq x (pos 0)) xs ≡ true → dot xs point ≡ pos 0
 dot-zeros [] point h = refl
 dot-zeros (x ∷ xs) [] h = refl
 dot-zeros (x ∷ xs) (y ∷ ys) h =
-    let first = zero_number x ((and_parts (int_eq x (pos 0)) (list_all (λ x. int_eq x (pos 0)) xs) h).0) in
+    let first = zero-number x ((and_parts (int_eq x (pos 0)) (list_all (λ x. int_eq x (pos 0)) xs) h).0) in
     let rest = dot-zeros xs ys ((and_parts (int_eq x (pos 0)) (list_all (λ x. int_eq x (pos 0)) xs) h).1) in
     rw (first, rest) (omega (arith, ints))
 
-nothing_met : (row : Row) (point : List ℤ) → says_nothing row ≡ true → Meets point row
-nothing_met row point h =
+nothing-met : (row : Row) (point : List ℤ) → says_nothing row ≡ true → Meets point row
+nothing-met row point h =
     let sum = dot-zeros row.coef.items point ((and_parts (is_constant row) (not (int_lt row.cst (pos 0))) h).0) in
-    let cst = not_negative row.cst ((and_parts (is_constant row) (not (int_lt row.cst (pos 0))) h).1) in
+    let cst = not-negative row.cst ((and_parts (is_constant row) (not (int_lt row.cst (pos 0))) h).1) in
     rw sum (omega (arith, ints, cst))
   where
-    not_negative : (z : ℤ) → not (int_lt z (pos 0)) ≡ true → pos 0 ≤ℤ z
-    not_negative z h = grind (arith, ints)
+    not-negative : (z : ℤ) → not (int_lt z (pos 0)) ≡ true → pos 0 ≤ℤ z
+    not-negative z h = grind (arith, ints)
 
-pub false_unmet : (row : Row) (point : List ℤ) → is_false row ≡ true → Meets point row → ⊥
-false_unmet row point h met =
+pub false-unmet : (row : Row) (point : List ℤ) → is_false row ≡ true → Meets point row → ⊥
+false-unmet row point h met =
     let sum = dot-zeros row.coef.items point ((and_parts (is_constant row) (int_lt row.cst (pos 0)) h).0) in
     let cst = negative row.cst ((and_parts (is_constant row) (int_lt row.cst (pos 0)) h).1) in
     let is = rw sum at met in
@@ -54,82 +54,82 @@ false_unmet row point h met =
 
 -- tidying
 
-pub told_from : (rows : List Row) (row : Row) → Has (told rows) row → (given : Row) × Has rows given × (row ≡ normal given)
-told_from rows row h = map_has normal rows row (filter_has (λ row. not (says_nothing row)) (map normal rows) row h).0
+pub told-from : (rows : List Row) (row : Row) → Has (told rows) row → (given : Row) × Has rows given × (row ≡ normal given)
+told-from rows row h = map-has normal rows row (filter-has (λ row. not (says_nothing row)) (map normal rows) row h).0
 
-pub has_told : (rows : List Row) (row : Row) → Has rows row → says_nothing (normal row) ≡ false → Has (told rows) (normal row)
-has_told rows row h e = has_filter (λ row. not (says_nothing row)) (map normal rows) (normal row) (has_map normal rows row h) (ap not e)
+pub has-told : (rows : List Row) (row : Row) → Has rows row → says_nothing (normal row) ≡ false → Has (told rows) (normal row)
+has-told rows row h e = has-filter (λ row. not (says_nothing row)) (map normal rows) (normal row) (has-map normal rows row h) (ap not e)
 
-pub tidied_met : (rows : List Row) (point : List ℤ) → All (Meets point) rows → All (Meets point) (tidied rows)
-tidied_met rows point met = All_from (Meets point) (tidied rows) (λ row h.
-    let (given, k, is) = told_from rows row ((least_tidied rows).from row h) in
-    subst (Meets point) (sym is) ((Meets-normal given point).0 (All_has (Meets point) rows given met k)))
+pub tidied-met : (rows : List Row) (point : List ℤ) → All (Meets point) rows → All (Meets point) (tidied rows)
+tidied-met rows point met = All-from (Meets point) (tidied rows) (λ row h.
+    let (given, k, is) = told-from rows row ((least-tidied rows).from row h) in
+    subst (Meets point) (sym is) ((Meets-normal given point).0 (All-has (Meets point) rows given met k)))
 
-weaker_met : (row least : Row) (point : List ℤ) → compare row least ≡ Equal → least.cst ≤ℤ row.cst → Meets point least → Meets point row
-weaker_met row least point tie below met =
-    let same : dot row.coef.items point ≡ dot least.coef.items point = ap (λ c. dot c.items point) (tied_coefficients row least tie) in
+weaker-met : (row least : Row) (point : List ℤ) → compare row least ≡ Equal → least.cst ≤ℤ row.cst → Meets point least → Meets point row
+weaker-met row least point tie below met =
+    let same : dot row.coef.items point ≡ dot least.coef.items point = ap (λ c. dot c.items point) (tied-coefficients row least tie) in
     rw same (omega (arith, ints, below, met))
 
-pub met_tidied : (rows : List Row) (point : List ℤ) → All (Meets point) (tidied rows) → All (Meets point) rows
-met_tidied rows point met = All_from (Meets point) rows (λ row h. (Meets-normal row point).1 (at row h (says_nothing (normal row)) refl))
+pub met-tidied : (rows : List Row) (point : List ℤ) → All (Meets point) (tidied rows) → All (Meets point) rows
+met-tidied rows point met = All-from (Meets point) rows (λ row h. (Meets-normal row point).1 (at row h (says_nothing (normal row)) refl))
   where
     at : (row : Row) → Has rows row → (b : Bool) → says_nothing (normal row) ≡ b → Meets point (normal row)
-    at row h true e = nothing_met (normal row) point e
+    at row h true e = nothing-met (normal row) point e
     at row h false e =
-        let (least, k, tie, below) = (least_tidied rows).covers (normal row) (has_told rows row h e) in
-        weaker_met (normal row) least point tie below (All_has (Meets point) (tidied rows) least met k)
+        let (least, k, tie, below) = (least-tidied rows).covers (normal row) (has-told rows row h e) in
+        weaker-met (normal row) least point tie below (All-has (Meets point) (tidied rows) least met k)
 
-pub tidied_over : (n : ℕ) (rows : List Row) → AllOver n rows → AllOver n (tidied rows)
-tidied_over n rows over = All_from (λ row. variables row ≡ n) (tidied rows) (λ row h.
-    let (given, k, is) = told_from rows row ((least_tidied rows).from row h) in
-    ap variables is ∙ variables-normal given ∙ All_has (λ row. variables row ≡ n) rows given over k)
+pub tidied-over : (n : ℕ) (rows : List Row) → AllOver n rows → AllOver n (tidied rows)
+tidied-over n rows over = All-from (λ row. variables row ≡ n) (tidied rows) (λ row h.
+    let (given, k, is) = told-from rows row ((least-tidied rows).from row h) in
+    ap variables is ∙ variables-normal given ∙ All-has (λ row. variables row ≡ n) rows given over k)
 
 -- eliminating
 
 -- each projected row is a row without the variable or a combination of two
-pub projected_from : (variable : ℕ) (rows : List Row) (P : Row → Type 0) → ((row : Row) → Has rows row → is_without variable row ≡ true → P row)
+pub projected-from : (variable : ℕ) (rows : List Row) (P : Row → Type 0) → ((row : Row) → Has rows row → is_without variable row ≡ true → P row)
     → ((below above : Row) → Has rows below → Has rows above → bounds_below variable below ≡ true → bounds_above variable above ≡ true → P (crossed variable below above))
     → (row : Row) → Has (projected variable rows) row → P row
 unfolding projected
-projected_from variable rows P stay cross row h =
+projected-from variable rows P stay cross row h =
     ⊎_elim
-    (λ k. let (has, is) = filter_has (is_without variable) rows row k in stay row has is)
+    (λ k. let (has, is) = filter-has (is_without variable) rows row k in stay row has is)
     (λ k.
-    let (below, has, pair) = flat_map_has (λ P. map (crossed variable P) (filter (bounds_above variable) rows)) (filter (bounds_below variable) rows) row k in
-    let (above, also, is) = map_has (crossed variable below) (filter (bounds_above variable) rows) row pair in
-    let (first, positive) = filter_has (bounds_below variable) rows below has in
-    let (second, negative) = filter_has (bounds_above variable) rows above also in
+    let (below, has, pair) = flat-map-has (λ P. map (crossed variable P) (filter (bounds_above variable) rows)) (filter (bounds_below variable) rows) row k in
+    let (above, also, is) = map-has (crossed variable below) (filter (bounds_above variable) rows) row pair in
+    let (first, positive) = filter-has (bounds_below variable) rows below has in
+    let (second, negative) = filter-has (bounds_above variable) rows above also in
     subst P (sym is) (cross below above first second positive negative))
-    (has_cases (filter (is_without variable) rows) (flat_map (λ P. map (crossed variable P) (filter (bounds_above variable) rows)) (filter (bounds_below variable) rows)) row h)
+    (has-cases (filter (is_without variable) rows) (flat_map (λ P. map (crossed variable P) (filter (bounds_above variable) rows)) (filter (bounds_below variable) rows)) row h)
 
-positive_number : (z : ℤ) → int_lt (pos 0) z ≡ true → pos 0 ≤ℤ z
-positive_number z h = grind (arith, ints)
+positive-number : (z : ℤ) → int_lt (pos 0) z ≡ true → pos 0 ≤ℤ z
+positive-number z h = grind (arith, ints)
 
-negative_number : (z : ℤ) → int_lt z (pos 0) ≡ true → pos 0 ≤ℤ neg_ℤ z
-negative_number z h = grind (arith, ints)
+negative-number : (z : ℤ) → int_lt z (pos 0) ≡ true → pos 0 ≤ℤ neg_ℤ z
+negative-number z h = grind (arith, ints)
 
-same_variables : (n : ℕ) (rows : List Row) (first second : Row) → AllOver n rows → Has rows first → Has rows second → variables first ≡ variables second
-same_variables n rows first second over h k = All_has (λ row. variables row ≡ n) rows first over h ∙ sym (All_has (λ row. variables row ≡ n) rows second over k)
+same-variables : (n : ℕ) (rows : List Row) (first second : Row) → AllOver n rows → Has rows first → Has rows second → variables first ≡ variables second
+same-variables n rows first second over h k = All-has (λ row. variables row ≡ n) rows first over h ∙ sym (All-has (λ row. variables row ≡ n) rows second over k)
 
-pub projected_met : (n variable : ℕ) (rows : List Row) (point : List ℤ) → AllOver n rows → All (Meets point) rows → All (Meets point) (projected variable rows)
-projected_met n variable rows point over met = All_from (Meets point) (projected variable rows) (projected_from variable rows (Meets point)
-    (λ row h is. All_has (Meets point) rows row met h)
+pub projected-met : (n variable : ℕ) (rows : List Row) (point : List ℤ) → AllOver n rows → All (Meets point) rows → All (Meets point) (projected variable rows)
+projected-met n variable rows point over met = All-from (Meets point) (projected variable rows) (projected-from variable rows (Meets point)
+    (λ row h is. All-has (Meets point) rows row met h)
     (λ below above h k p q. Meets-combination (neg_ℤ (coefficient above variable)) below (coefficient below variable) above point
-    (same_variables n rows below above over h k)
-    (negative_number (coefficient above variable) q) (positive_number (coefficient below variable) p)
-    (All_has (Meets point) rows below met h) (All_has (Meets point) rows above met k)))
+    (same-variables n rows below above over h k)
+    (negative-number (coefficient above variable) q) (positive-number (coefficient below variable) p)
+    (All-has (Meets point) rows below met h) (All-has (Meets point) rows above met k)))
 
-pub projected_over : (n variable : ℕ) (rows : List Row) → AllOver n rows → AllOver n (projected variable rows)
-projected_over n variable rows over = All_from (λ row. variables row ≡ n) (projected variable rows) (projected_from variable rows (λ row. variables row ≡ n)
-    (λ row h is. All_has (λ row. variables row ≡ n) rows row over h)
+pub projected-over : (n variable : ℕ) (rows : List Row) → AllOver n rows → AllOver n (projected variable rows)
+projected-over n variable rows over = All-from (λ row. variables row ≡ n) (projected variable rows) (projected-from variable rows (λ row. variables row ≡ n)
+    (λ row h is. All-has (λ row. variables row ≡ n) rows row over h)
     (λ below above h k p q.
-    variables-combination (neg_ℤ (coefficient above variable)) below (coefficient below variable) above (same_variables n rows below above over h k)
-    ∙ All_has (λ row. variables row ≡ n) rows below over h))
+    variables-combination (neg_ℤ (coefficient above variable)) below (coefficient below variable) above (same-variables n rows below above over h k)
+    ∙ All-has (λ row. variables row ≡ n) rows below over h))
 
 -- judging
 
-pub judged_cases : (P : Eliminated → Type 0) (rows : List Row) → (list_any is_false rows ≡ true → P set.False) → P set.Wide → (list_any is_wide rows ≡ false → nat_lt 512 (length rows) ≡ false → P (set.Rows rows)) → P (judged rows)
-judged_cases P rows wrong wide stands = at (list_any is_false rows) refl (list_any is_wide rows) refl (nat_lt 512 (length rows)) refl
+pub judged-cases : (P : Eliminated → Type 0) (rows : List Row) → (list_any is_false rows ≡ true → P set.False) → P set.Wide → (list_any is_wide rows ≡ false → nat_lt 512 (length rows) ≡ false → P (set.Rows rows)) → P (judged rows)
+judged-cases P rows wrong wide stands = at (list_any is_false rows) refl (list_any is_wide rows) refl (nat_lt 512 (length rows)) refl
   where
     at : (a : Bool) → list_any is_false rows ≡ a → (b : Bool) → list_any is_wide rows ≡ b → (d : Bool) → nat_lt 512 (length rows) ≡ d → P (if a then set.False else (if b || d then set.Wide else set.Rows rows))
     at true e b f d g = wrong e
@@ -137,15 +137,15 @@ judged_cases P rows wrong wide stands = at (list_any is_false rows) refl (list_a
     at false e false f true g = wide
     at false e false f false g = stands f g
 
-pub judged_met : (rows : List Row) (point : List ℤ) → All (Meets point) rows → MeetsSaid point (judged rows)
-judged_met rows point met = judged_cases (MeetsSaid point) rows
-    (λ some. let (row, h, is) = list_any_has is_false rows some in false_unmet row point is (All_has (Meets point) rows row met h))
+pub judged-met : (rows : List Row) (point : List ℤ) → All (Meets point) rows → MeetsSaid point (judged rows)
+judged-met rows point met = judged-cases (MeetsSaid point) rows
+    (λ some. let (row, h, is) = list-any-has is_false rows some in false-unmet row point is (All-has (Meets point) rows row met h))
     tt
     (λ narrow few. met)
 
-pub eliminated_met : (n variable : ℕ) (rows : List Row) (point : List ℤ) → AllOver n rows → All (Meets point) rows → MeetsSaid point (eliminated variable rows)
+pub eliminated-met : (n variable : ℕ) (rows : List Row) (point : List ℤ) → AllOver n rows → All (Meets point) rows → MeetsSaid point (eliminated variable rows)
 unfolding eliminated
-eliminated_met n variable rows point over met = judged_met (tidied (projected variable rows)) point (tidied_met (projected variable rows) point (projected_met n variable rows point over met))
+eliminated-met n variable rows point over met = judged-met (tidied (projected variable rows)) point (tidied-met (projected variable rows) point (projected-met n variable rows point over met))
 
 -- what is said of rows with so many variables
 abbrev pub OverSaid : ℕ → Eliminated → Type 0
@@ -153,35 +153,35 @@ OverSaid n set.False = Unit {0}
 OverSaid n set.Wide = Unit {0}
 OverSaid n (set.Rows rows) = AllOver n rows
 
-pub judged_over : (n : ℕ) (rows : List Row) → AllOver n rows → OverSaid n (judged rows)
-judged_over n rows over = judged_cases (OverSaid n) rows (λ some. tt) tt (λ narrow few. over)
+pub judged-over : (n : ℕ) (rows : List Row) → AllOver n rows → OverSaid n (judged rows)
+judged-over n rows over = judged-cases (OverSaid n) rows (λ some. tt) tt (λ narrow few. over)
 
-pub eliminated_over : (n variable : ℕ) (rows : List Row) → AllOver n rows → OverSaid n (eliminated variable rows)
+pub eliminated-over : (n variable : ℕ) (rows : List Row) → AllOver n rows → OverSaid n (eliminated variable rows)
 unfolding eliminated
-eliminated_over n variable rows over = judged_over n (tidied (projected variable rows)) (tidied_over n (projected variable rows) (projected_over n variable rows over))
+eliminated-over n variable rows over = judged-over n (tidied (projected variable rows)) (tidied-over n (projected variable rows) (projected-over n variable rows over))
 
 -- the verdict
 
-pub next_over : (n variable : ℕ) (said : Eliminated) → OverSaid n said → OverSaid n (next variable said)
-next_over n variable set.False over = over
-next_over n variable set.Wide over = over
-next_over n variable (set.Rows rows) over = eliminated_over n variable rows over
+pub next-over : (n variable : ℕ) (said : Eliminated) → OverSaid n said → OverSaid n (next variable said)
+next-over n variable set.False over = over
+next-over n variable set.Wide over = over
+next-over n variable (set.Rows rows) over = eliminated-over n variable rows over
 
-pub next_met : (n variable : ℕ) (said : Eliminated) (point : List ℤ) → OverSaid n said → MeetsSaid point said → MeetsSaid point (next variable said)
-next_met n variable set.False point over met = met
-next_met n variable set.Wide point over met = met
-next_met n variable (set.Rows rows) point over met = eliminated_met n variable rows point over met
+pub next-met : (n variable : ℕ) (said : Eliminated) (point : List ℤ) → OverSaid n said → MeetsSaid point said → MeetsSaid point (next variable said)
+next-met n variable set.False point over met = met
+next-met n variable set.Wide point over met = met
+next-met n variable (set.Rows rows) point over met = eliminated-met n variable rows point over met
 
-ruled_unmet : (said : Eliminated) (point : List ℤ) → ruled said ≡ Empty → MeetsSaid point said → ⊥
-ruled_unmet set.False point e met = met
-ruled_unmet set.Wide point e met = cc
-ruled_unmet (set.Rows rows) point e met = cc
+ruled-unmet : (said : Eliminated) (point : List ℤ) → ruled said ≡ Empty → MeetsSaid point said → ⊥
+ruled-unmet set.False point e met = met
+ruled-unmet set.Wide point e met = cc
+ruled-unmet (set.Rows rows) point e met = cc
 
-pub ruling_unmet : (n k : ℕ) (said : Eliminated) (point : List ℤ) → OverSaid n said → ruling k said ≡ Empty → MeetsSaid point said → ⊥
-ruling_unmet n zero said point over e met = ruled_unmet said point e met
-ruling_unmet n (suc k) said point over e met = ruling_unmet n k (next k said) point (next_over n k said over) e (next_met n k said point over met)
+pub ruling-unmet : (n k : ℕ) (said : Eliminated) (point : List ℤ) → OverSaid n said → ruling k said ≡ Empty → MeetsSaid point said → ⊥
+ruling-unmet n zero said point over e met = ruled-unmet said point e met
+ruling-unmet n (suc k) said point over e met = ruling-unmet n k (next k said) point (next-over n k said over) e (next-met n k said point over met)
 
-pub verdict_unmet : (n : ℕ) (rows : List Row) (point : List ℤ) → AllOver n rows → verdict_of n rows ≡ Empty → All (Meets point) rows → ⊥
+pub verdict-unmet : (n : ℕ) (rows : List Row) (point : List ℤ) → AllOver n rows → verdict_of n rows ≡ Empty → All (Meets point) rows → ⊥
 unfolding verdict_of
-verdict_unmet n rows point over e met =
-    ruling_unmet n n (judged (tidied rows)) point (judged_over n (tidied rows) (tidied_over n rows over)) e (judged_met (tidied rows) point (tidied_met rows point met))
+verdict-unmet n rows point over e met =
+    ruling-unmet n n (judged (tidied rows)) point (judged-over n (tidied rows) (tidied-over n rows over)) e (judged-met (tidied rows) point (tidied-met rows point met))

@@ -37,7 +37,7 @@ use Rattle.grammar_laws.proofs.Tests.{not-equal, equal-not, mark-begins, mark-se
 use Rattle.grammar_laws.proofs.Loops.{loops-complete, loops-front, loops-sound}
 use Rattle.grammar_laws.proofs.Scripts.{candidates-complete, candidates-sound}
 use Rattle.grammar_laws.proofs.Versions.{kept-unit, kept-scalars, kept-items}
-use Rattle.nest_grammar.proofs.Many.{bind_ok}
+use Rattle.nest_grammar.proofs.Many.{bind-ok}
 
 -- Completeness.
 
@@ -209,7 +209,7 @@ scalars-sound s x h = many-sound (IsScalars s) (at_mark mark.Scalar) (always sca
 memory-then : {B : Type 0} (go : ℕ → Reading B) (s : Sight) (y : B × Sight) → after (memory s) go ≡ Ok y → (words : ℕ) × Sees mark.Memory s × SeesNumber words (skip s) × (words ≤ most_words) × (go words (skip (skip s)) ≡ Ok y)
 unfolding memory
 memory-then {B} go s y h =
-    let f1 = bind_ok (after (need mark.Memory s) (λ _. number_where (λ n. nat_le n most_words) kind.Range)) go y h in
+    let f1 = bind-ok (after (need mark.Memory s) (λ _. number_where (λ n. nat_le n most_words) kind.Range)) go y h in
     let f2 = need-then mark.Memory (λ _. number_where (λ n. nat_le n most_words) kind.Range) s f1.0 f1.1 in
     let f3 = number-ok (λ n. nat_le n most_words) kind.Range (skip s) f1.0 f2.1 in
     (f1.0.0, f2.0, f3.0, leb-true f1.0.0 most_words f3.1, subst (λ (t : Sight). go f1.0.0 t ≡ Ok y) f3.2 f1.2)
@@ -227,13 +227,13 @@ data_value-sound words address s x h = elim (value_begins (stands s)) as (λ b. 
 values-sound : (words first : ℕ) (s : Sight) (x : List ℤ × Sight) → data_values words first s ≡ Ok x → IsValues words first s x.0 x.1
 unfolding data_values
 values-sound words first s x h =
-    let f = bind_ok (data_value words first s) _ x h in
+    let f = bind-ok (data_value words first s) _ x h in
     let g = data_value-sound words first s f.0 f.1 in
     many-sound (IsValues words first s) (at_mark mark.Comma) (always (next_value words first)) next (f.0.0 ∷ []) f.0.1 x (grammar.one g.0 g.1) f.2
   where
     next : (vs : List ℤ) (t : Sight) (u : Unit {0}) (y : List ℤ × Sight) → IsValues words first s vs t → at_mark mark.Comma (stands t) ≡ Some u → next_value words first vs t ≡ Ok y → IsValues words first s y.0 y.1
     next vs t u y i e k =
-        let f = bind_ok (data_value words (first + length vs) (skip t)) _ y k in
+        let f = bind-ok (data_value words (first + length vs) (skip t)) _ y k in
         let g = data_value-sound words (first + length vs) (skip t) f.0 f.1 in
         let q = given (vs ++ f.0.0 ∷ []) f.0.1 y f.2 in
         rw q (grammar.more i (mark-sees mark.Comma t u e) g.0 g.1)
@@ -253,7 +253,7 @@ unfolding item_of
 item-sound words word.Data s x k h =
     let f1 = number-then (λ n. true) kind.Range _ (skip s) x h in
     let f2 = need-then mark.Colon _ (skip (skip s)) x f1.3 in
-    let f3 = bind_ok (data_values words f1.0 (skip (skip (skip s)))) _ x f2.1 in
+    let f3 = bind-ok (data_values words f1.0 (skip (skip (skip s)))) _ x f2.1 in
     let q = given (Data f1.0 f3.0.0) f3.0.1 x f3.2 in
     rw q (data_ (data-token (stands s) k) f1.1 refl f2.0 (values-sound words f1.0 (skip (skip (skip s))) f3.0 f3.1))
 item-sound words word.Ramp s x k h =
@@ -271,15 +271,15 @@ items-sound words s x h = many-sound (IsItems words s) item_keyword (item words)
   where
     next : (is : List Item) (t : Sight) (w : ItemKeyword) (y : List Item × Sight) → IsItems words s is t → item_keyword (stands t) ≡ Some w → item words w is t ≡ Ok y → IsItems words s y.0 y.1
     next is t w y i e k =
-        let f = bind_ok (item_of words w (skip t)) _ y k in
+        let f = bind-ok (item_of words w (skip t)) _ y k in
         let q = given (is ++ f.0.0 ∷ []) f.0.1 y f.2 in
         rw q (grammar.more i (item-sound words w t f.0 e f.1))
 
 unit-sound : (v : Version) (names : Names) (s : Sight) (x : NestUnit × Sight) → s.version ≡ v → unit names s ≡ Ok x → IsUnit v names s x.0 x.1
 unfolding unit
 unit-sound v names s x q h =
-    let f1 = bind_ok (loops (most_depth s.version) 0 names s) _ x h in
-    let f2 = bind_ok (candidates (length f1.0.0.0) f1.0.1) _ x f1.2 in
+    let f1 = bind-ok (loops (most_depth s.version) 0 names s) _ x h in
+    let f2 = bind-ok (candidates (length f1.0.0.0) f1.0.1) _ x f1.2 in
     let e = given (record { nest = record { loops = f1.0.0.0 }; names = f1.0.0.1; scripts = f2.0.0 }) f2.0.1 x f2.2 in
     let i : IsLoops (most_depth v) 0 names s f1.0.0.0 f1.0.0.1 f1.0.1 = subst (λ (v : Version). IsLoops (most_depth v) 0 names s f1.0.0.0 f1.0.0.1 f1.0.1) q (loops-sound (most_depth s.version) 0 names s f1.0 f1.1) in
     rw e (grammar.unit i (candidates-sound (length f1.0.0.0) f1.0.1 f2.0 f2.1))
@@ -291,14 +291,14 @@ other_units-sound Several names s us t x q i h = many-sound (IsUnits names Sever
     next : (us : List NestUnit) (t : Sight) (w : LoopKeyword) (y : List NestUnit × Sight) → IsUnits names Several s us t → loop_keyword (stands t) ≡ Some w → next_unit names w us t ≡ Ok y → IsUnits names Several s y.0 y.1
     next us t w y i e k =
         let f = fewer-then (length us) most_nests _ t y k in
-        let g = bind_ok (unit names t) _ y f.1 in
+        let g = bind-ok (unit names t) _ y f.1 in
         let z = given (us ++ g.0.0 ∷ []) g.0.1 y g.2 in
         rw z (grammar.more i f.0 (unit-sound Several names t g.0 (kept-units i ∙ q) g.1))
 
 units-sound : (v : Version) (names : Names) (s : Sight) (x : List NestUnit × Sight) → s.version ≡ v → units v names s ≡ Ok x → IsUnits names v s x.0 x.1
 unfolding units
 units-sound v names s x q h =
-    let f = bind_ok (unit names s) _ x h in
+    let f = bind-ok (unit names s) _ x h in
     other_units-sound v names s (f.0.0 ∷ []) f.0.1 x q (grammar.one (unit-sound v names s f.0 q f.1)) f.2
 
 version-sound : (s : Sight) (x : Version × Sight) → version s ≡ Ok x → IsVersion s x.0 x.1
@@ -334,11 +334,11 @@ kept-skips s = refl
 contents-sound : (text : List ℕ) (x : File × Sight) → length text ≤ most_bytes → contents (start text) ≡ Ok x → Reads text x.0
 unfolding contents
 contents-sound text x l h =
-    let f1 = bind_ok (version (start text)) _ x h in
-    let f2 = bind_ok (scalars f1.0.1) _ x f1.2 in
+    let f1 = bind-ok (version (start text)) _ x h in
+    let f2 = bind-ok (scalars f1.0.1) _ x f1.2 in
     let f3 = memory-then _ f2.0.1 x f2.2 in
-    let f4 = bind_ok (items f3.0 (skip (skip f2.0.1))) _ x f3.4 in
-    let f5 = bind_ok (units f1.0.0 (names_of f2.0.0) f4.0.1) _ x f4.2 in
+    let f4 = bind-ok (items f3.0 (skip (skip f2.0.1))) _ x f3.4 in
+    let f5 = bind-ok (units f1.0.0 (names_of f2.0.0) f4.0.1) _ x f4.2 in
     let f6 = end-then _ f5.0.1 x f5.2 in
     let q = given (record { version = f1.0.0; scalars = f2.0.0; words = f3.0; items = f4.0.0; units = f5.0.0 }) f5.0.1 x f6.1 in
     let iv = version-sound (start text) f1.0 f1.1 in

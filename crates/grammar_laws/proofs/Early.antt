@@ -24,8 +24,8 @@ alike-same : (m : ℕ) (l : List Spot) (n : ℕ) (k : List Spot) → BeginAlike 
 alike-same m [] n k h = h
 alike-same m (x ∷ xs) n k h = h
 
-pub contents_fault : ContentsFaultNotTooEarly
-contents_fault s f e =
+pub contents-fault : ContentsFaultNotTooEarly
+contents-fault s f e =
     let h : Here contents s = local-contents s in
     record {
       before = h.prefix.0;
@@ -154,10 +154,10 @@ fault-at text f h (x ∷ xs) e =
           reading-short other le ∙ ap file_of (ap (λ (z : List Spot). contents (record (start text) { left = z; size = length other })) k.1 ∙ c));
     }
 
-pub text_fault : FaultNotTooEarly
-text_fault text f le e =
+pub text-fault : FaultNotTooEarly
+text-fault text f le e =
     let c : contents (start text) ≡ Err f = file_of-err (contents (start text)) f (sym (reading-short text le) ∙ e) in
-    let h : FaultBehind (start text) f = contents_fault (start text) f c in
+    let h : FaultBehind (start text) f = contents-fault (start text) f c in
     fault-at text f h h.behind refl
 
-pub ruleset early = (contents_fault, text_fault)
+pub ruleset early = (contents-fault, text-fault)

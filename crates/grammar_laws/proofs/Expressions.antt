@@ -20,7 +20,7 @@ use Rattle.nest_grammar.proofs.Many.{many-stop}
 use Rattle.nest_grammar.proofs.Chains.{parts-term, parts-sum}
 use Rattle.grammar_laws.proofs.ReadingLaws.{taken-room, closed-sees, access-room, given, taken-then, closed-then, access-then}
 use Rattle.grammar_laws.proofs.Parts.{many-sound, many-reads}
-use Rattle.nest_grammar.proofs.Many.{bind_ok}
+use Rattle.nest_grammar.proofs.Many.{bind-ok}
 
 -- Completeness: what the grammar says is read. The parts of a term or a sum may go on behind it.
 
@@ -164,17 +164,17 @@ unfolding start_of refused skip
 operand-sound names d u e hu he s x (token.Number n) k h = let f = taken-then (λ _. gives (Number (pos n))) s x h in done x f.1 (number k f.0)
 operand-sound names d u e hu he s x (token.Name n) k h = visible-sound names d s n x k (place_of names n) refl h
 operand-sound names d u e hu he s x (token.Plain mark.Minus) k h =
-    let f = bind_ok (u s) (λ a. gives (Neg a)) x h in
+    let f = bind-ok (u s) (λ a. gives (Neg a)) x h in
     let i = hu s f.0 f.1 in
     done x f.2 (one-up i.1 (minus k i.2 i.3))
 operand-sound names d u e hu he s x (token.Plain mark.Open) k h =
-    let f = bind_ok (e s) (λ a. closed mark.Close >>= λ _. gives a) x h in
+    let f = bind-ok (e s) (λ a. closed mark.Close >>= λ _. gives a) x h in
     let g = closed-then mark.Close (λ _. gives f.0.0) f.0.1 x f.2 in
     let i = he s f.0 f.1 in
     done x g.2 (one-up i.1 (parens k i.2 i.3 g.0 g.1))
 operand-sound names d u e hu he s x (token.Plain mark.OpenBracket) k h =
     let r = access-then (λ _. e >>= λ a. closed mark.CloseBracket >>= λ _. access_number >>= λ k. gives (Load k a)) s x h in
-    let f = bind_ok (e (opens s)) (λ a. closed mark.CloseBracket >>= λ _. access_number >>= λ k. gives (Load k a)) x r.1 in
+    let f = bind-ok (e (opens s)) (λ a. closed mark.CloseBracket >>= λ _. access_number >>= λ k. gives (Load k a)) x r.1 in
     let g = closed-then mark.CloseBracket (λ _. access_number >>= λ k. gives (Load k f.0.0)) f.0.1 x f.2 in
     let i = he (opens s) f.0 f.1 in
     done x g.2 (one-up i.1 (load k r.0 i.2 i.3 g.0 g.1))
@@ -184,7 +184,7 @@ operand-sound names d u e hu he s x _ k h = absurd (cc)
 operated-sound : (part : Reading Expr) (o : Op) (a : Expr) (t : Sight) (x : Expr × Sight) → operated part o a t ≡ Ok x → Room t × ((y : Expr × Sight) × (part (spend t) ≡ Ok y) × (x ≡ (Two o a y.0, y.1)))
 operated-sound part o a t x h =
     let f = taken-then (λ _. part >>= λ b. gives (Two o a b)) t x h in
-    let g = bind_ok (part (spend t)) (λ b. gives (Two o a b)) x f.1 in
+    let g = bind-ok (part (spend t)) (λ b. gives (Two o a b)) x f.1 in
     (f.0, (g.0, g.1, given (Two o a g.0.0) g.0.1 x g.2))
 
 two : {names : Names} {p : Precedence} {d : ℕ} {s t : Sight} {a : Expr} (x : Expr × Sight) → x ≡ (a, t) → Is names p d s a t → Is names p d s x.0 x.1
@@ -192,17 +192,17 @@ two x e i = rw e i
 
 term-sound : (names : Names) (d : ℕ) (unary : Reading Expr) → Sound names Unary d unary → Sound names Term d (parts product_of unary)
 term-sound names d unary hu s x h =
-    let f = bind_ok (unary s) (many product_of (operated unary)) x h in
+    let f = bind-ok (unary s) (many product_of (operated unary)) x h in
     many-sound (Is names Term d s) product_of (operated unary) (λ a t o y i e k. (let g = operated-sound unary o a t y k in two y g.1.2 (product i e g.0 (hu (spend t) g.1.0 g.1.1)))) f.0.0 f.0.1 x (factor (hu s f.0 f.1)) f.2
 
 sum-sound : (names : Names) (d : ℕ) (term : Reading Expr) → Sound names Term d term → Sound names Sum d (parts addition_of term)
 sum-sound names d term hu s x h =
-    let f = bind_ok (term s) (many addition_of (operated term)) x h in
+    let f = bind-ok (term s) (many addition_of (operated term)) x h in
     many-sound (Is names Sum d s) addition_of (operated term) (λ a t o y i e k. (let g = operated-sound term o a t y k in two y g.1.2 (addition i e g.0 (hu (spend t) g.1.0 g.1.1)))) f.0.0 f.0.1 x (summand (hu s f.0 f.1)) f.2
 
 whole-sound : (names : Names) (d : ℕ) (sum : Reading Expr) → Sound names Sum d sum → Sound names Whole d (compared sum)
 whole-sound names d sum hu s x h =
-    let f = bind_ok (sum s) (λ a t. compared_at sum a (comparison_of (stands t)) t) x h in
+    let f = bind-ok (sum s) (λ a t. compared_at sum a (comparison_of (stands t)) t) x h in
     let i : Is names Sum d s f.0.0 f.0.1 = hu s f.0 f.1 in
     elim (comparison_of (stands f.0.1)) as (λ o. comparison_of (stands f.0.1) ≡ o → compared_at sum f.0.0 o f.0.1 ≡ Ok x → Is names Whole d s x.0 x.1) [
       | None ↦ λ e k. done x k (side i)

@@ -111,18 +111,18 @@ verb-counted (token.Number n) w k = absurd (let e : false ≡ true = verb-name (
 verb-counted (token.Bad b) w k = absurd (let e : false ≡ true = verb-name (token.Bad b) w k in cc)
 verb-counted token.End w k = absurd (let e : false ≡ true = verb-name token.End w k in cc)
 
-verb-of_script : (t : Token) (w : CommandWord) → command_word t ≡ Some w → is_of_script t ≡ true
-verb-of_script (token.Name n) w k = rw k refl
-verb-of_script (token.Number n) w k = refl
-verb-of_script (token.Plain m) w k = absurd (let e : false ≡ true = verb-name (token.Plain m) w k in cc)
-verb-of_script (token.Bad b) w k = absurd (let e : false ≡ true = verb-name (token.Bad b) w k in cc)
-verb-of_script token.End w k = absurd (let e : false ≡ true = verb-name token.End w k in cc)
+verb-of-script : (t : Token) (w : CommandWord) → command_word t ≡ Some w → is_of_script t ≡ true
+verb-of-script (token.Name n) w k = rw k refl
+verb-of-script (token.Number n) w k = refl
+verb-of-script (token.Plain m) w k = absurd (let e : false ≡ true = verb-name (token.Plain m) w k in cc)
+verb-of-script (token.Bad b) w k = absurd (let e : false ≡ true = verb-name (token.Bad b) w k in cc)
+verb-of-script token.End w k = absurd (let e : false ≡ true = verb-name token.End w k in cc)
 
 at-command_at : (depth : ℕ) (cs : Script) (s : Sight) (t : Token) → stands s ≡ t → (o : Option CommandWord) → command_word t ≡ o → At (The Command) (command_at depth cs o) s
 at-command_at depth cs s t h (Some w) k =
     let real : Real t = verb-real t w k in
     let starts : Starts (Verb w · Operands w) t = starts-then ([], verb k) (word-operands w) in
-    at-as (command-is w) (at-obeys _ (nat_lt (length cs) most_commands) kind.Many t h real starts (verb-counted t w k) (at-obeys _ (may_follow w cs) kind.Script t h real starts (verb-of_script t w k) (of-then (at-skipped t h real (verb k)) (word-operands w) (λ _. of-operands depth w))))
+    at-as (command-is w) (at-obeys _ (nat_lt (length cs) most_commands) kind.Many t h real starts (verb-counted t w k) (at-obeys _ (may_follow w cs) kind.Script t h real starts (verb-of-script t w k) (of-then (at-skipped t h real (verb k)) (word-operands w) (λ _. of-operands depth w))))
 at-command_at depth cs s t h None k = of-wrong word-command s
 
 of-command : (depth : ℕ) (cs : Script) → Of (The Command) (command depth cs)

@@ -14,7 +14,7 @@ use Rattle.nest_grammar.specs.Sights.{Sight, stands, here, start}
 use Rattle.nest_grammar.specs.Names.{names_of}
 use Rattle.nest_grammar.specs.Readings.{after, gives, refused, end_at, end}
 use Rattle.nest_grammar.specs.Contents.{version, scalars, memory, items, units, contents, file_of, too_long, reading}
-use Rattle.nest_grammar.proofs.Many.{bind_ok}
+use Rattle.nest_grammar.proofs.Many.{bind-ok}
 use Rattle.grammar_laws.specs.Kinds.{comes_at, FaultAtItsToken}
 use Rattle.grammar_laws.specs.Phrases.{File, The, Allows, shown, Begins, FaultInSentence, FaultNotTooLate, ReadTextIsSentence}
 use Rattle.grammar_laws.proofs.Early.{AllReal, real-tokens, real-at, end_of}
@@ -69,14 +69,14 @@ read-or-fault text f h long = elim (nat_le (length text) most_bytes) as (λ b. c
     of-fault (Ok x) k = absurd (cc)
     of-fault (Err g) k = cc
 
-pub fault_late : FaultNotTooLate
-fault_late text f h long =
+pub fault-late : FaultNotTooLate
+fault-late text f h long =
     let s : Stopped (The File) f (length text) (tokens text) = judged text (Err f) (read-or-fault text f h long) in
     in-sentence text f s s.behind refl
 
-pub fault_at_its_token : FaultAtItsToken
-fault_at_its_token text f h long =
-    let s : FaultInSentence text f = fault_late text f h long in
+pub fault-at-its-token : FaultAtItsToken
+fault-at-its-token text f h long =
+    let s : FaultInSentence text f = fault-late text f h long in
     record { before = s.before; spot = s.spot; behind = s.behind; tokens = s.tokens; at = s.at; comes = s.comes }
 
 -- a file that was read is read to the end
@@ -89,11 +89,11 @@ ends-at a s _ y h e = absurd (cc)
 contents-ends : (s : Sight) (y : NestFile × Sight) → contents s ≡ Ok y → stands y.1 ≡ token.End
 unfolding contents end
 contents-ends s y h =
-    let v = bind_ok (version s) _ y h in
-    let c = bind_ok (scalars v.0.1) _ y v.2 in
-    let w = bind_ok (memory c.0.1) _ y c.2 in
-    let i = bind_ok (items w.0.0 w.0.1) _ y w.2 in
-    let u = bind_ok (units v.0.0 (names_of c.0.0) i.0.1) _ y i.2 in
+    let v = bind-ok (version s) _ y h in
+    let c = bind-ok (scalars v.0.1) _ y v.2 in
+    let w = bind-ok (memory c.0.1) _ y c.2 in
+    let i = bind-ok (items w.0.0 w.0.1) _ y w.2 in
+    let u = bind-ok (units v.0.0 (names_of c.0.0) i.0.1) _ y i.2 in
     ends-at (record { version = v.0.0; scalars = c.0.0; words = w.0.0; items = i.0.0; units = u.0.0 }) u.0.1 (stands u.0.1) y refl u.2
 
 no-more : (size : ℕ) (before more : List Spot) → AllReal (before ++ more) → (first size more).token ≡ token.End → more ≡ []
@@ -112,11 +112,11 @@ of-file : (text : List ℕ) (file : NestFile) (y : Result (NestFile × Sight) Te
 of-file text file (Ok x) e h = all-read text x e
 of-file text file (Err f) e h = absurd (cc)
 
-pub read_sentence : ReadTextIsSentence
+pub read-sentence : ReadTextIsSentence
 unfolding reading
-read_sentence text file h = elim (nat_le (length text) most_bytes) as (λ b. cond b (file_of (contents (start text))) (Err too_long) ≡ Ok file → Allows (The File) (shown (tokens text))) [
+read-sentence text file h = elim (nat_le (length text) most_bytes) as (λ b. cond b (file_of (contents (start text))) (Err too_long) ≡ Ok file → Allows (The File) (shown (tokens text))) [
   | true ↦ λ k. of-file text file (contents (start text)) refl k
   | false ↦ λ k. absurd (cc)
 ] h
 
-pub ruleset late = (fault_late, fault_at_its_token, read_sentence)
+pub ruleset late = (fault-late, fault-at-its-token, read-sentence)

@@ -26,7 +26,7 @@ use Rattle.nest_grammar.specs.Grammar.{IsStride, unwritten, written, IsHeading, 
 use Rattle.grammar_laws.proofs.ReadingLaws.{sees-is, need-sees, obeys-true, fresh-sees, signed-is, given, need-then, fresh-then, signed-ok}
 use Rattle.grammar_laws.proofs.Expressions.{Ends, expression-complete, expression-sound}
 use Rattle.grammar_laws.proofs.Statements.{Follows, opens-follow, close-follows, close-begins, block-complete, block-sound}
-use Rattle.nest_grammar.proofs.Many.{bind_ok}
+use Rattle.nest_grammar.proofs.Many.{bind-ok}
 
 -- Completeness.
 
@@ -157,14 +157,14 @@ heading-sound : (names : Names) (w : LoopKeyword) (s : Sight) (x : (Head × Opti
 heading-sound names word.For s x k h =
     let f1 = fresh-then names _ (skip s) x h in
     let f2 = need-then mark.Assign _ (skip (skip s)) x f1.3 in
-    let f3 = bind_ok (expression names (in_block (skip (skip (skip s))))) _ x f2.1 in
+    let f3 = bind-ok (expression names (in_block (skip (skip (skip s))))) _ x f2.1 in
     let f4 = need-then mark.Below _ f3.0.1 x f3.2 in
-    let f5 = bind_ok (expression names (skip f3.0.1)) _ x f4.1 in
-    let f6 = bind_ok (stride f5.0.1) _ x f5.2 in
+    let f5 = bind-ok (expression names (skip f3.0.1)) _ x f4.1 in
+    let f6 = bind-ok (stride f5.0.1) _ x f5.2 in
     let q = given {A = Head × Option Name} (head.For f3.0.0 f5.0.0 f6.0.0, Some f1.0) f6.0.1 x f6.2 in
     rw q (counting (for-token (stands s) k) f1.1 f1.2 f2.0 (expression-sound names (in_block (skip (skip (skip s)))) f3.0 f3.1) f4.0 (expression-sound names (skip f3.0.1) f5.0 f5.1) (stride-sound f5.0.1 f6.0 f6.1))
 heading-sound names word.While s x k h =
-    let f = bind_ok (expression names (in_block (skip s))) _ x h in
+    let f = bind-ok (expression names (in_block (skip s))) _ x h in
     let q = given {A = Head × Option Name} (head.While f.0.0, None) f.0.1 x f.2 in
     rw q (asking (while-token (stands s) k) (expression-sound names (in_block (skip s)) f.0 f.1))
 
@@ -186,10 +186,10 @@ LoopsSound d level r = (names : Names) (s : Sight) (x : Loops × Sight) → r na
 
 loop-sound : (d level : ℕ) (inner : Names → Reading Loops) → LoopsSound d (suc level) inner → (names : Names) (w : LoopKeyword) (s : Sight) (x : Loops × Sight) → loop_keyword (stands s) ≡ Some w → loop_of inner level names w s ≡ Ok x → IsLoops (suc d) level names s x.0.0 x.0.1 x.1
 loop-sound d level inner hi names w s x k h =
-    let f1 = bind_ok (heading names w s) _ x h in
+    let f1 = bind-ok (heading names w s) _ x h in
     let ns : Names = inside names level f1.0.0.1 in
     let f2 = need-then mark.OpenBrace _ f1.0.1 x f1.2 in
-    let f3 = bind_ok (block ns (skip f1.0.1)) _ x f2.1 in
+    let f3 = bind-ok (block ns (skip f1.0.1)) _ x f2.1 in
     let i = heading-sound names w s f1.0 k f1.1 in
     let b = block-sound ns (skip f1.0.1) f3.0 f3.1 in
     elim (loop_keyword (stands f3.0.1)) as (λ o. after (rest_at (inner ns) ns o f3.0.1) (λ r. body_end f3.0.0.0 r.0.0 >>= λ _. gives (around f1.0.0 f3.0.0 r)) ≡ Ok x → IsLoops (suc d) level names s x.0.0 x.0.1 x.1) [
@@ -199,9 +199,9 @@ loop-sound d level inner hi names w s x k h =
           rw e (innermost i f2.0 b (some-any f3.0.0.0 g.1) g.0))
       | Some v ↦ λ q. (
           let go : Rest → Reading Loops = λ r. body_end f3.0.0.0 r.0.0 >>= λ _. gives {A = Loops} (around f1.0.0 f3.0.0 r) in
-          let g = bind_ok (after (inner ns f3.0.1) (λ ls. block ns >>= λ post. gives {A = Rest} (ls, post))) go x q in
-          let g1 = bind_ok (inner ns f3.0.1) (λ ls. block ns >>= λ post. gives {A = Rest} (ls, post)) g.0 g.1 in
-          let g2 = bind_ok (block ns g1.0.1) (λ post. gives {A = Rest} (g1.0.0, post)) g.0 g1.2 in
+          let g = bind-ok (after (inner ns f3.0.1) (λ ls. block ns >>= λ post. gives {A = Rest} (ls, post))) go x q in
+          let g1 = bind-ok (inner ns f3.0.1) (λ ls. block ns >>= λ post. gives {A = Rest} (ls, post)) g.0 g.1 in
+          let g2 = bind-ok (block ns g1.0.1) (λ post. gives {A = Rest} (g1.0.0, post)) g.0 g1.2 in
           let e = given {A = Rest} (g1.0.0, g2.0.0) g2.0.1 g.0 g2.2 in
           let k : go (g1.0.0, g2.0.0) g2.0.1 ≡ Ok x = subst (λ (y : Rest × Sight). go y.0 y.1 ≡ Ok x) e g.2 in
           let g3 = body_end-then f3.0.0.0 g1.0.0.0 (λ _. gives {A = Loops} (around f1.0.0 f3.0.0 (g1.0.0, g2.0.0))) g2.0.1 x k in

@@ -5,7 +5,7 @@ use Rattle.nest_grammar.specs.Sights.{Sight, stands}
 use Rattle.nest_grammar.specs.Readings.{Reading, many, more, more_at}
 use Rattle.nest_grammar.proofs.Many.{Parts, many-next}
 use Rattle.grammar_laws.proofs.ReadingLaws.{given}
-use Rattle.nest_grammar.proofs.Many.{bind_ok}
+use Rattle.nest_grammar.proofs.Many.{bind-ok}
 
 more-sound : {A B : Type 0} (P : A → Sight → Type 0) (begins : Token → Option B) (part : B → A → Reading A) → ((a : A) (t : Sight) (b : B) (x : A × Sight) → P a t → begins (stands t) ≡ Some b → part b a t ≡ Ok x → P x.0 x.1) → (n : ℕ) (a : A) (t : Sight) (x : A × Sight) → P a t → more n begins part a t ≡ Ok x → P x.0 x.1
 unfolding more
@@ -13,7 +13,7 @@ more-sound P begins part step zero a t x i h = let e : x ≡ (a, t) = given a t 
 more-sound P begins part step (suc n) a t x i h =
     elim (begins (stands t)) as (λ o. begins (stands t) ≡ o → more_at part (more n begins part) a o t ≡ Ok x → P x.0 x.1) [
       | None ↦ λ e k. (let q : x ≡ (a, t) = given a t x k in rw q i)
-      | Some b ↦ λ e k. (let f = bind_ok (part b a t) (more n begins part) x k in
+      | Some b ↦ λ e k. (let f = bind-ok (part b a t) (more n begins part) x k in
           more-sound P begins part step n f.0.0 f.0.1 x (step a t b f.0 i e f.1) f.2)
     ] refl h
 

@@ -19,7 +19,7 @@ use Rattle.nest_grammar.specs.Readings.{Reading, after, ◌>>=◌, gives, refuse
 use Rattle.nest_grammar.specs.Names.{Names, place_of, fresh, fresh_at, unless_known, target, if_scalar}
 use Rattle.nest_grammar.specs.Expressions.{taken, closed, access}
 use Rattle.nest_grammar.specs.Grammar.{Room, AccessRoom, SeesNumber, SeesName, IsSigned, unsigned, negative}
-use Rattle.nest_grammar.proofs.Many.{bind_ok}
+use Rattle.nest_grammar.proofs.Many.{bind-ok}
 
 -- What each gives.
 
@@ -150,12 +150,12 @@ pub signed-then : {B : Type 0} (rule : ℤ → Bool) (what : TextKind) (go : ℤ
 unfolding signed_where minus
 signed-then {B} rule what go s y h = elim (is_mark mark.Minus (stands s)) as (λ b. is_mark mark.Minus (stands s) ≡ b → after (after (cond b (Ok (true, skip s)) (Ok (false, s))) (λ negative. number_where (λ n. rule (with_sign negative n)) what >>= λ n. gives (with_sign negative n))) go ≡ Ok y → (v : ℤ) × (t : Sight) × IsSigned s v t × (rule v ≡ true) × (go v t ≡ Ok y)) [
   | true ↦ λ e k. (
-      let f = bind_ok (after (number_where (λ n. rule (with_sign true n)) what (skip s)) (λ n. gives (with_sign true n))) go y k in
+      let f = bind-ok (after (number_where (λ n. rule (with_sign true n)) what (skip s)) (λ n. gives (with_sign true n))) go y k in
       let g = number-then (λ n. rule (with_sign true n)) what (λ n. gives (with_sign true n)) (skip s) f.0 f.1 in
       let q = given (with_sign true g.0) (skip (skip s)) f.0 g.3 in
       (with_sign true g.0, skip (skip s), negative (is_mark-true mark.Minus (stands s) e) g.1, g.2, subst (λ (x : ℤ × Sight). go x.0 x.1 ≡ Ok y) q f.2))
   | false ↦ λ e k. (
-      let f = bind_ok (after (number_where (λ n. rule (with_sign false n)) what s) (λ n. gives (with_sign false n))) go y k in
+      let f = bind-ok (after (number_where (λ n. rule (with_sign false n)) what s) (λ n. gives (with_sign false n))) go y k in
       let g = number-then (λ n. rule (with_sign false n)) what (λ n. gives (with_sign false n)) s f.0 f.1 in
       let q = given (with_sign false g.0) (skip s) f.0 g.3 in
       (pos g.0, skip s, unsigned g.1, g.2, subst (λ (x : ℤ × Sight). go x.0 x.1 ≡ Ok y) q f.2))

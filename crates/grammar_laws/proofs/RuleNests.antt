@@ -103,9 +103,9 @@ unit-keeps : {scalars : ℕ} {v : Version} {names : Names} {s t : Sight} {u : Ne
 unit-keeps {scalars} all short keep (grammar.unit {ls = ls} i j) = record { loops_keep = keep; innermost = loops-innermost i; each = levels-each scalars ls (levels-keep all short i) }
 
 -- where the loops of each unit keep the rules
-pub units-keep_blocks : {scalars : ℕ} {names : Names} {v : Version} {s t : Sight} {us : List NestUnit} → AreWithin scalars 0 names → Short s
+pub units-keep-blocks : {scalars : ℕ} {names : Names} {v : Version} {s t : Sight} {us : List NestUnit} → AreWithin scalars 0 names → Short s
     → ((w : Version) (p q : Sight) (u : NestUnit) → IsUnit w names p u q → loops_keep u.nest.loops ≡ true) → IsUnits names v s us t → All (UnitKeeps scalars) us
-units-keep_blocks {scalars} all short keep (grammar.one {n = n} i) = All-push (UnitKeeps scalars) [] n (All-nil (UnitKeeps scalars)) (unit-keeps all short (keep _ _ _ n i) i)
-units-keep_blocks {scalars} all short keep (grammar.more {ns} {n} i l j) =
+units-keep-blocks {scalars} all short keep (grammar.one {n = n} i) = All-push (UnitKeeps scalars) [] n (All-nil (UnitKeeps scalars)) (unit-keeps all short (keep _ _ _ n i) i)
+units-keep-blocks {scalars} all short keep (grammar.more {ns} {n} i l j) =
     let front = units-left i in
-    All-push (UnitKeeps scalars) ns n (units-keep_blocks all short keep i) (unit-keeps all (omega (arith, front, short)) (keep _ _ _ n j) j)
+    All-push (UnitKeeps scalars) ns n (units-keep-blocks all short keep i) (unit-keeps all (omega (arith, front, short)) (keep _ _ _ n j) j)

@@ -27,7 +27,7 @@ use Rattle.grammar_laws.proofs.Loops.{not_zero-is}
 use Rattle.grammar_laws.proofs.Contents.{reading-reads}
 use Rattle.grammar_laws.proofs.RulePlaces.{within-scalars}
 use Rattle.grammar_laws.proofs.RuleSizes.{beyond-left, scalars-left, items-left, version-left, tokens-few}
-use Rattle.grammar_laws.proofs.RuleNests.{Short, units-keep_blocks}
+use Rattle.grammar_laws.proofs.RuleNests.{Short, units-keep-blocks}
 use Rattle.grammar_laws.proofs.Spelled.{ProperSight, proper-start, proper-skip, proper-name}
 
 length-push : {A : Type 0} (xs : List A) (x : A) → length (xs ++ x ∷ []) ≡ suc (length xs)
@@ -135,7 +135,7 @@ reads-keeps text _ (grammar.file {scalars = cs} {s = s} {t = t} {u = u} l iv ic 
       items_fit = items-fit ii;
       some_nest = g.0;
       few_nests = g.1;
-      nests_keep = units-keep_blocks (within-scalars cs) short (λ w p q n i. unit-keeps i) iu;
+      nests_keep = units-keep-blocks (within-scalars cs) short (λ w p q n i. unit-keeps i) iu;
     }
 
 -- and so does a file that is read

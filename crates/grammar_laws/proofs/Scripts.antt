@@ -26,7 +26,7 @@ use Rattle.grammar_laws.proofs.ReadingLaws.{sees-is, need-sees, obeys-true, fewe
 use Rattle.grammar_laws.proofs.Parts.{many-sound, many-reads}
 use Rattle.grammar_laws.proofs.Tests.{not-equal, equal-not, mark-begins, mark-sees}
 use Rattle.std.proofs.lemmas.Bool.{and_parts}
-use Rattle.nest_grammar.proofs.Many.{bind_ok}
+use Rattle.nest_grammar.proofs.Many.{bind-ok}
 
 -- Completeness.
 
@@ -180,11 +180,11 @@ operands-sound depth cs s x word.Tile h m k =
     let q = given (Tile f.0 (pos g.0)) (skip (skip (skip s))) x g.3 in
     rw q (tile h f.1 f.2 refl g.1 g.2)
 operands-sound depth cs s x word.Par h m k =
-    let f = bind_ok (rows depth (skip s)) _ x k in
+    let f = bind-ok (rows depth (skip s)) _ x k in
     let q = given (Par (marked f.0.0)) f.0.1 x f.2 in
     rw q (par h (rows-sound depth (skip s) f.0 f.1))
 operands-sound depth cs s x word.Wave h m k =
-    let f = bind_ok (rows depth (skip s)) _ x k in
+    let f = bind-ok (rows depth (skip s)) _ x k in
     let q = given (Wave (marked f.0.0)) f.0.1 x f.2 in
     rw q (wave h (rows-sound depth (skip s) f.0 f.1))
 
@@ -192,7 +192,7 @@ operands-sound depth cs s x word.Wave h m k =
 command-sound : (depth : ℕ) (cs : Script) (s : Sight) (x : Script × Sight) → command depth cs s ≡ Ok x → (length cs < most_commands) × ((c : Command) × (x.0 ≡ cs ++ c ∷ []) × IsCommand depth cs s c x.1)
 unfolding command refused
 command-sound depth cs s x h =
-    let f = bind_ok (command_at depth cs (command_word (stands s)) s) (λ c. gives (cs ++ c ∷ [])) x h in
+    let f = bind-ok (command_at depth cs (command_word (stands s)) s) (λ c. gives (cs ++ c ∷ [])) x h in
     let q = given (cs ++ f.0.0 ∷ []) f.0.1 x f.2 in
     let g = by f.0 (command_word (stands s)) refl f.1 in
     rw q (g.0, (f.0.0, refl, g.1))
@@ -206,7 +206,7 @@ command-sound depth cs s x h =
 
 commands-sound : (depth : ℕ) (s : Sight) (x : Script × Sight) → commands depth s ≡ Ok x → IsCommands depth s x.0 x.1
 commands-sound depth s x h =
-    let f = bind_ok (command depth [] s) _ x h in
+    let f = bind-ok (command depth [] s) _ x h in
     let g = command-sound depth [] s f.0 f.1 in
     many-sound (IsCommands depth s) (at_mark mark.Semicolon) (always (next_command depth)) next f.0.0 f.0.1 x (subst (λ (cs : Script). IsCommands depth s cs f.0.1) (sym g.1.1) (grammar.one g.1.2)) f.2
   where
@@ -222,7 +222,7 @@ script-sound depth s x h =
     elim (is_mark mark.CloseBrace (stands (skip s))) as (λ b. is_mark mark.CloseBrace (stands (skip s)) ≡ b → script_at depth b (skip s) ≡ Ok x → IsScript depth s x.0 x.1) [
       | true ↦ λ e k. (let q = given {A = Script} [] (skip (skip s)) x k in rw q (grammar.empty f.0 (is_mark-true mark.CloseBrace (stands (skip s)) e)))
       | false ↦ λ e k. (
-          let g = bind_ok (commands depth (skip s)) _ x k in
+          let g = bind-ok (commands depth (skip s)) _ x k in
           let n = need-then mark.CloseBrace _ g.0.1 x g.2 in
           let q = given g.0.0 (skip g.0.1) x n.1 in
           rw q (grammar.script f.0 (commands-sound depth (skip s) g.0 g.1) n.0))
@@ -235,6 +235,6 @@ candidates-sound depth s x h = many-sound (IsCandidates depth s) (at_mark mark.C
     next : (scripts : List Script) (t : Sight) (u : Unit {0}) (y : List Script × Sight) → IsCandidates depth s scripts t → at_mark mark.Candidate (stands t) ≡ Some u → candidate depth scripts t ≡ Ok y → IsCandidates depth s y.0 y.1
     next scripts t u y i e k =
         let f = fewer-then (length scripts) most_candidates _ t y k in
-        let g = bind_ok (script depth (skip t)) _ y f.1 in
+        let g = bind-ok (script depth (skip t)) _ y f.1 in
         let q = given (scripts ++ g.0.0 ∷ []) g.0.1 y g.2 in
         rw q (grammar.more i (mark-sees mark.Candidate t u e) f.0 (script-sound depth (skip t) g.0 g.1))

@@ -27,7 +27,7 @@ use Rattle.nest_grammar.proofs.Productions.{IsPart, part-refused, part-skipped, 
 use Rattle.grammar_laws.proofs.ReadingLaws.{sees-is, need-sees, fewer-room, access-room, fresh-sees, target-is, given, need-then, fewer-then, access-then, fresh-then, target-then}
 use Rattle.grammar_laws.proofs.Parts.{many-sound, many-reads}
 use Rattle.grammar_laws.proofs.Expressions.{Ends, expression-complete, expression-sound}
-use Rattle.nest_grammar.proofs.Many.{bind_ok}
+use Rattle.nest_grammar.proofs.Many.{bind-ok}
 
 -- how a condition is read, where d more may stand within one another
 abbrev pub branch : ℕ → Names → Reading Stmt
@@ -191,22 +191,22 @@ statement-sound d b hb names opening.Let s x k h =
     let f1 = fewer-then (length s.lets) most_lets _ s x h in
     let f2 = fresh-then names _ (skip s) x f1.1 in
     let f3 = need-then mark.Assign _ (bound f2.0 (skip (skip s))) x f2.3 in
-    let f4 = bind_ok (expression names (skip (bound f2.0 (skip (skip s))))) _ x f3.1 in
+    let f4 = bind-ok (expression names (skip (bound f2.0 (skip (skip s))))) _ x f3.1 in
     done x f4.2 (grammar.let_ (let-token (stands s) k) f1.0 f2.1 f2.2 refl f3.0 (expression-sound names (skip (bound f2.0 (skip (skip s)))) f4.0 f4.1))
 statement-sound d b hb names (opening.Name n) s x k h =
     let f1 = target-then names n _ s x h in
     let f2 = need-then mark.Assign _ (skip s) x f1.2 in
-    let f3 = bind_ok (expression names (skip (skip s))) _ x f2.1 in
+    let f3 = bind-ok (expression names (skip (skip s))) _ x f2.1 in
     done x f3.2 (grammar.set (name-token (stands s) n k) f1.1 f2.0 (expression-sound names (skip (skip s)) f3.0 f3.1))
 statement-sound d b hb names opening.Store s x k h =
     let f1 = access-then _ s x h in
-    let f2 = bind_ok (expression names (skip (opens s))) _ x f1.1 in
+    let f2 = bind-ok (expression names (skip (opens s))) _ x f1.1 in
     let f3 = need-then mark.CloseBracket _ f2.0.1 x f2.2 in
     let f4 = need-then mark.Assign _ (skip f2.0.1) x f3.1 in
-    let f5 = bind_ok (expression names (skip (skip f2.0.1))) _ x f4.1 in
+    let f5 = bind-ok (expression names (skip (skip f2.0.1))) _ x f4.1 in
     done x f5.2 (grammar.store (store-token (stands s) k) f1.0 (expression-sound names (skip (opens s)) f2.0 f2.1) f3.0 f4.0 (expression-sound names (skip (skip f2.0.1)) f5.0 f5.1))
 statement-sound d b hb names opening.If s x k h =
-    let f = bind_ok (b names s) _ x h in
+    let f = bind-ok (b names s) _ x h in
     done x f.2 (hb names s f.0 (if-token (stands s) k) f.1)
 
 -- a list of statements, and the names that are visible behind it
@@ -215,13 +215,13 @@ Listed d names s x = (ns : Names) × IsList d names s x.0 ns x.1
 
 another-sound : (d : ℕ) (b : Names → Reading Stmt) → BranchSound d b → (names : Names) (s : Sight) (a : List Stmt × Names) (t : Sight) (o : Opening) (x : (List Stmt × Names) × Sight) → IsList d names s a.0 a.1 t → opening_of (stands t) ≡ Some o → another b o a t ≡ Ok x → IsList d names s x.0.0 x.0.1 x.1
 another-sound d b hb names s a t o x i k h =
-    let f = bind_ok (statement (b a.1) a.1 o t) _ x h in
+    let f = bind-ok (statement (b a.1) a.1 o t) _ x h in
     let e = given {A = List Stmt × Names} (a.0 ++ f.0.0.0 ∷ [], f.0.0.1) f.0.1 x f.2 in
     rw e (grammar.more i (statement-sound d b hb a.1 o t f.0 k f.1))
 
 listed-sound : (d : ℕ) (b : Names → Reading Stmt) → BranchSound d b → (names : Names) (s : Sight) (x : List Stmt × Sight) → listed b names s ≡ Ok x → Listed d names s x
 listed-sound d b hb names s x h =
-    let f = bind_ok (many opening_of (another b) ([], names) s) _ x h in
+    let f = bind-ok (many opening_of (another b) ([], names) s) _ x h in
     let i : IsList d names s f.0.0.0 f.0.0.1 f.0.1 = many-sound (λ (a : List Stmt × Names) t. IsList d names s a.0 a.1 t) opening_of (another b) (another-sound d b hb names s) ([], names) s f.0 grammar.none f.1 in
     let e = given f.0.0.0 f.0.1 x f.2 in
     rw e (f.0.0.1, i)
@@ -230,7 +230,7 @@ listed-sound d b hb names s x h =
 braced-sound : (d : ℕ) (list : Reading (List Stmt)) (names : Names) → ((s : Sight) (x : List Stmt × Sight) → list s ≡ Ok x → Listed d names s x) → (s : Sight) (x : List Stmt × Sight) → braced list s ≡ Ok x → IsBraced d names s x.0 x.1
 braced-sound d list names hl s x h =
     let f1 = need-then mark.OpenBrace _ s x h in
-    let f2 = bind_ok (list (skip s)) _ x f1.1 in
+    let f2 = bind-ok (list (skip s)) _ x f1.1 in
     let f3 = need-then mark.CloseBrace _ f2.0.1 x f2.2 in
     let l = hl (skip s) f2.0 f2.1 in
     let e = given f2.0.0 (skip f2.0.1) x f3.1 in
@@ -238,14 +238,14 @@ braced-sound d list names hl s x h =
 
 branches-sound : (d : ℕ) (list : Reading (List Stmt)) (names : Names) → ((s : Sight) (x : List Stmt × Sight) → list s ≡ Ok x → Listed d names s x) → (s : Sight) (x : Stmt × Sight) → Sees mark.If s → branches names list (skip s) ≡ Ok x → IsStmt (suc d) names s x.0 names x.1
 branches-sound d list names hl s x k h =
-    let f1 = bind_ok (expression names (skip s)) _ x h in
-    let f2 = bind_ok (braced list f1.0.1) _ x f1.2 in
+    let f1 = bind-ok (expression names (skip s)) _ x h in
+    let f2 = bind-ok (braced list f1.0.1) _ x f1.2 in
     let i = expression-sound names (skip s) f1.0 f1.1 in
     let j = braced-sound d list names hl f1.0.1 f2.0 f2.1 in
     elim (is_mark mark.Else (stands f2.0.1)) as (λ c. is_mark mark.Else (stands f2.0.1) ≡ c → after (else_at list c f2.0.1) (λ ys. gives (If f1.0.0 f2.0.0 ys)) ≡ Ok x → IsStmt (suc d) names s x.0 names x.1) [
       | false ↦ λ e q. (let z = given (If f1.0.0 f2.0.0 []) f2.0.1 x q in rw z (grammar.when k i j))
       | true ↦ λ e q. (
-          let f3 = bind_ok (braced list (skip f2.0.1)) _ x q in
+          let f3 = bind-ok (braced list (skip f2.0.1)) _ x q in
           let z = given (If f1.0.0 f2.0.0 f3.0.0) f3.0.1 x f3.2 in
           rw z (grammar.either k i j (is_mark-true mark.Else (stands f2.0.1) e) (braced-sound d list names hl (skip f2.0.1) f3.0 f3.1)))
     ] refl f2.2
@@ -264,7 +264,7 @@ statements-sound (suc d) names s x h =
 pub block-sound : (names : Names) (s : Sight) (x : (List Stmt × List Name) × Sight) → block names s ≡ Ok x → IsBlock names s x.0.0 x.0.1 x.1
 unfolding block
 block-sound names s x h =
-    let f = bind_ok (statements most_ifs names (in_block s)) with_lets x h in
+    let f = bind-ok (statements most_ifs names (in_block s)) with_lets x h in
     let l = statements-sound most_ifs names (in_block s) f.0 f.1 in
     let e = given {A = List Stmt × List Name} (f.0.0, f.0.1.lets) f.0.1 x f.2 in
     rw e (grammar.block l.1)

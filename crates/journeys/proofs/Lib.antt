@@ -10,3 +10,6 @@ pub mod SomeJourney
 pub mod Premises
 pub mod SomeWay
 pub mod TurnSteps
+pub mod HandedLaws
+pub mod OneLaunched
+pub mod BegunJourneys

@@ -19,8 +19,8 @@ use Rattle.journeys.specs.Journeys.{IsJourneyOf, entered_at, where_ended}
 use Rattle.journeys.specs.Journeys.IsNestJourney.{not_entered, entered}
 use Rattle.journeys.specs.Laws.{OneJourney, OneNestJourney, SameJourney, SameWay, StageLeadsOneWay}
 use Rattle.journeys.proofs.Entering.{same-err, same-ok, not-both as entry-both}
-use Rattle.journeys.proofs.OneWay.{has-both, plain-leads_one_way, profile-leads_one_way}
-use Rattle.journeys.proofs.OneChunk.{chunk-leads_one_way}
+use Rattle.journeys.proofs.OneWay.{has-both, plain-leads-one-way, profile-leads-one-way}
+use Rattle.journeys.proofs.OneChunk.{chunk-leads-one-way}
 
 -- ---- a stage
 
@@ -51,16 +51,16 @@ from-one : (g : Setting) (from : Stage) (m : Moment) (lines lines' : List Line) 
 from-one g Profiles m lines lines' stage stage' after after' (inl a) (inl b) = nowhere-one m lines lines' stage stage' after after' a b
 from-one g Profiles m lines lines' stage stage' after after' (inl a) (inr b) = absurd (has-both (has_turn m.outer.left) b.0 a.none)
 from-one g Profiles m lines lines' stage stage' after after' (inr a) (inl b) = absurd (has-both (has_turn m.outer.left) a.0 b.none)
-from-one g Profiles m lines lines' stage stage' after after' (inr a) (inr b) = profile-leads_one_way g m lines lines' stage stage' after after' a.1 b.1
+from-one g Profiles m lines lines' stage stage' after after' (inr a) (inr b) = profile-leads-one-way g m lines lines' stage stage' after after' a.1 b.1
 from-one g (Chunks t number) m lines lines' stage stage' after after' (inl a) (inl b) = nowhere-one m lines lines' stage stage' after after' a b
 from-one g (Chunks t number) m lines lines' stage stage' after after' (inl a) (inr b) = absurd (has-both (has_turn m.outer.left) b.0 a.none)
 from-one g (Chunks t number) m lines lines' stage stage' after after' (inr a) (inl b) = absurd (has-both (has_turn m.outer.left) a.0 b.none)
-from-one g (Chunks t number) m lines lines' stage stage' after after' (inr a) (inr b) = chunk-leads_one_way t number g m lines lines' stage stage' after after' a.1 b.1
-from-one g (Plainly turns) m lines lines' stage stage' after after' a b = plain-leads_one_way turns g m lines lines' stage stage' after after' a b
+from-one g (Chunks t number) m lines lines' stage stage' after after' (inr a) (inr b) = chunk-leads-one-way t number g m lines lines' stage stage' after after' a.1 b.1
+from-one g (Plainly turns) m lines lines' stage stage' after after' a b = plain-leads-one-way turns g m lines lines' stage stage' after after' a b
 from-one g (Over finish) m lines lines' stage stage' after after' a b = absurd a
 
-pub stage-leads_one_way : StageLeadsOneWay
-stage-leads_one_way g from m lines lines' stage stage' after after' a b =
+pub stage-leads-one-way : StageLeadsOneWay
+stage-leads-one-way g from m lines lines' stage stage' after after' a b =
     from-one g from m lines lines' stage stage' after after' (leads-from g from m lines stage after a) (leads-from g from m lines' stage' after' b)
 
 -- ---- stages one after another, the first of them first
@@ -98,7 +98,7 @@ module _ (g : Setting) where
   path-from from stage m after lines (step by middle end first second last one rest leads more) = inr (middle, second, one, rest, leads, more, refl)
 
   -- the run has finished, and nothing follows
-  over-stays : (from next : Stage) (m there : Moment) (lines : List Line) (finish : Finish) → from ≡ Over finish → Leads g from m lines next there → ⊥
+  pub over-stays : (from next : Stage) (m there : Moment) (lines : List Line) (finish : Finish) → from ≡ Over finish → Leads g from m lines next there → ⊥
   over-stays from next m there lines finish over leads = subst (λ (x : Stage). LeadsFrom g x m lines next there) over (leads-from g from m lines next there leads)
 
   same-finish : (finish last : Finish) → Over finish ≡ Over last → finish ≡ last
@@ -114,7 +114,7 @@ module _ (g : Setting) where
   path-one from stage another m end other lines others finish last over over' (step by middle till first second by_then one rest leads more) q = elim (path-from from another m other others q) [
     | inl none ↦ absurd (over-stays from middle m second one last (none.0 ∙ over') leads)
     | inr some ↦
-        let same = stage-leads_one_way g from m one some.2 middle some.0 second some.1 leads some.4 in
+        let same = stage-leads-one-way g from m one some.2 middle some.0 second some.1 leads some.4 in
         let there : Path g middle some.1 some.3 another other = subst (λ (x : Stage). Path g x some.1 some.3 another other) (sym same.next) some.5 in
         let again : Path g middle second some.3 another other = subst (λ (x : Moment). Path g middle x some.3 another other) (sym same.there) there in
         let after = path-one middle stage another second end other rest some.3 finish last over over' more again in
@@ -123,12 +123,12 @@ module _ (g : Setting) where
 
 -- ---- a nest
 
-pub one-nest_journey : OneNestJourney
-one-nest_journey g s left used lines others end other (not_entered finish none) (not_entered last none') =
+pub one-nest-journey : OneNestJourney
+one-nest-journey g s left used lines others end other (not_entered finish none) (not_entered last none') =
     record { told = refl; ends = ap (λ (f : Finish). cut_of s (left - entry_steps g.loops) (used + min (entry_steps g.loops) left) f) (same-err (entry g.loops s left) finish last none none') }
-one-nest_journey g s left used lines others end other (not_entered finish none) (entered o told last m at r) = absurd (entry-both (entry g.loops s left) o finish at none)
-one-nest_journey g s left used lines others end other (entered o told finish m at r) (not_entered last none) = absurd (entry-both (entry g.loops s left) o last at none)
-one-nest_journey g s left used lines others end other (entered o told finish m at r) (entered o' told' last m' at' r') =
+one-nest-journey g s left used lines others end other (not_entered finish none) (entered o told last m at r) = absurd (entry-both (entry g.loops s left) o finish at none)
+one-nest-journey g s left used lines others end other (entered o told finish m at r) (not_entered last none) = absurd (entry-both (entry g.loops s left) o last at none)
+one-nest-journey g s left used lines others end other (entered o told finish m at r) (entered o' told' last m' at' r') =
     let start = entered_at g o s left used in
     let placed : o' ≡ o = same-ok (entry g.loops s left) o' o at' at in
     let again : Reaches g Profiles start told' (Over last) m' = subst (λ (x : Outer). Reaches g Profiles (entered_at g x s left used) told' (Over last) m') placed r' in
@@ -156,7 +156,7 @@ module _ (options : Options) (version : Version) (scalars : ℕ) where
       → IsJourneyOf options version scalars units number s left used lines end → IsJourneyOf options version scalars units number s left used others other → SameJourney lines others end other
   units-one [] number s left used lines others end other a b = record { told = a.0 ∙ sym b.0; ends = a.1 ∙ sym b.1 }
   units-one (unit ∷ units) number s left used lines others end other (own, rest, at, nest, follows, are) (own', rest', at', nest', follows', are') =
-      let first = one-nest_journey (setting_of options scalars unit) s left used own own' at at' nest nest' in
+      let first = one-nest-journey (setting_of options scalars unit) s left used own own' at at' nest nest' in
       let more : Follows units (suc number) at rest' other = subst (λ (x : Cut). Follows units (suc number) x rest' other) (sym first.ends) follows' in
       let after = rest-one units (suc number) at at.ending rest rest' end other (units-one units (suc number) at.store at.left at.used rest rest' end other) follows more in
       record { told = are ∙ ap₂ (λ (xs ys : List Line). heading version number ++ (xs ++ ys)) first.told after.told ∙ sym are'; ends = after.ends }

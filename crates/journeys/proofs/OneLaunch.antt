@@ -9,8 +9,8 @@ use Rattle.std.proofs.lemmas.List.FromFn.{get_or-map-range_with_len}
 use Rattle.std.proofs.lemmas.Option.{none-some}
 use Rattle.plain_lemmas.proofs.OrderLaws.{slice_cmp-exact}
 use Rattle.orders.specs.Orders.{Has, Ordered, SameElements}
-use Rattle.orders.proofs.Lists.{all_from, all_has, contains_from_has, has_from_contains, has_cases, has_left, has_split, ordered_across, ordered_right}
-use Rattle.orders.proofs.Sorts.{ordering_unique, never_both, never_itself}
+use Rattle.orders.proofs.Lists.{all-from, all_has, contains-from-has, has-from-contains, has-cases, has-left, has-split, ordered-across, ordered-right}
+use Rattle.orders.proofs.Sorts.{ordering-unique, never-both, never-itself}
 use Rattle.domain.specs.declared.chunk.Chunk.{Chunk}
 use Rattle.domain.specs.declared.held.HeldWhy.{HeldWhy}
 use Rattle.domain.specs.Tables.{Table, block_at, counters, depth}
@@ -30,10 +30,10 @@ module _ (t : Table) where
   -- ---- original order
 
   never-back : (x y : Instance) → Precedes t x y → Precedes t y x → ⊥
-  never-back x y h k = never_both (slice_cmp int_cmp) (lists_total int_cmp_total) (original_key t) x y h k
+  never-back x y h k = never-both (slice_cmp int_cmp) (lists_total int_cmp_total) (original_key t) x y h k
 
   never-same : (x : Instance) → Precedes t x x → ⊥
-  never-same x h = never_itself (slice_cmp int_cmp) (lists_total int_cmp_total) (original_key t) x h
+  never-same x h = never-itself (slice_cmp int_cmp) (lists_total int_cmp_total) (original_key t) x h
 
   later : (x y z : Instance) → Precedes t x y → Precedes t y z → Precedes t x z
   later x y z h k = (lists_total int_cmp_total).trans (original_key t x) (original_key t y) (original_key t z) h k
@@ -82,7 +82,7 @@ module _ (t : Table) where
 
   -- lists in original order with the same elements are one
   one-list : (xs ys : List Instance) → Ordered (Precedes t) xs → Ordered (Precedes t) ys → SameElements xs ys → xs ≡ ys
-  one-list xs ys o p same = ordering_unique (Precedes t) never-back xs ys o p same
+  one-list xs ys o p same = ordering-unique (Precedes t) never-back xs ys o p same
 
   -- ---- launches
 
@@ -91,8 +91,8 @@ module _ (t : Table) where
     instances-one m n a b =
         sym a.count
         ∙ ap (λ (xs : List Instance). length xs) (one-list a.list b.list (in-order (Precedes t) a.list a.original.ordered) (in-order (Precedes t) b.list b.original.ordered) (record {
-          there = λ z h. has_from_contains b.list z ((b.original.has z).1 ((a.original.has z).0 (contains_from_has a.list z h)));
-          back = λ z h. has_from_contains a.list z ((a.original.has z).1 ((b.original.has z).0 (contains_from_has b.list z h)));
+          there = λ z h. has-from-contains b.list z ((b.original.has z).1 ((a.original.has z).0 (contains-from-has a.list z h)));
+          back = λ z h. has-from-contains a.list z ((a.original.has z).1 ((b.original.has z).0 (contains-from-has b.list z h)));
         }))
         ∙ b.count
 
@@ -105,45 +105,45 @@ module _ (t : Table) where
     -- those before it in the list are those that precede it
     front-is : (x : Instance) (us vs xs : List Instance) → AreUpTo x (us ++ x ∷ vs) → IsBefore t chunk x xs → us ≡ xs
     front-is x us vs xs all those = one-list us xs (left us (x ∷ vs) all.ordered) (in-order (Precedes t) xs those.ordered) (record {
-      there = λ z h. has_from_contains xs z ((those.has z).1 (all.predicted z (has_left us (x ∷ vs) z h), ordered_across (Precedes t) us (x ∷ vs) z x all.ordered h (inl refl)));
-      back = λ z h. let is = (those.has z).0 (contains_from_has xs z h) in among z is.1 (has_cases us (x ∷ vs) z (all.before z is.0 is.1));
+      there = λ z h. has-from-contains xs z ((those.has z).1 (all.predicted z (has-left us (x ∷ vs) z h), ordered-across (Precedes t) us (x ∷ vs) z x all.ordered h (inl refl)));
+      back = λ z h. let is = (those.has z).0 (contains-from-has xs z h) in among z is.1 (has-cases us (x ∷ vs) z (all.before z is.0 is.1));
     })
       where
         left : (bs ds : List Instance) → Ordered (Precedes t) (bs ++ ds) → Ordered (Precedes t) bs
         left [] ds o = tt
-        left (b ∷ bs) ds o = (all_from (Precedes t b) bs (λ z h. all_has (Precedes t b) (bs ++ ds) z o.0 (has_left bs ds z h)), left bs ds o.1)
+        left (b ∷ bs) ds o = (all-from (Precedes t b) bs (λ z h. all_has (Precedes t b) (bs ++ ds) z o.0 (has-left bs ds z h)), left bs ds o.1)
 
         among : (z : Instance) → Precedes t z x → Has us z ⊎ Has (x ∷ vs) z → Has us z
         among z less (inl h) = h
         among z less (inr (inl e)) = absurd (never-same x (subst (λ (y : Instance). Precedes t y x) e less))
-        among z less (inr (inr h)) = absurd (never-back z x less (all_has (Precedes t x) vs z (ordered_right (Precedes t) us (x ∷ vs) all.ordered).0 h))
+        among z less (inr (inr h)) = absurd (never-back z x less (all_has (Precedes t x) vs z (ordered-right (Precedes t) us (x ∷ vs) all.ordered).0 h))
 
     -- no chunk is held at an instance of which it passed
     passed : (x : Instance) (why : HeldWhy) (all : List Instance) → AreUpTo x all → Passes t words all → Has all x → IsHeld t words chunk x why → ⊥
     passed x why all are passes has held =
-        let split = has_split all x has in
+        let split = has-split all x has in
         let same = front-is x split.0 split.1 held.before (subst (AreUpTo x) split.2 are) held.those in
         none-some why (sym (passes split.0 x split.1 split.2) ∙ ap (λ (us : List Instance). failure t words us x) same ∙ held.fails)
 
-    pub held-or_launched : (x : Instance) (why : HeldWhy) (n : ℕ) → IsHeld t words chunk x why → IsLaunched t words chunk n → ⊥
-    held-or_launched x why n held launched = passed x why launched.list are launched.passes (has_from_contains launched.list x ((launched.original.has x).1 held.predicted)) held
+    pub held-or-launched : (x : Instance) (why : HeldWhy) (n : ℕ) → IsHeld t words chunk x why → IsLaunched t words chunk n → ⊥
+    held-or-launched x why n held launched = passed x why launched.list are launched.passes (has-from-contains launched.list x ((launched.original.has x).1 held.predicted)) held
       where
         are : AreUpTo x launched.list
         are = record {
           ordered = in-order (Precedes t) launched.list launched.original.ordered;
-          predicted = λ z h. (launched.original.has z).0 (contains_from_has launched.list z h);
-          before = λ z is less. has_from_contains launched.list z ((launched.original.has z).1 is);
+          predicted = λ z h. (launched.original.has z).0 (contains-from-has launched.list z h);
+          before = λ z is less. has-from-contains launched.list z ((launched.original.has z).1 is);
         }
 
     -- no chunk is held at an instance that precedes another one at which it is
     not-earlier : (x y : Instance) (why other : HeldWhy) → IsHeld t words chunk x why → IsHeld t words chunk y other → Precedes t x y → ⊥
-    not-earlier x y why other a b less = passed x why b.before are b.passes (has_from_contains b.before x ((b.those.has x).1 (a.predicted, less))) a
+    not-earlier x y why other a b less = passed x why b.before are b.passes (has-from-contains b.before x ((b.those.has x).1 (a.predicted, less))) a
       where
         are : AreUpTo x b.before
         are = record {
           ordered = in-order (Precedes t) b.before b.those.ordered;
-          predicted = λ z h. ((b.those.has z).0 (contains_from_has b.before z h)).0;
-          before = λ z is earlier. has_from_contains b.before z ((b.those.has z).1 (is, later z x y earlier less));
+          predicted = λ z h. ((b.those.has z).0 (contains-from-has b.before z h)).0;
+          before = λ z is earlier. has-from-contains b.before z ((b.those.has z).1 (is, later z x y earlier less));
         }
 
     some-why : (x y : HeldWhy) → Some x ≡ Some y → x ≡ y
@@ -152,23 +152,23 @@ module _ (t : Table) where
     same-why : (x : Instance) (why other : HeldWhy) → IsHeld t words chunk x why → IsHeld t words chunk x other → why ≡ other
     same-why x why other a b =
         let same = one-list a.before b.before (in-order (Precedes t) a.before a.those.ordered) (in-order (Precedes t) b.before b.those.ordered) (record {
-          there = λ z h. has_from_contains b.before z ((b.those.has z).1 ((a.those.has z).0 (contains_from_has a.before z h)));
-          back = λ z h. has_from_contains a.before z ((a.those.has z).1 ((b.those.has z).0 (contains_from_has b.before z h)));
+          there = λ z h. has-from-contains b.before z ((b.those.has z).1 ((a.those.has z).0 (contains-from-has a.before z h)));
+          back = λ z h. has-from-contains a.before z ((a.those.has z).1 ((b.those.has z).0 (contains-from-has b.before z h)));
         }) in
         some-why why other (sym a.fails ∙ ap (λ (us : List Instance). failure t words us x) same ∙ b.fails)
 
     pub held-one : (x y : Instance) (why other : HeldWhy) → IsHeld t words chunk x why → IsHeld t words chunk y other → (x ≡ y) × (why ≡ other)
     held-one x y why other a b = elim (three x y a.predicted.is b.predicted.is) [
       | inl less ↦ absurd (not-earlier x y why other a b less)
-      | inr not_less ↦ elim not_less [
+      | inr not-less ↦ elim not-less [
         | inl same ↦ (same, same-why x why other a (subst (λ (z : Instance). IsHeld t words chunk z other) (sym same) b))
         | inr more ↦ absurd (not-earlier y x other why b a more)
       ]
     ]
 
-pub launch-has_one_end : LaunchHasOneEnd
-launch-has_one_end t chunk words = record {
+pub launch-has-one-end : LaunchHasOneEnd
+launch-has-one-end t chunk words = record {
   held = λ x y why other a b. held-one t words chunk x y why other a b;
   launched = λ m n a b. instances-one t words chunk m n a b;
-  not_both = λ x why n a b. held-or_launched t words chunk x why n a b;
+  not_both = λ x why n a b. held-or-launched t words chunk x why n a b;
 }

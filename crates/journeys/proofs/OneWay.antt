@@ -12,7 +12,7 @@ use Rattle.profile.specs.Fits.{IsFitOf}
 use Rattle.profile.specs.declared.unfit.Unfit.{Unfit}
 use Rattle.profile.proofs.FitLaws.{fit_or_unfit}
 use Rattle.profile.proofs.OneFitLaws.{one-fit}
-use Rattle.profile.proofs.OneUnfitLaws.{one-first_unfit}
+use Rattle.profile.proofs.OneUnfitLaws.{one-first-unfit}
 use Rattle.profiling.specs.FirstProfiles.{has_turn}
 use Rattle.legality.specs.Choices.{choice}
 use Rattle.report.specs.declared.line.Line.{Line}
@@ -29,7 +29,7 @@ use Rattle.journeys.specs.Laws.{ProfileLeadsOneWay, PlainLeadsOneWay, SameWay}
 one-whole : (turns : ℕ → Store → Trace) (s : Store) (left c i j : ℕ) → AreWhole turns s left c i → AreWhole turns s left c j → i ≡ j
 one-whole turns s left c i j a b = elim (cases_lt i j) [
   | inl less ↦ absurd (a.most j less b.within b.done)
-  | inr not_less ↦ elim (cases_lt j i) [
+  | inr not-less ↦ elim (cases_lt j i) [
     | inl more ↦ absurd (b.most i more a.within a.done)
     | inr not_more ↦ omega arith
   ]
@@ -95,7 +95,7 @@ module _ (g : Setting) (observations : List Observation) where
 
   judged-one : (lines lines' : List Line) (stage stage' : Stage) → AreJudged g observations lines stage → AreJudged g observations lines' stage' → SameStage lines lines' stage stage'
   judged-one lines lines' stage stage' (unfit u a) (unfit v b) =
-      let same = one-first_unfit (length g.loops) g.scalars g.loops observations u v a b in
+      let same = one-first-unfit (length g.loops) g.scalars g.loops observations u v a b in
       record { told = ap (λ (x : Unfit (length g.loops)). unfit_line g.loops x ∷ []) same; next = refl }
   judged-one lines lines' stage stage' (unfit u a) (none_legal t b none) = absurd (fit_or_unfit (length g.loops) g.scalars g.loops observations t u b a)
   judged-one lines lines' stage stage' (unfit u a) (chosen t number b some) = absurd (fit_or_unfit (length g.loops) g.scalars g.loops observations t u b a)
@@ -142,8 +142,8 @@ module _ (g : Setting) (m : Moment) where
       let judged = judged-one g (observed g m (profile_turns g m)) more more' next next' are are' in
       record { told = ap (λ (ls : List Line). profile_line m (profile_turns g m) ∷ ls) judged.told; next = judged.next; there = same }
 
-pub plain-leads_one_way : PlainLeadsOneWay
-plain-leads_one_way turns g m lines lines' stage stage' after after' a b = plain-one g m turns lines lines' stage stage' after after' a b
+pub plain-leads-one-way : PlainLeadsOneWay
+plain-leads-one-way turns g m lines lines' stage stage' after after' a b = plain-one g m turns lines lines' stage stage' after after' a b
 
-pub profile-leads_one_way : ProfileLeadsOneWay
-profile-leads_one_way g m lines lines' stage stage' after after' a b = profile-one g m lines lines' stage stage' after after' a b
+pub profile-leads-one-way : ProfileLeadsOneWay
+profile-leads-one-way g m lines lines' stage stage' after after' a b = profile-one g m lines lines' stage stage' after after' a b

@@ -18,10 +18,10 @@ use Rattle.nest_lang.specs.Turns.{turns_trace, turns_by, turns_later, first_posi
 use Rattle.nest_lang.specs.TurnLaws.{over_is_done, all_turns}
 use Rattle.nest_lang.specs.Runs.{nest_trace, run_of}
 use Rattle.nest_lang.proofs.Cuts.{cut-ends, cut-traced, cut-only, cut-and_then, cut-left, resumed, resumed-not}
-use Rattle.nest_lang.proofs.TurnLaws.{turns_trace-split, for_is-its_turns}
-use Rattle.nest_lang.proofs.WhileTurns.{while_is-its_turns}
+use Rattle.nest_lang.proofs.TurnLaws.{turns_trace-split, for-is-its-turns}
+use Rattle.nest_lang.proofs.WhileTurns.{while-is-its-turns}
 use Rattle.nest_lang.proofs.NeverOver.{GoesOn, loops_trace-goes}
-use Rattle.plain_interp.proofs.Several.{rest_of_run, plain_run-rest, rest_of_run-end, rest_of_run-next, rest_of_run-out}
+use Rattle.plain_interp.proofs.Several.{rest_of_run, plain_run-rest, rest-of-run-end, rest-of-run-next, rest-of-run-out}
 use Rattle.nest_grammar.specs.declared.file.NestUnit.{NestUnit}
 use Rattle.nest_grammar.specs.declared.version.Version.{Version}
 use Rattle.nest_grammar.specs.Files.{first_store, nests_of}
@@ -55,8 +55,8 @@ plain-moment g k e m (Chunks t number) s = record { turns = s.turns; finish = Do
 plain-moment g k e m (Plainly turns) s = record { turns = s.turns; finish = Done; cut = s.cut }
 plain-moment g k e m (OverStage finish) s = record { turns = s.turns; finish = s.last; cut = s.cut }
 
-pub moments-are_plain : MomentsArePlain
-moments-are_plain g k o s left used t lines stage m few next r =
+pub moments-are-plain : MomentsArePlain
+moments-are-plain g k o s left used t lines stage m few next r =
     let e = entered_at g o s left used in
     plain-moment g k e m stage (arrives g k t e next (omega (arith, few)) Profiles e lines stage m r (starts g k t e next))
 
@@ -111,8 +111,8 @@ nest-as-loops : (k : ℕ) (loops : List Loop) (s : Store) → nest_trace k loops
 unfolding nest_trace
 nest-as-loops k loops s = refl
 
-nest-never_over : (k : ℕ) (loops : List Loop) (s : Store) (left used : ℕ) → (cut (nest_trace k loops s) s left used).ending ≡ Halted Over → ⊥
-nest-never_over k loops s left used = never-over (nest_trace k loops s) s left used (subst (λ (t : Trace). GoesOn t.halt) (sym (nest-as-loops k loops s)) (loops_trace-goes plain k 1 loops outside s))
+nest-never-over : (k : ℕ) (loops : List Loop) (s : Store) (left used : ℕ) → (cut (nest_trace k loops s) s left used).ending ≡ Halted Over → ⊥
+nest-never-over k loops s left used = never-over (nest_trace k loops s) s left used (subst (λ (t : Trace). GoesOn t.halt) (sym (nest-as-loops k loops s)) (loops_trace-goes plain k 1 loops outside s))
 
 -- where a run's end was found, and how it finishes
 abbrev end_at : Moment → Finish → Cut
@@ -125,7 +125,7 @@ module _ (g : Setting) (k : ℕ) (l : Loop) (ls : List Loop) (s : Store) (left u
     for-base =
         ap (λ (t : Trace). cut t s left used) (nest-as-loops k g.loops s)
         ∙ ap (λ (ms : List Loop). cut (loops_trace plain k 1 ms outside s) s left used) loops
-        ∙ ap (λ (t : Trace). cut t s left used) (for_is-its_turns plain k l ls lower upper stride s head)
+        ∙ ap (λ (t : Trace). cut t s left used) (for-is-its-turns plain k l ls lower upper stride s head)
 
     for-entry : entry g.loops s left ≡ entry_at (For lower upper stride) s left
     for-entry = ap (λ (ms : List Loop). entry ms s left) loops ∙ entry-cons l ls s left ∙ ap (λ (h : Head). entry_at h s left) head
@@ -167,7 +167,7 @@ module _ (g : Setting) (k : ℕ) (l : Loop) (ls : List Loop) (s : Store) (left u
         ∙ ap (λ (n : ℕ). cut (turns_trace plain k g.loops o n s) s (left - 1) (used + min 1 left)) (ap all_turns b.2)
         ∙ ap (λ (n : ℕ). cut (turns_trace plain k g.loops o b.1 s) s (left - n) (used + min n left)) (sym for-steps)
         ∙ sym all in
-        let last : x.last ≡ finish = sym (over-done-same x.last (λ is. nest-never_over k g.loops s left used (ap (λ (run : Cut). run.ending) whole ∙ is))) ∙ x.is in
+        let last : x.last ≡ finish = sym (over-done-same x.last (λ is. nest-never-over k g.loops s left used (ap (λ (run : Cut). run.ending) whole ∙ is))) ∙ x.is in
         ap (end_at end) (sym last) ∙ sym whole
 
   -- it is a `while`
@@ -204,21 +204,21 @@ module _ (g : Setting) (k : ℕ) (l : Loop) (ls : List Loop) (s : Store) (left u
         ∙ ap (λ (ms : List Loop). cut (turns_trace plain k ms (first_position (Tested true)) turns s) s left used) loops in
         ap (end_at end) (sym x.is)
         ∙ ap (λ (c : Cut). record c { ending = over_is_done c.ending }) run
-        ∙ sym (while_is-its_turns plain k l ls condition turns s left used head few many).0
+        ∙ sym (while-is-its-turns plain k l ls condition turns s left used head few many).0
         ∙ ap (λ (ms : List Loop). cut (loops_trace plain k 1 ms outside s) s left used) (sym loops)
         ∙ ap (λ (t : Trace). cut t s left used) (sym (nest-as-loops k g.loops s))
 
-nest-by_head : (g : Setting) (k : ℕ) (l : Loop) (ls : List Loop) (s : Store) (left used : ℕ) (lines : List Line) (end : Cut) → left < k → g.loops ≡ l ∷ ls → (h : Head) → l.head ≡ h
+nest-by-head : (g : Setting) (k : ℕ) (l : Loop) (ls : List Loop) (s : Store) (left used : ℕ) (lines : List Line) (end : Cut) → left < k → g.loops ≡ l ∷ ls → (h : Head) → l.head ≡ h
     → IsNestJourney g s left used lines end → end ≡ cut (nest_trace k g.loops s) s left used
-nest-by_head g k l ls s left used lines end few loops (For lower upper stride) head (not_entered finish none) = for-not_entered g k l ls s left used few loops lower upper stride head finish none
-nest-by_head g k l ls s left used lines end few loops (For lower upper stride) head (entered o told finish m at r) = for-entered g k l ls s left used few loops lower upper stride head o told finish m at r
-nest-by_head g k l ls s left used lines end few loops (While condition) head (not_entered finish none) = absurd (while-not_entered g k l ls s left used few loops condition head finish none)
-nest-by_head g k l ls s left used lines end few loops (While condition) head (entered o told finish m at r) = while-entered g k l ls s left used few loops condition head o told finish m at r
+nest-by-head g k l ls s left used lines end few loops (For lower upper stride) head (not_entered finish none) = for-not_entered g k l ls s left used few loops lower upper stride head finish none
+nest-by-head g k l ls s left used lines end few loops (For lower upper stride) head (entered o told finish m at r) = for-entered g k l ls s left used few loops lower upper stride head o told finish m at r
+nest-by-head g k l ls s left used lines end few loops (While condition) head (not_entered finish none) = absurd (while-not_entered g k l ls s left used few loops condition head finish none)
+nest-by-head g k l ls s left used lines end few loops (While condition) head (entered o told finish m at r) = while-entered g k l ls s left used few loops condition head o told finish m at r
 
-nest-by_loops : (g : Setting) (k : ℕ) (s : Store) (left used : ℕ) (lines : List Line) (end : Cut) → left < k → (loops : List Loop) → g.loops ≡ loops → IsNestJourney g s left used lines end
+nest-by-loops : (g : Setting) (k : ℕ) (s : Store) (left used : ℕ) (lines : List Line) (end : Cut) → left < k → (loops : List Loop) → g.loops ≡ loops → IsNestJourney g s left used lines end
     → end ≡ cut (nest_trace k g.loops s) s left used
-nest-by_loops g k s left used lines end few (l ∷ ls) is j = nest-by_head g k l ls s left used lines end few is l.head refl j
-nest-by_loops g k s left used lines end few [] is (not_entered finish none) =
+nest-by-loops g k s left used lines end few (l ∷ ls) is j = nest-by-head g k l ls s left used lines end few is l.head refl j
+nest-by-loops g k s left used lines end few [] is (not_entered finish none) =
     let done : Done ≡ finish = same-err (entry g.loops s left) Done finish (ap (λ (ms : List Loop). entry ms s left) is ∙ entry-none s left) none in
     let left-same : left - 0 ≡ left = omega arith in
     let used-same : used + min 0 left ≡ used = omega arith in
@@ -229,11 +229,11 @@ nest-by_loops g k s left used lines end few [] is (not_entered finish none) =
     ∙ sym (cut-ends s left used)
     ∙ ap (λ (ms : List Loop). cut (loops_trace plain k 1 ms outside s) s left used) (sym is)
     ∙ ap (λ (t : Trace). cut t s left used) (sym (nest-as-loops k g.loops s))
-nest-by_loops g k s left used lines end few [] is (entered o told finish m at r) =
+nest-by-loops g k s left used lines end few [] is (entered o told finish m at r) =
     absurd (not-both (entry g.loops s left) o Done at (ap (λ (ms : List Loop). entry ms s left) is ∙ entry-none s left))
 
-pub nest_run-is_plain : NestRunIsPlain
-nest_run-is_plain g k s left used lines end few j = nest-by_loops g k s left used lines end few g.loops refl j
+pub nest_run-is-plain : NestRunIsPlain
+nest_run-is-plain g k s left used lines end few j = nest-by-loops g k s left used lines end few g.loops refl j
 
 -- ---- the run of a file
 
@@ -253,24 +253,24 @@ module _ (options : Options) (version : Version) (scalars k : ℕ) where
       less = let same = ap (λ (run : Cut). run.left) ran in let most = cut-left (nest_trace k unit.nest.loops s) s left used in omega (arith, same, most)
 
       out : (f : Finish) → here.ending ≡ f → (f ≡ Done → ⊥) → end ≡ here → end ≡ rest_of_run k (unit.nest ∷ nests-of units) s left used
-      out f at other stays = stays ∙ rest_of_run-out k unit.nest (nests-of units) s here.store left used here.left here.used here.ending (λ done. other (sym at ∙ done)) ran
+      out f at other stays = stays ∙ rest-of-run-out k unit.nest (nests-of units) s here.store left used here.left here.used here.ending (λ done. other (sym at ∙ done)) ran
 
       by-ending : (f : Finish) → here.ending ≡ f
           → where_ended f (IsJourneyOf options version scalars units (suc number) here.store here.left here.used rest end) ((rest ≡ []) × (end ≡ here))
           → end ≡ rest_of_run k (unit.nest ∷ nests-of units) s left used
-      by-ending Done at follows = more less follows ∙ rest_of_run-next k unit.nest (nests-of units) s here.store left used here.left here.used (ap (cut_of here.store here.left here.used) (sym at) ∙ ran)
+      by-ending Done at follows = more less follows ∙ rest-of-run-next k unit.nest (nests-of units) s here.store left used here.left here.used (ap (cut_of here.store here.left here.used) (sym at) ∙ ran)
       by-ending (Halted halt) at stays = out (Halted halt) at (λ done. cc) stays.1
       by-ending Limited at stays = out Limited at (λ done. cc) stays.1
 
   file-run : (units : List NestUnit) (number : ℕ) (s : Store) (left used : ℕ) (lines : List Line) (end : Cut) → left < k
       → IsJourneyOf options version scalars units number s left used lines end → end ≡ rest_of_run k (nests-of units) s left used
   unfolding rest_of_run
-  file-run [] number s left used lines end few is = is.1 ∙ rest_of_run-end k s left used
+  file-run [] number s left used lines end few is = is.1 ∙ rest-of-run-end k s left used
   file-run (unit ∷ units) number s left used lines end few is =
-      then-run unit units number s left used end is.1 is.2 few (nest_run-is_plain (setting_of options scalars unit) k s left used is.0 is.2 few is.3)
+      then-run unit units number s left used end is.1 is.2 few (nest_run-is-plain (setting_of options scalars unit) k s left used is.0 is.2 few is.3)
       (λ less follows. file-run units (suc number) is.2.store is.2.left is.2.used is.1 end (omega (arith, few, less)) follows) is.4
 
-pub run-is_plain : RunIsPlain
-run-is_plain options file lines end is =
+pub run-is-plain : RunIsPlain
+run-is-plain options file lines end is =
     ap run_of (file-run options file.version (length file.scalars) (options.steps + 1) file.units 1 (first_store file) options.steps 0 lines end (omega arith) is)
     ∙ plain_run-rest (nests_of file) (first_store file) options.steps

@@ -17,7 +17,7 @@ use Rattle.nest_grammar.specs.Files.{first_memory}
 use Rattle.profile.specs.Reach.{HasI64s, block_numbers, expression_numbers, head_numbers, statement_numbers}
 use Rattle.profile.proofs.NumberLaws.{I64, pos-fits}
 use Rattle.follow_chunk.specs.Laws.{one_row}
-use Rattle.follow_chunk.proofs.Premises.{premises-can_hold}
+use Rattle.follow_chunk.proofs.Premises.{premises-can-hold}
 use Rattle.journeys.specs.Examples.{PremisesCanHold}
 
 number-numbers : (n : ℤ) → expression_numbers (Number n) ≡ n ∷ []
@@ -53,9 +53,9 @@ row-numbers = All-cons HasI64s _ [] (record {
   post = subst (All I64) (sym post-is) (All-nil I64);
 }) (All-nil HasI64s)
 
-pub premises-can_meet : PremisesCanHold
+pub premises-can-meet : PremisesCanHold
 unfolding first_memory
-premises-can_meet = record {
+premises-can-meet = record {
   keeps = record {
     few_scalars = omega arith;
     spelled = All-nil _;
@@ -63,7 +63,7 @@ premises-can_meet = record {
     items_fit = All-nil _;
     some_nest = omega arith;
     few_nests = omega arith;
-    nests_keep = All-cons (λ (u : NestUnit). NestKeeps 0 u.nest.loops) _ [] premises-can_hold.keeps (All-nil _);
+    nests_keep = All-cons (λ (u : NestUnit). NestKeeps 0 u.nest.loops) _ [] premises-can-hold.keeps (All-nil _);
   };
   numbers = All-cons (λ (u : NestUnit). All HasI64s u.nest.loops) _ [] row-numbers (All-nil _);
   store = record { memory = All-replicate I64 40 (pos 0) (small 0 (omega arith)); scalars = All-nil I64; locals = All-nil I64 };

@@ -20,6 +20,7 @@ use Rattle.nest_lang.specs.Traces.{Cut, Done, Finish, Halt, Halted, Limited, Occ
 use Rattle.nest_lang.specs.Turns.{IsPosition, IsPositionIn, entry_steps, first_position, turns_later}
 use Rattle.nest_lang.specs.TurnLaws.{over_is_done}
 use Rattle.nest_lang.proofs.Cuts.{cut-left}
+use Rattle.nest_grammar.specs.declared.file.File.{File}
 use Rattle.nest_grammar.specs.declared.file.NestUnit.{NestUnit}
 use Rattle.nest_grammar.specs.declared.version.Version.{Version}
 use Rattle.nest_grammar.specs.Files.{first_store}
@@ -28,7 +29,7 @@ use Rattle.plain_interp.proofs.OuterTurns.{position-later}
 use Rattle.transform.specs.Schedules.{Schedule}
 use Rattle.domain.specs.Tables.{IsTable, Table}
 use Rattle.profile.specs.Reach.{HasI64s, IsOfI64s, head_numbers}
-use Rattle.profile.proofs.BoundsLaws.{fits-are_tables}
+use Rattle.profile.proofs.BoundsLaws.{fits-are-tables}
 use Rattle.profile.proofs.NumberLaws.{I64}
 use Rattle.profile.proofs.ReachLaws.{Each, YieldFine, all-each, head-fine}
 use Rattle.profiling.specs.FirstProfiles.{has_turn}
@@ -46,26 +47,26 @@ use Rattle.journeys.specs.Stages.Leads.{no_profile, no_chunk, profile, chunk, pl
 use Rattle.journeys.specs.Stages.Reaches.{begun, then}
 use Rattle.journeys.specs.Journeys.{IsJourneyOf, IsNestJourney, entered_at, where_ended}
 use Rattle.journeys.specs.Journeys.IsNestJourney.{not_entered, entered}
-use Rattle.journeys.specs.Laws.{SomeJourney}
+use Rattle.journeys.specs.Laws.{IsRunnable, SomeJourney}
 use Rattle.journeys.proofs.Entering.{entry-goes, same-ok, yields-bounds}
 use Rattle.journeys.proofs.SomeWay.{some-chunk, some-plain, some-profile}
 use Rattle.journeys.proofs.TurnSteps.{steps-taken, store-left}
 
 -- a nest that keeps the rules, whose numbers are i64s, with profiles and chunks of at least one turn
-record IsReady (g : Setting) : Type 0 where
-  keeps : NestKeeps g.scalars g.loops
-  few : g.scalars ≤ 16
-  numbers : All HasI64s g.loops
-  sample : 1 ≤ g.sample
-  chunk : 1 ≤ g.chunk
+pub record IsReady (g : Setting) : Type 0 where
+  pub keeps : NestKeeps g.scalars g.loops
+  pub few : g.scalars ≤ 16
+  pub numbers : All HasI64s g.loops
+  pub sample : 1 ≤ g.sample
+  pub chunk : 1 ≤ g.chunk
 
 -- a moment of a run whose numbers are i64s
-record IsSteady (g : Setting) (m : Moment) : Type 0 where
-  position : IsPositionIn g.loops m.outer
-  number : ℕ
-  next : m.outer.next ≡ pos number
-  few : number + m.left ≤ 2 ^ 33
-  store : IsOfI64s m.store
+pub record IsSteady (g : Setting) (m : Moment) : Type 0 where
+  pub position : IsPositionIn g.loops m.outer
+  pub number : ℕ
+  pub next : m.outer.next ≡ pos number
+  pub few : number + m.left ≤ 2 ^ 33
+  pub store : IsOfI64s m.store
 
 position-in : (loops : List Loop) (o : Outer) (c : ℕ) → IsPositionIn loops o → IsPositionIn loops (turns_later o c)
 position-in [] o c at = absurd at
@@ -142,23 +143,23 @@ module _ (g : Setting) (ready : IsReady g) where
   -- ---- stages
 
   -- what holds where a stage begins
-  abbrev Begins : Stage → Moment → Type 0
+  abbrev pub Begins : Stage → Moment → Type 0
   Begins Profiles m = IsSteady g m
   Begins (Chunks t number) m = IsSteady g m × IsTable (length g.loops) t × ((s : Schedule) × (slice_get g.candidates (number - 1) ≡ Some s))
   Begins (Plainly turns) m = IsSteady g m × (1 ≤ turns) × (has_turn m.outer.left ≡ true)
   Begins (Over finish) m = finish ≡ Done → IsOfI64s m.store
 
   -- how many stages may follow
-  abbrev cost : Stage → ℕ → ℕ
+  abbrev pub cost : Stage → ℕ → ℕ
   cost Profiles left = left + left + 1
   cost (Chunks t number) left = left + left + 2
   cost (Plainly turns) left = left + left + 1
   cost (Over finish) left = 0
 
-  record GoesOn (m : Moment) (stage : Stage) (after : Moment) (most : ℕ) : Type 0 where
-    begins : Begins stage after
-    less : after.left ≤ m.left
-    cheaper : cost stage after.left < most
+  pub record GoesOn (m : Moment) (stage : Stage) (after : Moment) (most : ℕ) : Type 0 where
+    pub begins : Begins stage after
+    pub less : after.left ≤ m.left
+    pub cheaper : cost stage after.left < most
 
   module _ (m : Moment) (steady : IsSteady g m) (on : has_turn m.outer.left ≡ true) where
     judged-on : (after : Moment) (lines : List Line) (stage : Stage) → IsSteady g after → has_turn after.outer.left ≡ true → after.left < m.left → AreJudged g (observed g m (profile_turns g m)) lines stage → GoesOn m stage after (m.left + m.left + 1)
@@ -167,14 +168,14 @@ module _ (g : Setting) (ready : IsReady g) where
     judged-on after lines stage next more less (chosen t number fits some) = record {
       begins = (
         next,
-        fits-are_tables g.scalars (m.left + 1) (profile_turns g m) m.left steady.number g.loops m.outer m.store t (omega arith) ready.few ready.keeps ready.numbers steady.store steady.position steady.next steady.few fits,
+        fits-are-tables g.scalars (m.left + 1) (profile_turns g m) m.left steady.number g.loops m.outer m.store t (omega arith) ready.few ready.keeps ready.numbers steady.store steady.position steady.next steady.few fits,
         candidate t (pos g.chunk) g.candidates number some,
       );
       less = omega (arith, less);
       cheaper = omega (arith, less);
     }
 
-    profile-on : (lines : List Line) (stage : Stage) (after : Moment) → ProfileLeads g m lines stage after → GoesOn m stage after (m.left + m.left + 1)
+    pub profile-on : (lines : List Line) (stage : Stage) (after : Moment) → ProfileLeads g m lines stage after → GoesOn m stage after (m.left + m.left + 1)
     profile-on lines stage after (profile_stopped done finish there r other) = record {
       begins = λ over. ran-store m steady (profile_turns g m) done finish there r (not-limited finish over);
       less = ran-left m steady (profile_turns g m) done finish there r;
@@ -190,7 +191,7 @@ module _ (g : Setting) (ready : IsReady g) where
         let some = within-some m.outer.left g.sample on ready.sample in
         judged-on there more next (steady-after m steady (profile_turns g m) there r) further (omega (arith, taken, some)) are
 
-    plain-on : (turns : ℕ) → 1 ≤ turns → (lines : List Line) (stage : Stage) (after : Moment) → PlainLeads turns g m lines stage after → GoesOn m stage after (m.left + m.left + 1)
+    pub plain-on : (turns : ℕ) → 1 ≤ turns → (lines : List Line) (stage : Stage) (after : Moment) → PlainLeads turns g m lines stage after → GoesOn m stage after (m.left + m.left + 1)
     plain-on turns some lines stage after (plain_stopped done finish there r other) = record {
       begins = λ over. ran-store m steady (turns_within m.outer.left turns) done finish there r (not-limited finish over);
       less = ran-left m steady (turns_within m.outer.left turns) done finish there r;
@@ -201,9 +202,9 @@ module _ (g : Setting) (ready : IsReady g) where
         let one = within-some m.outer.left turns on some in
         record { begins = steady-after m steady (turns_within m.outer.left turns) there r; less = omega (arith, taken); cheaper = omega (arith, taken, one) }
 
-    chunk-on : (t : Table) (number : ℕ) → IsTable (length g.loops) t → ((s : Schedule) × (slice_get g.candidates (number - 1) ≡ Some s)) → (lines : List Line) (stage : Stage) (after : Moment) → ChunkLeads t number g m lines stage after → GoesOn m stage after (m.left + m.left + 2)
+    pub chunk-on : (t : Table) (number : ℕ) → IsTable (length g.loops) t → ((s : Schedule) × (slice_get g.candidates (number - 1) ≡ Some s)) → (lines : List Line) (stage : Stage) (after : Moment) → ChunkLeads t number g m lines stage after → GoesOn m stage after (m.left + m.left + 2)
     chunk-on t number is s lines stage after (held at why stays) = record { begins = (steady, within-some m.outer.left g.chunk on ready.chunk, on); less = omega arith; cheaper = omega arith }
-    chunk-on t number is s lines stage after (rolled_back instances at how launched deviates) = record { begins = (steady, within-some m.outer.left g.chunk on ready.chunk, on); less = omega arith; cheaper = omega arith }
+    chunk-on t number is s lines stage after (rolled_back schedule instances at how which launched deviates) = record { begins = (steady, within-some m.outer.left g.chunk on ready.chunk, on); less = omega arith; cheaper = omega arith }
     chunk-on t number is s lines stage after (committed schedule instances phases tiles there which numbers follows r) =
         let taken = ran-taken m steady (chunk_turns g m) (chunk_turns g m) there r in
         let one = within-some m.outer.left g.chunk on ready.chunk in
@@ -240,16 +241,16 @@ module _ (g : Setting) (ready : IsReady g) where
 
   -- ---- to the end of a nest
 
-  record SomeEnd (start : Moment) : Type 0 where
-    lines : List Line
-    finish : Finish
-    end : Moment
-    reaches : Reaches g Profiles start lines (Over finish) end
-    fits : finish ≡ Done → IsOfI64s end.store
-    less : end.left ≤ start.left
+  pub record SomeEnd (from : Stage) (start : Moment) : Type 0 where
+    pub lines : List Line
+    pub finish : Finish
+    pub end : Moment
+    pub reaches : Reaches g from start lines (Over finish) end
+    pub fits : finish ≡ Done → IsOfI64s end.store
+    pub less : end.left ≤ start.left
 
-  module _ (start : Moment) where
-    to-end : (n : ℕ) (stage : Stage) (m : Moment) (lines : List Line) → Reaches g Profiles start lines stage m → Begins stage m → m.left ≤ start.left → cost stage m.left ≤ n → SomeEnd start
+  module _ (from : Stage) (start : Moment) where
+    pub to-end : (n : ℕ) (stage : Stage) (m : Moment) (lines : List Line) → Reaches g from start lines stage m → Begins stage m → m.left ≤ start.left → cost stage m.left ≤ n → SomeEnd from start
     to-end n (Over finish) m lines r begins less cheap = record { lines = lines; finish = finish; end = m; reaches = r; fits = begins; less = less }
     to-end zero Profiles m lines r begins less cheap = absurd (omega (arith, cheap))
     to-end zero (Chunks t number) m lines r begins less cheap = absurd (omega (arith, cheap))
@@ -272,9 +273,9 @@ module _ (g : Setting) (ready : IsReady g) where
 
   -- ---- the outermost loop is entered
 
-  record IsFirst (o : Outer) : Type 0 where
-    position : IsPositionIn g.loops o
-    next : o.next ≡ pos 0
+  pub record IsFirst (o : Outer) : Type 0 where
+    pub position : IsPositionIn g.loops o
+    pub next : o.next ≡ pos 0
 
   first-by : (h : Head) (l : Loop) (s : Store) (left : ℕ) (o : Outer) → l.head ≡ h → All I64 (head_numbers h) → strides h ≡ true → IsOfI64s s → entry_at h s left ≡ Ok o → IsPosition h o × (o.next ≡ pos 0)
   first-by (While condition) l s left o is numbers turns fits e =
@@ -289,7 +290,7 @@ module _ (g : Setting) (ready : IsReady g) where
       let values = subst (λ (r : Result Yield Halt). YieldFine 0 none-small (l ∷ []) outermost [] tt (All-nil I64) (For lower upper stride) r) value fine.1 in
       (subst (IsPosition (For lower upper stride)) at (0, b.1, refl, refl, λ i less. let none : 0 + i ≡ i = omega arith in rw none (values i less)), ap (λ (x : Outer). x.next) (sym at))
 
-  first-in : (s : Store) (left : ℕ) (o : Outer) → IsOfI64s s → entry g.loops s left ≡ Ok o → IsFirst o
+  pub first-in : (s : Store) (left : ℕ) (o : Outer) → IsOfI64s s → entry g.loops s left ≡ Ok o → IsFirst o
   unfolding entry loops_keep
   first-in s left o fits e = by g.loops refl
     where
@@ -304,14 +305,14 @@ module _ (g : Setting) (ready : IsReady g) where
 
   -- ---- a nest
 
-  record SomeNest (s : Store) (left used : ℕ) : Type 0 where
-    lines : List Line
-    end : Cut
-    is : IsNestJourney g s left used lines end
-    fits : end.ending ≡ Done → IsOfI64s end.store
-    less : end.left ≤ left
+  pub record SomeNest (s : Store) (left used : ℕ) : Type 0 where
+    pub lines : List Line
+    pub end : Cut
+    pub is : IsNestJourney g s left used lines end
+    pub fits : end.ending ≡ Done → IsOfI64s end.store
+    pub less : end.left ≤ left
 
-  some-nest : (s : Store) (left used : ℕ) → IsOfI64s s → left ≤ 2 ^ 32 → SomeNest s left used
+  pub some-nest : (s : Store) (left used : ℕ) → IsOfI64s s → left ≤ 2 ^ 32 → SomeNest s left used
   some-nest s left used fits few = by (entry g.loops s left) refl
     where
       by : (r : Result Outer Finish) → entry g.loops s left ≡ r → SomeNest s left used
@@ -319,7 +320,7 @@ module _ (g : Setting) (ready : IsReady g) where
       by (Ok o) e =
           let first = first-in s left o fits e in
           let start : Moment = entered_at g o s left used in
-          let x = to-end start (cost Profiles (left - entry_steps g.loops)) Profiles start [] begun (record { position = first.position; number = 0; next = first.next; few = omega (arith, few); store = fits }) (omega arith) (omega arith) in
+          let x = to-end Profiles start (cost Profiles (left - entry_steps g.loops)) Profiles start [] begun (record { position = first.position; number = 0; next = first.next; few = omega (arith, few); store = fits }) (omega arith) (omega arith) in
           let fewer = x.less in
           record { lines = x.lines; end = cut_of x.end.store x.end.left x.end.used x.finish; is = entered o x.lines x.finish x.end e x.reaches; fits = x.fits; less = omega (arith, fewer) }
 
@@ -332,24 +333,24 @@ module _ (options : Options) (version : Version) (scalars : ℕ) where
   abbrev Follows : List NestUnit → ℕ → Cut → List Line → Cut → Finish → Type 0
   Follows units number at lines end f = where_ended f (Journey units number at lines end) ((lines ≡ []) × (end ≡ at))
 
-  record SomeRest (units : List NestUnit) (number : ℕ) (at : Cut) : Type 0 where
-    lines : List Line
-    end : Cut
-    is : Follows units number at lines end at.ending
+  pub record SomeRest (units : List NestUnit) (number : ℕ) (at : Cut) : Type 0 where
+    pub lines : List Line
+    pub end : Cut
+    pub is : Follows units number at lines end at.ending
 
-  record SomeUnits (units : List NestUnit) (number : ℕ) (s : Store) (left used : ℕ) : Type 0 where
-    lines : List Line
-    end : Cut
-    is : IsJourneyOf options version scalars units number s left used lines end
+  pub record SomeUnits (units : List NestUnit) (number : ℕ) (s : Store) (left used : ℕ) : Type 0 where
+    pub lines : List Line
+    pub end : Cut
+    pub is : IsJourneyOf options version scalars units number s left used lines end
 
-  rest-by : (units : List NestUnit) (number : ℕ) (at : Cut) (f : Finish) → at.ending ≡ f → (at.ending ≡ Done → SomeUnits units number at.store at.left at.used) → SomeRest units number at
+  pub rest-by : (units : List NestUnit) (number : ℕ) (at : Cut) (f : Finish) → at.ending ≡ f → (at.ending ≡ Done → SomeUnits units number at.store at.left at.used) → SomeRest units number at
   rest-by units number at Done e more =
       let x = more e in
       record { lines = x.lines; end = x.end; is = subst (Follows units number at x.lines x.end) (sym e) x.is }
   rest-by units number at (Halted halt) e more = record { lines = []; end = at; is = subst (Follows units number at [] at) (sym e) (refl, refl) }
   rest-by units number at Limited e more = record { lines = []; end = at; is = subst (Follows units number at [] at) (sym e) (refl, refl) }
 
-  some-units : (units : List NestUnit) → Each (λ (u : NestUnit). IsReady (setting_of options scalars u)) units → (number : ℕ) (s : Store) (left used : ℕ) → IsOfI64s s → left ≤ 2 ^ 32 → SomeUnits units number s left used
+  pub some-units : (units : List NestUnit) → Each (λ (u : NestUnit). IsReady (setting_of options scalars u)) units → (number : ℕ) (s : Store) (left used : ℕ) → IsOfI64s s → left ≤ 2 ^ 32 → SomeUnits units number s left used
   some-units [] ready number s left used fits few = record { lines = []; end = cut_of s left used Done; is = (refl, refl) }
   some-units (unit ∷ units) ready number s left used fits few =
       let nest = some-nest (setting_of options scalars unit) ready.0 s left used fits few in
@@ -366,10 +367,13 @@ both-each P Q R (x ∷ xs) both h k = (both x h.0 k.0, both-each P Q R xs both h
 some-abs : (z : ℤ) → pos 1 ≤ℤ z → 1 ≤ unsigned_abs z
 some-abs z h = omega (arith, ints, h)
 
+pub nests-ready : (options : Options) (file : File) → IsRunnable options file → Each (λ (u : NestUnit). IsReady (setting_of options (length file.scalars) u)) file.units
+nests-ready options file runs =
+    both-each (λ (u : NestUnit). NestKeeps (length file.scalars) u.nest.loops) (λ (u : NestUnit). All HasI64s u.nest.loops) (λ (u : NestUnit). IsReady (setting_of options (length file.scalars) u)) file.units
+    (λ u keeps numbers. record { keeps = keeps; few = runs.keeps.few_scalars; numbers = numbers; sample = some-abs options.sample runs.sample; chunk = some-abs options.chunk runs.chunk })
+    (all-each (λ (u : NestUnit). NestKeeps (length file.scalars) u.nest.loops) file.units runs.keeps.nests_keep) (all-each (λ (u : NestUnit). All HasI64s u.nest.loops) file.units runs.numbers)
+
 pub some-journey : SomeJourney
 some-journey options file runs =
-    let ready = both-each (λ (u : NestUnit). NestKeeps (length file.scalars) u.nest.loops) (λ (u : NestUnit). All HasI64s u.nest.loops) (λ (u : NestUnit). IsReady (setting_of options (length file.scalars) u)) file.units
-    (λ u keeps numbers. record { keeps = keeps; few = runs.keeps.few_scalars; numbers = numbers; sample = some-abs options.sample runs.sample; chunk = some-abs options.chunk runs.chunk })
-    (all-each (λ (u : NestUnit). NestKeeps (length file.scalars) u.nest.loops) file.units runs.keeps.nests_keep) (all-each (λ (u : NestUnit). All HasI64s u.nest.loops) file.units runs.numbers) in
-    let x = some-units options file.version (length file.scalars) file.units ready 1 (first_store file) options.steps 0 runs.store runs.steps in
+    let x = some-units options file.version (length file.scalars) file.units (nests-ready options file runs) 1 (first_store file) options.steps 0 runs.store runs.steps in
     (x.lines, x.end, x.is)

@@ -6,9 +6,9 @@ use Rattle.std.specs.Cmp.Lexicographic.{slice_cmp}
 use Rattle.std.proofs.lemmas.Cmp.{lists_total, int_cmp_total, on_total, then_total, tied_itself}
 use Rattle.std.proofs.lemmas.Int.{ints}
 use Rattle.std.proofs.lemmas.Option.{none-some}
-use Rattle.plain_lemmas.proofs.OrderLaws.{cases_int_cmp, slice_cmp-exact}
+use Rattle.plain_lemmas.proofs.OrderLaws.{cases-int-cmp, slice_cmp-exact}
 use Rattle.orders.specs.Orders.{Differ, Has, Ordered}
-use Rattle.orders.proofs.Lists.{all_from, all_has, contains_from_has, has_from_contains, ordered_weaker}
+use Rattle.orders.proofs.Lists.{all-from, all_has, contains-from-has, has-from-contains, ordered-weaker}
 use Rattle.domain.specs.declared.chunk.Chunk.{Chunk}
 use Rattle.domain.specs.declared.held.HeldWhy.{HeldWhy}
 use Rattle.domain.specs.declared.held.HeldWhy.TheVariants.{Many}
@@ -31,7 +31,7 @@ module _ (D : ℕ) (t : Table) (is : IsTable D t) (chunk : Chunk) (words : ℤ) 
 
   -- a step of the walk of a launch
   walk-step : (x : Instance) (instances width : ℕ) (w : Walk D t words chunk x instances width) → (Predicted t chunk x → failure t words w.before x ≡ None → HasEnd) → HasEnd
-  walk-step x instances width w goes = cases_int_cmp (counter x.at 0) (chunk.first +ℤ chunk.turns) (λ h. inside (walk-in D t is chunk words x instances width w h)) (λ e. past (omega (arith, ints, e))) (λ h. past (omega (arith, ints, h)))
+  walk-step x instances width w goes = cases-int-cmp (counter x.at 0) (chunk.first +ℤ chunk.turns) (λ h. inside (walk-in D t is chunk words x instances width w h)) (λ e. past (omega (arith, ints, e))) (λ h. past (omega (arith, ints, h)))
     where
       past : (chunk.first +ℤ chunk.turns) ≤ℤ counter x.at 0 → HasEnd
       past h = inl (instances, walk-ends D t is chunk words x instances width w h)
@@ -70,7 +70,7 @@ module _ {X : Type 0} (cmp : X → X → Ordering) (total : IsTotalOrder cmp) (e
       by : (r : Ordering) → cmp x y ≡ r → Inserted x ys → Inserted x (y ∷ ys)
       by Less e rest = record {
         list = x ∷ y ∷ ys;
-        ordered = ((e, all_from (Below x) ys (λ z h. total.trans x y z e (all_has (Below y) ys z ord.0 h))), ord);
+        ordered = ((e, all-from (Below x) ys (λ z h. total.trans x y z e (all_has (Below y) ys z ord.0 h))), ord);
         there = λ z h. h;
         back = λ z h. h;
       }
@@ -83,7 +83,7 @@ module _ {X : Type 0} (cmp : X → X → Ordering) (total : IsTotalOrder cmp) (e
           let above : cmp y x ≡ Less = total.antisymm y x ∙ ap ordering_reverse e in
           record {
             list = y ∷ rest.list;
-            ordered = (all_from (Below y) rest.list (λ z h. follows z above (rest.there z h)), rest.ordered);
+            ordered = (all-from (Below y) rest.list (λ z h. follows z above (rest.there z h)), rest.ordered);
             there = λ z h. there rest.list z (rest.there z) h;
             back = λ z h. back rest.list z (rest.back z) h;
           }
@@ -133,14 +133,14 @@ module _ {X : Type 0} (cmp : X → X → Ordering) (total : IsTotalOrder cmp) (e
 
 -- ---- numbers
 
-abbrev cells_cmp : Cell → Cell → Ordering
-cells_cmp c d = ordering_then (slice_cmp int_cmp c.lead d.lead) (ordering_then (int_cmp c.wave d.wave) (slice_cmp int_cmp c.tile d.tile))
+abbrev cells-cmp : Cell → Cell → Ordering
+cells-cmp c d = ordering_then (slice_cmp int_cmp c.lead d.lead) (ordering_then (int_cmp c.wave d.wave) (slice_cmp int_cmp c.tile d.tile))
 
-cells_total : IsTotalOrder cells_cmp
-cells_total = then_total (on_total (λ (c : Cell). c.lead) (lists_total int_cmp_total)) (then_total (on_total (λ (c : Cell). c.wave) int_cmp_total) (on_total (λ (c : Cell). c.tile) (lists_total int_cmp_total)))
+cells-total : IsTotalOrder cells-cmp
+cells-total = then_total (on_total (λ (c : Cell). c.lead) (lists_total int_cmp_total)) (then_total (on_total (λ (c : Cell). c.wave) int_cmp_total) (on_total (λ (c : Cell). c.tile) (lists_total int_cmp_total)))
 
-cells_exact : (c d : Cell) → cells_cmp c d ≡ Equal → c ≡ d
-cells_exact c d e = cell-exact c d (ap is_eq e)
+cells-exact : (c d : Cell) → cells-cmp c d ≡ Equal → c ≡ d
+cells-exact c d e = cell-exact c d (ap is_eq e)
 
 module _ (e : Extent) (words : ℤ) (instances : ℕ) (launched : IsLaunched e.table words e.chunk instances) where
   pub record SomeNumbers : Type 0 where
@@ -148,27 +148,27 @@ module _ (e : Extent) (words : ℤ) (instances : ℕ) (launched : IsLaunched e.t
     pub tiles : ℕ
     pub numbers : HasNumbers e words instances phases tiles
 
-  abbrev key_of : Instance → List ℤ
-  key_of x = phase e.schedule (padded e.table x)
+  abbrev key-of : Instance → List ℤ
+  key-of x = phase e.schedule (padded e.table x)
 
   abbrev cell_at : Instance → Cell
   cell_at x = cell_of e.schedule (padded e.table x)
 
   abbrev Keys : Type 0
-  Keys = Images (slice_cmp int_cmp) (lists_total int_cmp_total) slice_cmp-exact key_of launched.list
+  Keys = Images (slice_cmp int_cmp) (lists_total int_cmp_total) slice_cmp-exact key-of launched.list
 
   abbrev Cells : Type 0
-  Cells = Images cells_cmp cells_total cells_exact cell_at launched.list
+  Cells = Images cells-cmp cells-total cells-exact cell_at launched.list
 
   is-predicted : (x : Instance) → Has launched.list x → Predicted e.table e.chunk x
-  is-predicted x h = (launched.original.has x).0 (contains_from_has launched.list x h)
+  is-predicted x h = (launched.original.has x).0 (contains-from-has launched.list x h)
 
   is-listed : (x : Instance) → Predicted e.table e.chunk x → Has launched.list x
-  is-listed x p = has_from_contains launched.list x ((launched.original.has x).1 p)
+  is-listed x p = has-from-contains launched.list x ((launched.original.has x).1 p)
 
   are-keys : (keys : Keys) → ArePhaseKeysOf e keys.list
   are-keys keys = record {
-    once = ordered_weaker (λ (a b : List ℤ). slice_cmp int_cmp a b ≡ Less) Differ apart keys.list keys.ordered;
+    once = ordered-weaker (λ (a b : List ℤ). slice_cmp int_cmp a b ≡ Less) Differ apart keys.list keys.ordered;
     has = λ key. (
       λ h. let at = keys.there key h in (at.0, is-predicted at.0 at.1, at.2),
       λ k. subst (Has keys.list) k.2 (keys.back k.0 (is-listed k.0 k.1)),
@@ -188,7 +188,7 @@ module _ (e : Extent) (words : ℤ) (instances : ℕ) (launched : IsLaunched e.t
   }
 
   pub some-numbers : SomeNumbers
-  some-numbers = by (images (slice_cmp int_cmp) (lists_total int_cmp_total) slice_cmp-exact key_of launched.list) (images cells_cmp cells_total cells_exact cell_at launched.list)
+  some-numbers = by (images (slice_cmp int_cmp) (lists_total int_cmp_total) slice_cmp-exact key-of launched.list) (images cells-cmp cells-total cells-exact cell_at launched.list)
     where
       by : Keys → Cells → SomeNumbers
       by keys cells = record {
@@ -205,8 +205,8 @@ module _ (e : Extent) (words : ℤ) (instances : ℕ) (launched : IsLaunched e.t
         };
       }
 
-pub launch-has_end : LaunchHasEnd
-launch-has_end D t chunk words is low some = launch-ends D t is chunk words low some
+pub launch-has-end : LaunchHasEnd
+launch-has-end D t chunk words is low some = launch-ends D t is chunk words low some
 
-pub launch-has_numbers : LaunchHasNumbers
-launch-has_numbers e words instances launched = let some = some-numbers e words instances launched in (some.phases, some.tiles, some.numbers)
+pub launch-has-numbers : LaunchHasNumbers
+launch-has-numbers e words instances launched = let some = some-numbers e words instances launched in (some.phases, some.tiles, some.numbers)

@@ -13,12 +13,12 @@ use Rattle.domain.specs.Launches.{IsLaunched}
 use Rattle.follow.specs.Deviations.{Deviation, FollowsPrediction, IsDeviation}
 use Rattle.follow.specs.Hows.{how_of}
 use Rattle.follow.proofs.Bounds.{turns-alike}
-use Rattle.follow.proofs.Deviating.{deviates-or_follows}
+use Rattle.follow.proofs.Deviating.{deviates-or-follows}
 use Rattle.follow_chunk.specs.Predicted.{forecast_of}
 use Rattle.compare.specs.Compared.{instance_in}
 use Rattle.compare.specs.Kept.{kept_deviation}
 use Rattle.profile.specs.Fits.{IsFitOf}
-use Rattle.profile.proofs.SomeFitLaws.{fit-or_first_unfit}
+use Rattle.profile.proofs.SomeFitLaws.{fit-or-first-unfit}
 use Rattle.profiling.specs.FirstProfiles.{has_turn}
 use Rattle.legality.specs.Choices.{choice}
 use Rattle.report.specs.declared.line.Line.{Line}
@@ -111,7 +111,7 @@ module _ (g : Setting) (m : Moment) where
       let ends : ended c ≡ Done = ending-same (turns c m.store) m.store m.left 0 m.used ∙ ap (λ (x : Cut). x.ending) (sym (r.cut (m.left + 1) (omega arith))) in
       elim (cases_lt done c) [
         | inl less ↦ absurd (whole.most c less (omega arith) ends)
-        | inr not_less ↦ let within = whole.within in omega (arith, not_less, within)
+        | inr not-less ↦ let within = whole.within in omega (arith, not-less, within)
       ]
 
   -- ---- turns in original order
@@ -145,7 +145,7 @@ module _ (g : Setting) (observations : List Observation) where
     pub are : AreJudged g observations lines stage
 
   pub some-judgement : SomeJudgement
-  some-judgement = elim (fit-or_first_unfit (length g.loops) g.scalars g.loops observations) [
+  some-judgement = elim (fit-or-first-unfit (length g.loops) g.scalars g.loops observations) [
     | inl fits ↦ by fits.0 fits.1 (choice fits.0 (pos g.chunk) g.candidates).legal refl
     | inr none ↦ record { lines = _; stage = _; are = unfit none.0 none.1 }
   ]
@@ -191,7 +191,7 @@ module _ (t : Table) (number : ℕ) (g : Setting) (m : Moment) where
 
   pub some-chunk : IsTable (length g.loops) t → (s : Schedule) → slice_get g.candidates (number - 1) ≡ Some s → pos 0 ≤ℤ m.outer.next → 1 ≤ chunk_turns g m → SomeChunk
   some-chunk is s which low some = elim (launch-ends (length g.loops) t is (next_chunk g m) (words_at m) low (omega (arith, ints, some))) [
-    | inl launched ↦ run launched.0 launched.1 (deviates-or_follows (forecast_of t) (chunk_run_from t g m))
+    | inl launched ↦ run launched.0 launched.1 (deviates-or-follows (forecast_of t) (chunk_run_from t g m))
     | inr stays ↦ record { lines = _; stage = _; after = m; leads = held stays.0 stays.1 stays.2 }
   ]
     where
@@ -208,17 +208,17 @@ module _ (t : Table) (number : ℕ) (g : Setting) (m : Moment) where
         lines = _;
         stage = _;
         after = m;
-        leads = rolled_back instances (instance_in t (next_chunk g m) (chunk_run_from t g m).observations d) (how_of (forecast_of t) (kept_deviation d)) launched (d, deviates, refl, refl);
+        leads = rolled_back s instances (instance_in t (next_chunk g m) (chunk_run_from t g m).observations d) (how_of (forecast_of t) (kept_deviation d)) which launched (d, deviates, refl, refl);
       }
       run instances launched (inr follows) = at instances launched follows (some-run g m (chunk_turns g m))
 
 -- ---- the laws
 
-pub profile-leads_somewhere : ProfileLeadsSomewhere
-profile-leads_somewhere g m = let x = some-profile g m in (x.lines, x.stage, x.after, x.leads)
+pub profile-leads-somewhere : ProfileLeadsSomewhere
+profile-leads-somewhere g m = let x = some-profile g m in (x.lines, x.stage, x.after, x.leads)
 
-pub plain-leads_somewhere : PlainLeadsSomewhere
-plain-leads_somewhere turns g m = let x = some-plain g m turns in (x.lines, x.stage, x.after, x.leads)
+pub plain-leads-somewhere : PlainLeadsSomewhere
+plain-leads-somewhere turns g m = let x = some-plain g m turns in (x.lines, x.stage, x.after, x.leads)
 
-pub chunk-leads_somewhere : ChunkLeadsSomewhere
-chunk-leads_somewhere t number g m s is which low some = let x = some-chunk t number g m is s which low some in (x.lines, x.stage, x.after, x.leads)
+pub chunk-leads-somewhere : ChunkLeadsSomewhere
+chunk-leads-somewhere t number g m s is which low some = let x = some-chunk t number g m is s which low some in (x.lines, x.stage, x.after, x.leads)

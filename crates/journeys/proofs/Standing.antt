@@ -37,14 +37,14 @@ within-more : (left : Option ℕ) (i c : ℕ) → IfSome left (λ n. i ≤ n) �
 within-more None i c upto = tt
 within-more (Some n) i c upto = omega (arith, upto)
 
-no_turn-zero : (n : ℕ) → has_turn (Some n) ≡ false → n ≡ 0
-no_turn-zero zero off = refl
-no_turn-zero (suc n) off = absurd (false≢true (sym off))
+no-turn-zero : (n : ℕ) → has_turn (Some n) ≡ false → n ≡ 0
+no-turn-zero zero off = refl
+no-turn-zero (suc n) off = absurd (false≢true (sym off))
 
 -- where no turn is left, all of them were done
 all-done : (left : Option ℕ) (i : ℕ) → IfSome left (λ n. i ≤ n) → has_turn (left_after left i) ≡ false → left ≡ Some i
 all-done None i upto off = absurd (false≢true (sym off))
-all-done (Some n) i upto off = let none = no_turn-zero (n - i) off in let same : n ≡ i = omega (arith, upto, none) in ap Some same
+all-done (Some n) i upto off = let none = no-turn-zero (n - i) off in let same : n ≡ i = omega (arith, upto, none) in ap Some same
 
 -- ---- moments
 
@@ -148,7 +148,7 @@ module _ (g : Setting) (k t : ℕ) (e : Moment) (next : e.outer.next ≡ pos t) 
 
   chunk-leads : (table : Table) (number : ℕ) (m after : Moment) (lines : List Line) (stage : Stage) → ChunkLeads table number g m lines stage after → Stands g k e m → Arrives g k e stage after
   chunk-leads table number m after lines stage (held at why is) s = s
-  chunk-leads table number m after lines stage (rolled_back instances at how launched is) s = s
+  chunk-leads table number m after lines stage (rolled_back schedule instances at how which launched is) s = s
   chunk-leads table number m after lines stage (committed schedule instances phases tiles there which numbers follows r) s = stands-on m s g.chunk there r
 
   plain-leads : (turns : ℕ) (m after : Moment) (lines : List Line) (stage : Stage) → PlainLeads turns g m lines stage after → Stands g k e m → Arrives g k e stage after

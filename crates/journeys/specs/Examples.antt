@@ -1,5 +1,6 @@
 -- Examples of journeys, computed by hand.
 use Rattle.std.specs.Prelude.{◌≡◌, ℕ, pos, List, [], ◌∷◌, Some, None, refl}
+use Rattle.std.proofs.Common.{lit<}
 use Rattle.nest_lang.specs.declared.tree.Expr.{Expr}
 use Rattle.nest_lang.specs.declared.tree.Head.TheVariants.{For}
 use Rattle.nest_lang.specs.declared.tree.Loop.{Loop}
@@ -9,11 +10,16 @@ use Rattle.nest_grammar.specs.declared.file.File.{File}
 use Rattle.nest_grammar.specs.declared.version.Version.TheVariants.{One, Two}
 use Rattle.follow_chunk.specs.Laws.{one_row}
 use Rattle.legality.specs.declared.refusals.Refusal.{Refusal}
+use Rattle.skeletons.specs.Cells.{Extent}
+use Rattle.crew.specs.declared.handed.Handed.{Handed}
+use Rattle.chunk_run.specs.declared.run.ChunkEnd.TheVariants.{Committed, RolledBack}
+use Rattle.chunk_run.specs.Groups.{HasTileCounts}
 use Rattle.report.specs.declared.journey.Options.{Options}
 use Rattle.report.specs.declared.line.Line.TheVariants as said
 use Rattle.journeys.specs.Settings.{Setting, turns_within, entry}
 use Rattle.journeys.specs.Tellings.{heading, illegal_line, illegal_lines}
 use Rattle.journeys.specs.Journeys.{IsNestJourney, IsJourneyOf}
+use Rattle.journeys.specs.HandedRecords.{IsHandedRecord}
 use Rattle.journeys.specs.Laws.{IsRunnable}
 use Rattle.journeys.specs.Journeys.IsNestJourney.{not_entered}
 
@@ -55,3 +61,36 @@ one_row_file = record { version = One; scalars = []; words = 40; items = []; uni
 -- the premises of the law on journeys can be met
 abbrev pub PremisesCanHold : Type 0
 PremisesCanHold = IsRunnable (record { workers = 4; chunk = pos 32; sample = pos 4; steps = 1000000 }) one_row_file
+
+-- ---- handed records
+
+-- nothing is handed over where no chunk was launched
+pub nothing_launched : IsHandedRecord 4 [] []
+nothing_launched = refl
+
+-- an entry of a chunk whose first turn is 7, for 4 workers
+abbrev pub entry_of : ℕ → ℕ → ℕ → Handed
+entry_of number tiles steps = record { first = pos 7; phase = number; workers = 4; tiles = tiles; steps = steps }
+
+-- a chunk of two phases, with one tile and with two: where it is committed with 5 steps, each phase is handed over, with 5 steps
+-- together; where it is rolled back, its first one may be alone, with any steps
+pub commit_and_rollback : (e : Extent) → pos 7 ≡ e.chunk.first → HasTileCounts e (1 ∷ 2 ∷ [])
+    → IsHandedRecord 4 (record { extent = e; end = Committed 3 2 3 5 } ∷ record { extent = e; end = RolledBack } ∷ []) (entry_of 0 1 2 ∷ entry_of 1 2 3 ∷ entry_of 0 1 9 ∷ [])
+commit_and_rollback e first has = (
+  entry_of 0 1 2 ∷ entry_of 1 2 3 ∷ [],
+  entry_of 0 1 9 ∷ [],
+  record {
+    counts = 1 ∷ 2 ∷ [];
+    has = has;
+    entries = (record { from = first; with_workers = refl; of_phase = refl; over_tiles = refl }, (record { from = first; with_workers = refl; of_phase = refl; over_tiles = refl }, tt));
+    together = refl;
+  },
+  (
+    entry_of 0 1 9 ∷ [],
+    [],
+    record { front = 1 ∷ []; rest = 2 ∷ []; has = has; entries = (record { from = first; with_workers = refl; of_phase = refl; over_tiles = refl }, tt); some = lit< tt },
+    refl,
+    refl,
+  ),
+  refl,
+)

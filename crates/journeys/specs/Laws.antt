@@ -1,5 +1,5 @@
 -- What holds of journeys.
-use Rattle.std.specs.Prelude.{◌≡◌, ◌<◌, ◌≤◌, ◌-◌, ◌^◌, ◌⊎◌, ℕ, ℤ, pos, ◌≤ℤ◌, List, length, slice_get, Some}
+use Rattle.std.specs.Prelude.{◌≡◌, ◌<◌, ◌≤◌, ◌-◌, ◌^◌, ◌⊎◌, ℕ, ℤ, pos, ◌≤ℤ◌, List, ◌++◌, length, slice_get, Some}
 use Rattle.std.specs.List.{All}
 use Rattle.nest_lang.specs.declared.state.Outer.{Outer}
 use Rattle.nest_lang.specs.Stores.{Store}
@@ -22,6 +22,7 @@ use Rattle.report.specs.declared.line.Line.{Line}
 use Rattle.journeys.specs.Settings.{Setting, Moment, chunk_turns, plain_turns}
 use Rattle.journeys.specs.Stages.{Stage, Profiles, ProfileLeads, ChunkLeads, PlainLeads, Leads, Reaches}
 use Rattle.journeys.specs.Journeys.{IsNestJourney, IsJourney, entered_at}
+use Rattle.journeys.specs.HandedRecords.{Launched, HaveLaunched, launched_in}
 
 -- a moment is one of the plain run of the turns from a start: the run of so many turns leads there
 pub record IsPlainMoment (g : Setting) (k : ℕ) (start m : Moment) : Type 0 where
@@ -137,3 +138,15 @@ pub record IsRunnable (options : Options) (file : File) : Type 0 where
 -- such a file has a journey
 abbrev pub SomeJourney : Type 0
 SomeJourney = (options : Options) (file : File) → IsRunnable options file → (lines : List Line) × (end : Cut) × IsJourney options file lines end
+
+-- ---- handed records
+
+-- a journey launches one list of chunks, so what it hands to a crew is a matter of the file and the options alone
+abbrev pub OneLaunched : Type 0
+OneLaunched = (options : Options) (file : File) (lines others : List Line) (end other : Cut) (a : IsJourney options file lines end) (b : IsJourney options file others other)
+    → launched_in options file lines end a ≡ launched_in options file others other b
+
+-- what a run has launched as far as it came are the first launched chunks of a journey of the file
+abbrev pub BegunGoesOn : Type 0
+BegunGoesOn = (options : Options) (file : File) (chunks : List Launched) → IsRunnable options file → HaveLaunched options (length file.scalars) file.units (first_store file) options.steps 0 chunks
+    → (lines : List Line) × (end : Cut) × (journey : IsJourney options file lines end) × (rest : List Launched) × (launched_in options file lines end journey ≡ chunks ++ rest)

@@ -75,7 +75,7 @@ pub data ChunkLeads (t : Table) (number : ℕ) (g : Setting) (m : Moment) : List
   held : (at : Instance) (why : HeldWhy) → IsHeld t (words_at m) (next_chunk g m) at why
       → ChunkLeads t number g m (held_line g m at why ∷ []) (Plainly (chunk_turns g m)) m
   -- Where it is launched and deviates, it is rolled back: its turns are a plain chunk.
-  rolled_back : (instances : ℕ) (at : Instance) (how : How) → IsLaunched t (words_at m) (next_chunk g m) instances → DeviatesAt t g m at how
+  rolled_back : (s : Schedule) (instances : ℕ) (at : Instance) (how : How) → slice_get g.candidates (number - 1) ≡ Some s → IsLaunched t (words_at m) (next_chunk g m) instances → DeviatesAt t g m at how
       → ChunkLeads t number g m (rollback_line g m at how ∷ []) (Plainly (chunk_turns g m)) m
   -- Where it is launched and follows its prediction, it is committed, and the next chunk follows.
   committed : (s : Schedule) (instances phases tiles : ℕ) (after : Moment) → slice_get g.candidates (number - 1) ≡ Some s → HasNumbers (record { table = t; schedule = s; chunk = next_chunk g m }) (words_at m) instances phases tiles → FollowsIt t g m

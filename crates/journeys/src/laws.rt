@@ -1,7 +1,7 @@
 //! Laws of journeys, each the contract of a function that does nothing.
 
 ghost use Rattle.journeys.specs.Examples.{PremisesCanHold};
-ghost use Rattle.journeys.specs.Laws.{MomentsArePlain, NestRunIsPlain, RunIsPlain, ChunkLeadsOneWay, ChunkLeadsSomewhere, LaunchHasEnd, LaunchHasNumbers, LaunchHasOneEnd, LaunchHasOneSet, PlainLeadsOneWay, PlainLeadsSomewhere, ProfileLeadsOneWay, ProfileLeadsSomewhere, StageLeadsOneWay, OneJourney, OneNestJourney, SomeJourney};
+ghost use Rattle.journeys.specs.Laws.{MomentsArePlain, NestRunIsPlain, RunIsPlain, ChunkLeadsOneWay, ChunkLeadsSomewhere, LaunchHasEnd, LaunchHasNumbers, LaunchHasOneEnd, LaunchHasOneSet, PlainLeadsOneWay, PlainLeadsSomewhere, ProfileLeadsOneWay, ProfileLeadsSomewhere, StageLeadsOneWay, OneJourney, OneNestJourney, SomeJourney, OneLaunched, BegunGoesOn};
 
 /// The run of a journey is the plain run: that of a nest's at each line and at its end, and that of a file's at its end.
 pub fn run_is_plain()
@@ -44,6 +44,12 @@ pub fn stages_lead()
     ensures profile { ProfileLeadsSomewhere }
     ensures plainly { PlainLeadsSomewhere }
     ensures chunk { ChunkLeadsSomewhere }
+{}
+
+/// A journey of a file launches one list of chunks, and as far as a run of it came it has launched the first of them.
+pub fn launches_are_one()
+    ensures one { OneLaunched }
+    ensures goes_on { BegunGoesOn }
 {}
 
 /// The premises of the law on journeys can be met.

@@ -9,7 +9,7 @@ use Rattle.domain.specs.Tables.{Table}
 use Rattle.domain.proofs.TableLaws.{position-found, position-none}
 use Rattle.transform.specs.Schedules.{Schedule}
 use Rattle.dependence.specs.Legality.{Legal}
-use Rattle.dependence.proofs.RangeLaws.{any_default}
+use Rattle.dependence.proofs.RangeLaws.{any-default}
 use Rattle.legality.specs.declared.refusals.Refusal.{Refusal}
 use Rattle.legality.specs.Judgements.{refused}
 use Rattle.legality.specs.Choices.{choice, first_legal, is_legal}
@@ -33,7 +33,7 @@ none-refused t L ss = record { each = λ j d l. absurd (omega arith); listed = r
 
 pub one-refused : (t : Table) (L : ℤ) (ss : List Schedule) (k : ℕ) (s : Schedule) (refusals after : List Refusal) (refusal : Refusal) → AreRefused t L ss k refusals → k < length ss → get_or ss k s ≡ s → Some refusal ≡ refused t L s → after ≡ refusals ++ refusal ∷ [] → AreRefused t L ss (k + 1) after
 one-refused t L ss k s refusals after refusal h l e r a = record {
-  each = λ j d below inside. ⊎_elim (λ b. h.each j d b inside) (λ b. let same : j ≡ k = omega arith in rw (same, any_default ss k d s l, e, ← r) refl) (cases_lt j k);
+  each = λ j d below inside. ⊎_elim (λ b. h.each j d b inside) (λ b. let same : j ≡ k = omega arith in rw (same, any-default ss k d s l, e, ← r) refl) (cases_lt j k);
   listed = a
       ∙ ap (λ (rs : List Refusal). rs ++ refusal ∷ []) h.listed
       ∙ sym (ap (filter_map (refused t L)) (take_more ss k s l ∙ ap (λ (y : Schedule). take k ss ++ y ∷ []) e) ∙ filter_map-append (refused t L) (take k ss) (s ∷ []) ∙ ap (λ (o : Option Refusal). filter_map (refused t L) (take k ss) ++ cons_option o []) (sym r));

@@ -3,14 +3,14 @@ use Rattle.std.proofs.Common.{◌≡◌, refl, sym, ap, subst, ℕ, ◌≤◌, �
 use Rattle.std.specs.Prelude.{if◌then◌else◌, not, ◌≢◌}
 use Rattle.std.specs.List.{find, filter_map, cons_option, range_with_len}
 use Rattle.std.proofs.lemmas.Bool.Decides.{nat_tests}
-use Rattle.plain_lemmas.proofs.MembershipLaws.{Has, All_from, filter_has, flat_map_has, map_has}
+use Rattle.plain_lemmas.proofs.MembershipLaws.{Has, All-from, filter-has, flat-map-has, map-has}
 use Rattle.fourier_motzkin.specs.declared.verdicts.Ruling.{Ruling}
 use Rattle.fourier_motzkin.specs.declared.verdicts.Ruling.TheVariants.{Empty, Maybe, Wide}
 use Rattle.domain.specs.Tables.{Table, depth}
 use Rattle.transform.specs.Schedules.{Schedule}
 use Rattle.dependence.specs.Systems.{System, systems}
 use Rattle.dependence.specs.Legality.{Trial, Violated, above, is_empty, judgement, trial, trials, trials_of, violations, violations_of}
-use Rattle.dependence.proofs.PairLaws.{Names, in_range, names}
+use Rattle.dependence.proofs.PairLaws.{Names, in-range, names}
 use Rattle.legality.specs.declared.listing.Dependence.{Dependence}
 use Rattle.legality.specs.Choices.{choice}
 use Rattle.legality.specs.Dependences.{depends}
@@ -28,18 +28,18 @@ pub record IsFound {X : Type 0} (p : X → Bool) (xs : List X) (x : X) : Type 0 
   pub has : Has xs x
   pub passes : p x ≡ true
 
-found_by : {X Y : Type 0} (p : X → Bool) (f : X → Y) (xs : List X) (y : Y) → option_map f (find p xs) ≡ Some y → (x : X) × IsFound p xs x × (y ≡ f x)
-found_by p f [] y e = cc
-found_by {X} {Y} p f (x ∷ xs) y e = by (p x) refl (λ later. let (z, h, same) = found_by p f xs y later in (z, record { has = inr h.has; passes = h.passes }, same)) e
+found-by : {X Y : Type 0} (p : X → Bool) (f : X → Y) (xs : List X) (y : Y) → option_map f (find p xs) ≡ Some y → (x : X) × IsFound p xs x × (y ≡ f x)
+found-by p f [] y e = cc
+found-by {X} {Y} p f (x ∷ xs) y e = by (p x) refl (λ later. let (z, h, same) = found-by p f xs y later in (z, record { has = inr h.has; passes = h.passes }, same)) e
   where
     by : (w : Bool) → p x ≡ w → (option_map f (find p xs) ≡ Some y → (z : X) × IsFound p (x ∷ xs) z × (y ≡ f z)) → option_map f (if w then Some x else find p xs) ≡ Some y → (z : X) × IsFound p (x ∷ xs) z × (y ≡ f z)
     by true is later e = (x, record { has = inl refl; passes = is }, cc)
     by false is later e = later e
 
 -- what is kept of a list
-kept_has : {X Y : Type 0} (f : X → Option Y) (xs : List X) (y : Y) → Has (filter_map f xs) y → (x : X) × (f x ≡ Some y)
-kept_has f [] y h = absurd h
-kept_has {X} {Y} f (x ∷ xs) y h = by (f x) refl (λ later. kept_has f xs y later) h
+kept-has : {X Y : Type 0} (f : X → Option Y) (xs : List X) (y : Y) → Has (filter_map f xs) y → (x : X) × (f x ≡ Some y)
+kept-has f [] y h = absurd h
+kept-has {X} {Y} f (x ∷ xs) y h = by (f x) refl (λ later. kept-has f xs y later) h
   where
     by : (o : Option Y) → f x ≡ o → (Has (filter_map f xs) y → (z : X) × (f z ≡ Some y)) → Has (cons_option o (filter_map f xs)) y → (z : X) × (f z ≡ Some y)
     by None is later h = later h
@@ -48,9 +48,9 @@ kept_has {X} {Y} f (x ∷ xs) y h = by (f x) refl (λ later. kept_has f xs y lat
 
 -- ---- refusals
 
-row_of_violation : (s : Schedule) (row : ℕ) (u : Violated) → Has (violations_of s row) u → u.row ≡ row
-row_of_violation s row u (inl e) = ap (λ (v : Violated). v.row) e
-row_of_violation s row u (inr h) = by (climbs s row) h
+row-of-violation : (s : Schedule) (row : ℕ) (u : Violated) → Has (violations_of s row) u → u.row ≡ row
+row-of-violation s row u (inl e) = ap (λ (v : Violated). v.row) e
+row-of-violation s row u (inr h) = by (climbs s row) h
   where
     by : (w : Bool) → Has (if w then above row ∷ [] else []) u → u.row ≡ row
     by true (inl e) = ap (λ (v : Violated). v.row) e
@@ -64,30 +64,30 @@ pub record IsTrial (t : Table) (v : Trial) : Type 0 where
   pub from : 1 ≤ v.violated.row
   pub to : v.violated.row ≤ depth t
 
-trial_is : (t : Table) (s : Schedule) (L : ℤ) (v : Trial) → Has (trials t s L) v → IsTrial t v
+trial-is : (t : Table) (s : Schedule) (L : ℤ) (v : Trial) → Has (trials t s L) v → IsTrial t v
 unfolding trials
-trial_is t s L v h =
-    let (sys, in-s, k) = flat_map_has (trials_of t s) (systems t L) v h in
+trial-is t s L v h =
+    let (sys, in-s, k) = flat-map-has (trials_of t s) (systems t L) v h in
     by sys (names t L sys in-s) (nat_le sys.case (depth t)) refl k
   where
     with_row : (sys : System) → Names t sys → sys.case ≤ depth t → (u : Violated) → Has (violations t s) u → IsTrial t (trial sys u)
     with_row sys n l u in-u =
-        let (row, in-row, k) = flat_map_has (violations_of s) (range_with_len 1 (depth t)) u in-u in
-        let (from, to) = in_range 1 (depth t) row in-row in
-        let same = row_of_violation s row u k in
+        let (row, in-row, k) = flat-map-has (violations_of s) (range_with_len 1 (depth t)) u in-u in
+        let (from, to) = in-range 1 (depth t) row in-row in
+        let same = row-of-violation s row u k in
         record { system = n; case = l; from = omega (arith, same, from); to = omega (arith, same, to) }
 
     by : (sys : System) → Names t sys → (w : Bool) → nat_le sys.case (depth t) ≡ w → Has (if w then map (trial sys) (violations t s) else []) v → IsTrial t v
     by sys n true is k =
-        let (u, in-u, e) = map_has (trial sys) (violations t s) v k in
+        let (u, in-u, e) = map-has (trial sys) (violations t s) v k in
         let l : sys.case ≤ depth t = grind (arith, nat_tests) in
         subst (IsTrial t) (sym e) (with_row sys n l u in-u)
     by sys n false is k = absurd k
 
 pub refusals_name : RefusalsName
 refusals_name t L s r e =
-    let (v, h, same) = found_by (refuses t s) (told t s) (trials t s L) r e in
-    let is = trial_is t s L v h.has in
+    let (v, h, same) = found-by (refuses t s) (told t s) (trials t s L) r e in
+    let is = trial-is t s L v h.has in
     subst (IsRefusal t) (sym same)
     (record {
       first = is.system.first;
@@ -101,18 +101,18 @@ refusals_name t L s r e =
 
 pub choices_name : ChoicesName
 choices_name t L ss =
-    All_from (IsRefusal t) (choice t L ss).refusals
-    (λ r h. let (s, e) = kept_has (refused t L) _ r h in refusals_name t L s r e)
+    All-from (IsRefusal t) (choice t L ss).refusals
+    (λ r h. let (s, e) = kept-has (refused t L) _ r h in refusals_name t L s r e)
 
 -- ---- dependences
 
 pub dependences_name : DependencesName
-dependences_name t L = All_from (IsDependence t) _ each
+dependences_name t L = All-from (IsDependence t) _ each
   where
     each : (d : Dependence) → Has (filter (λ (x : Dependence). not (is_empty x.verdict)) (map (depends t) (systems t L))) d → IsDependence t d
     each d h =
-        let (k, passes) = filter_has (λ (x : Dependence). not (is_empty x.verdict)) (map (depends t) (systems t L)) d h in
-        let (sys, in-s, e) = map_has (depends t) (systems t L) d k in
+        let (k, passes) = filter-has (λ (x : Dependence). not (is_empty x.verdict)) (map (depends t) (systems t L)) d h in
+        let (sys, in-s, e) = map-has (depends t) (systems t L) d k in
         let n = names t L sys in-s in
         record {
           first = rw e n.first;

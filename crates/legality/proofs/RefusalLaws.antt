@@ -4,7 +4,7 @@ use Rattle.std.specs.Prelude.{◌↔◌, if◌then◌else◌, not}
 use Rattle.std.specs.List.{find, flat_map, range_with_len}
 use Rattle.std.proofs.lemmas.List.{map-append}
 use Rattle.std.proofs.lemmas.Bool.Decides.{nat_tests}
-use Rattle.plain_lemmas.proofs.MembershipLaws.{Has, All_has, All_from}
+use Rattle.plain_lemmas.proofs.MembershipLaws.{Has, All-has, All-from}
 use Rattle.fourier_motzkin.specs.declared.verdicts.Ruling.{Ruling}
 use Rattle.fourier_motzkin.specs.declared.verdicts.Ruling.TheVariants.{Empty, Maybe, Wide}
 use Rattle.affine.specs.declared.row.Row.{Row}
@@ -16,7 +16,7 @@ use Rattle.dependence.specs.declared.violations.Side.TheVariants.{Below, Above}
 use Rattle.dependence.specs.Sides.{is_above, side_of}
 use Rattle.dependence.specs.Systems.{System, refs, systems, systems_of}
 use Rattle.dependence.specs.Legality.{Legal, joint_variables, violation, Trial, above, below, is_empty, judgement, trial, trials, trials_of, violations_of}
-use Rattle.dependence.proofs.ViolationLaws.{flat_append}
+use Rattle.dependence.proofs.ViolationLaws.{flat-append}
 use Rattle.legality.specs.declared.refusals.Refusal.{Refusal}
 use Rattle.legality.specs.declared.refusals.Judged.TheVariants as answer
 use Rattle.legality.specs.Judgements.{climbs, first_refusal, judged, judged_by, refused, refuses, told}
@@ -74,7 +74,7 @@ trials_of-none D t s sys deep l = let e : nat_le sys.case (depth t) ≡ false = 
 
 flat-flat : {X Y Z : Type 0} (h : Y → List Z) (f : X → List Y) (xs : List X) → flat_map h (flat_map f xs) ≡ flat_map (λ x. flat_map h (f x)) xs
 flat-flat h f [] = refl
-flat-flat {Z = Z} h f (x ∷ xs) = flat_append h (f x) (flat_map f xs) ∙ ap (λ (zs : List Z). flat_map h (f x) ++ zs) (flat-flat h f xs)
+flat-flat {Z = Z} h f (x ∷ xs) = flat-append h (f x) (flat_map f xs) ∙ ap (λ (zs : List Z). flat_map h (f x) ++ zs) (flat-flat h f xs)
 
 pub flat_flat : {X Y Z : Type 0} (h : Y → List Z) (f : X → List Y) (xs : List X) → flat_map (λ x. flat_map h (f x)) xs ≡ flat_map h (flat_map f xs)
 flat_flat h f xs = sym (flat-flat h f xs)
@@ -97,10 +97,10 @@ all-none t s [] h = refl
 all-none t s (u ∷ us) h = rw (h u (inl refl)) (all-none t s us (λ v k. h v (inr k)))
 
 pub legal-none : (t : Table) (s : Schedule) (L : ℤ) → refused t L s ≡ None → Legal t s L
-legal-none t s L e = All_from (λ (v : Trial). judgement t s v ≡ Empty) (trials t s L) (none-has t s (trials t s L) e)
+legal-none t s L e = All-from (λ (v : Trial). judgement t s v ≡ Empty) (trials t s L) (none-has t s (trials t s L) e)
 
 pub none-legal : (t : Table) (s : Schedule) (L : ℤ) → Legal t s L → refused t L s ≡ None
-none-legal t s L h = all-none t s (trials t s L) (λ v k. All_has (λ (u : Trial). judgement t s u ≡ Empty) (trials t s L) v h k)
+none-legal t s L h = all-none t s (trials t s L) (λ v k. All-has (λ (u : Trial). judgement t s u ≡ Empty) (trials t s L) v h k)
 
 pub judged-legal : (t : Table) (s : Schedule) (L : ℤ) → (judged t s L ≡ answer.Legal) ↔ Legal t s L
 judged-legal t s L = (λ e. legal-none t s L (there (refused t L s) e), λ h. ap judged_by (none-legal t s L h))

@@ -12,84 +12,84 @@ use Rattle.fourier_motzkin.specs.Ranges.{Allowed, IsOpen}
 use Rattle.fourier_motzkin.specs.RowSets.{tidied}
 use Rattle.fourier_motzkin.specs.Verdicts.{Bounds, bounds_of, levels, next, standing}
 use Rattle.fourier_motzkin.proofs.Levels.{points_lie_in_ranges}
-use Rattle.plain_lemmas.proofs.MembershipLaws.{All_from, All_has, all_has, list_all_from, list_all_has}
-use Rattle.fourier_motzkin.proofs.Points.{judged_cases, met_tidied}
+use Rattle.plain_lemmas.proofs.MembershipLaws.{All-from, All-has, all_has, list-all-from, list-all-has}
+use Rattle.fourier_motzkin.proofs.Points.{judged-cases, met-tidied}
 use Rattle.fourier_motzkin.proofs.EliminationRunLaws.{length-levels}
 use Rattle.level_walk.specs.Lattices.{FitsCell, HIGHEST, LOWEST, meets_all}
 use Rattle.level_walk.specs.Spaces.{IsWithin}
 
 -- the test of all rows
 
-not_negative : (z : ℤ) → not (int_lt z (pos 0)) ≡ true → pos 0 ≤ℤ z
-not_negative z h = grind (arith, ints)
+not-negative : (z : ℤ) → not (int_lt z (pos 0)) ≡ true → pos 0 ≤ℤ z
+not-negative z h = grind (arith, ints)
 
-is_not_negative : (z : ℤ) → pos 0 ≤ℤ z → not (int_lt z (pos 0)) ≡ true
-is_not_negative z h = grind (arith, ints)
+is-not-negative : (z : ℤ) → pos 0 ≤ℤ z → not (int_lt z (pos 0)) ≡ true
+is-not-negative z h = grind (arith, ints)
 
-pub meets_from : (rows : List Row) (point : List ℤ) → meets_all rows point ≡ true → All (Meets point) rows
+pub meets-from : (rows : List Row) (point : List ℤ) → meets_all rows point ≡ true → All (Meets point) rows
 unfolding meets_all
-meets_from rows point is = All_from (Meets point) rows (λ row h. not_negative (sum_at row point) (list_all_has (λ row. not (int_lt (sum_at row point) (pos 0))) rows is row h))
+meets-from rows point is = All-from (Meets point) rows (λ row h. not-negative (sum_at row point) (list-all-has (λ row. not (int_lt (sum_at row point) (pos 0))) rows is row h))
 
-pub meets_to : (rows : List Row) (point : List ℤ) → All (Meets point) rows → meets_all rows point ≡ true
+pub meets-to : (rows : List Row) (point : List ℤ) → All (Meets point) rows → meets_all rows point ≡ true
 unfolding meets_all
-meets_to rows point met = list_all_from (λ row. not (int_lt (sum_at row point) (pos 0))) rows (λ row h. is_not_negative (sum_at row point) (All_has (Meets point) rows row met h))
+meets-to rows point met = list-all-from (λ row. not (int_lt (sum_at row point) (pos 0))) rows (λ row h. is-not-negative (sum_at row point) (All-has (Meets point) rows row met h))
 
 -- the values of a place are small
 
-small_value : (value : ℤ) → IsWithin LOWEST HIGHEST value → unsigned_abs value ≤ 2 ^ 60
-small_value value within = let low = within.least in let high = within.greatest in omega (arith, ints, low, high)
+small-value : (value : ℤ) → IsWithin LOWEST HIGHEST value → unsigned_abs value ≤ 2 ^ 60
+small-value value within = let low = within.least in let high = within.greatest in omega (arith, ints, low, high)
 
-pub small_values : (values : List ℤ) → AllByRecursion (IsWithin LOWEST HIGHEST) values → All (λ value. unsigned_abs value ≤ 2 ^ 60) values
-small_values values within = All_from (λ value. unsigned_abs value ≤ 2 ^ 60) values (λ value h. small_value value (all_has (IsWithin LOWEST HIGHEST) values value within h))
+pub small-values : (values : List ℤ) → AllByRecursion (IsWithin LOWEST HIGHEST) values → All (λ value. unsigned_abs value ≤ 2 ^ 60) values
+small-values values within = All-from (λ value. unsigned_abs value ≤ 2 ^ 60) values (λ value h. small-value value (all_has (IsWithin LOWEST HIGHEST) values value within h))
 
-pub all_append : {X : Type 0} (P : X → Type 0) (xs ys : List X) → AllByRecursion P xs → AllByRecursion P ys → AllByRecursion P (xs ++ ys)
-all_append P [] ys first second = second
-all_append P (x ∷ xs) ys first second = (first.0, all_append P xs ys first.1 second)
+pub all-append : {X : Type 0} (P : X → Type 0) (xs ys : List X) → AllByRecursion P xs → AllByRecursion P ys → AllByRecursion P (xs ++ ys)
+all-append P [] ys first second = second
+all-append P (x ∷ xs) ys first second = (first.0, all-append P xs ys first.1 second)
 
 -- a point that meets the rows has an allowed value
 
-take_front : {X : Type 0} (xs ys : List X) → take (length xs) (xs ++ ys) ≡ xs
-take_front [] [] = refl
-take_front [] (y ∷ ys) = refl
-take_front (x ∷ xs) ys = ap (λ l. x ∷ l) (take_front xs ys)
+take-front : {X : Type 0} (xs ys : List X) → take (length xs) (xs ++ ys) ≡ xs
+take-front [] [] = refl
+take-front [] (y ∷ ys) = refl
+take-front (x ∷ xs) ys = ap (λ l. x ∷ l) (take-front xs ys)
 
-level_of : (scan : Bounds) (rows : List Row) (k : ℕ) → scan ≡ bounds_of (length scan.levels) rows → get_or (bounds_of (length scan.levels) rows).levels k [] ≡ get_or scan.levels k []
-level_of scan rows k is = sym (ap (λ (b : Bounds). get_or b.levels k []) is)
+level-of : (scan : Bounds) (rows : List Row) (k : ℕ) → scan ≡ bounds_of (length scan.levels) rows → get_or (bounds_of (length scan.levels) rows).levels k [] ≡ get_or scan.levels k []
+level-of scan rows k is = sym (ap (λ (b : Bounds). get_or b.levels k []) is)
 
-pub allowed_value : (scan : Bounds) (rows : List Row) (lows highs outer rest : List ℤ) (value : ℤ) → FitsCell scan rows lows highs → length outer + suc (length rest) ≡ length scan.levels
+pub allowed-value : (scan : Bounds) (rows : List Row) (lows highs outer rest : List ℤ) (value : ℤ) → FitsCell scan rows lows highs → length outer + suc (length rest) ≡ length scan.levels
     → meets_all rows (outer ++ value ∷ rest) ≡ true → Allowed (get_or scan.levels (length outer) []) outer value
-allowed_value scan rows lows highs outer rest value fits long is =
-    let met : All (Meets (outer ++ value ∷ rest)) rows = meets_from rows (outer ++ value ∷ rest) is in
+allowed-value scan rows lows highs outer rest value fits long is =
+    let met : All (Meets (outer ++ value ∷ rest)) rows = meets-from rows (outer ++ value ∷ rest) is in
     let all = length-append outer (value ∷ rest) in
     let lie = points_lie_in_ranges (length scan.levels) rows (outer ++ value ∷ rest) (length outer) fits.over met (omega (arith, long, all)) (omega (arith, long)) in
     subst (λ (v : ℤ). Allowed (get_or scan.levels (length outer) []) outer v) (get_or-append_seam outer value rest (pos 0))
-    (subst (λ (p : List ℤ). Allowed (get_or scan.levels (length outer) []) p (get_or (outer ++ value ∷ rest) (length outer) (pos 0))) (take_front outer (value ∷ rest))
-    (subst (λ (l : List Row). Allowed l (take (length outer) (outer ++ value ∷ rest)) (get_or (outer ++ value ∷ rest) (length outer) (pos 0))) (level_of scan rows (length outer) fits.is) lie))
+    (subst (λ (p : List ℤ). Allowed (get_or scan.levels (length outer) []) p (get_or (outer ++ value ∷ rest) (length outer) (pos 0))) (take-front outer (value ∷ rest))
+    (subst (λ (l : List Row). Allowed l (take (length outer) (outer ++ value ∷ rest)) (get_or (outer ++ value ∷ rest) (length outer) (pos 0))) (level-of scan rows (length outer) fits.is) lie))
 
 -- the rows of the last level say all that the rows say
 
-pub last_level : (m : ℕ) (rows : List Row) (point : List ℤ) → (IsOpen m (get_or (bounds_of (suc m) rows).levels m []) → ⊥) → All (Meets point) (get_or (bounds_of (suc m) rows).levels m []) → All (Meets point) rows
+pub last-level : (m : ℕ) (rows : List Row) (point : List ℤ) → (IsOpen m (get_or (bounds_of (suc m) rows).levels m []) → ⊥) → All (Meets point) (get_or (bounds_of (suc m) rows).levels m []) → All (Meets point) rows
 unfolding bounds_of
-last_level m rows point =
+last-level m rows point =
     let said = judged (tidied rows) in
     let is : get_or (levels m (next m said) ++ standing said ∷ []) m [] ≡ standing said =
     subst (λ i. get_or (levels m (next m said) ++ standing said ∷ []) i [] ≡ standing said) (length-levels m (next m said)) (get_or-append_seam (levels m (next m said)) (standing said) [] []) in
     subst (λ (l : List Row). (IsOpen m l → ⊥) → All (Meets point) l → All (Meets point) rows) (sym is)
-    (judged_cases (λ s. (IsOpen m (standing s) → ⊥) → All (Meets point) (standing s) → All (Meets point) rows) (tidied rows)
+    (judged-cases (λ s. (IsOpen m (standing s) → ⊥) → All (Meets point) (standing s) → All (Meets point) rows) (tidied rows)
     (λ some closed met. absurd (closed (inl (All-nil _))))
     (λ closed met. absurd (closed (inl (All-nil _))))
-    (λ narrow few closed met. met_tidied rows point met))
+    (λ narrow few closed met. met-tidied rows point met))
 
 -- so a value that the last level allows makes a point
 
-pub exact_value : (scan : Bounds) (rows : List Row) (lows highs outer : List ℤ) (value : ℤ) → FitsCell scan rows lows highs → length outer + 1 ≡ length scan.levels
+pub exact-value : (scan : Bounds) (rows : List Row) (lows highs outer : List ℤ) (value : ℤ) → FitsCell scan rows lows highs → length outer + 1 ≡ length scan.levels
     → Allowed (get_or scan.levels (length outer) []) outer value → meets_all rows (outer ++ value ∷ []) ≡ true
-exact_value scan rows lows highs outer value fits last allowed =
+exact-value scan rows lows highs outer value fits last allowed =
     let size : length scan.levels ≡ suc (length outer) = omega (arith, last) in
     let closed = fits.closed (length outer) (omega (arith, size)) in
     let level : get_or (bounds_of (suc (length outer)) rows).levels (length outer) [] ≡ get_or scan.levels (length outer) [] =
-    subst (λ n. get_or (bounds_of n rows).levels (length outer) [] ≡ get_or scan.levels (length outer) []) size (level_of scan rows (length outer) fits.is) in
-    let met = last_level (length outer) rows (outer ++ value ∷ [])
+    subst (λ n. get_or (bounds_of n rows).levels (length outer) [] ≡ get_or scan.levels (length outer) []) size (level-of scan rows (length outer) fits.is) in
+    let met = last-level (length outer) rows (outer ++ value ∷ [])
     (subst (λ (l : List Row). IsOpen (length outer) l → ⊥) (sym level) closed)
     (subst (λ (l : List Row). All (Meets (outer ++ value ∷ [])) l) (sym level) allowed) in
-    meets_to rows (outer ++ value ∷ []) met
+    meets-to rows (outer ++ value ∷ []) met

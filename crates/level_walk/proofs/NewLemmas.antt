@@ -17,25 +17,25 @@ use Rattle.level_walk.specs.declared.scans.BlockScan.TheVariants.{Scanned, Liste
 use Rattle.level_walk.specs.Listings.{after_head, listed_in}
 use Rattle.arrayvec.specs.ArrayVec.{ArrayVec}
 use Rattle.level_walk.specs.declared.states.State.{State}
-use Rattle.level_walk.proofs.StateLemmas.{packed_stands}
+use Rattle.level_walk.proofs.StateLemmas.{packed-stands}
 
-abbrev pub done_place : Place
-done_place = record { at = []; last = []; done = true }
+abbrev pub done-place : Place
+done-place = record { at = []; last = []; done = true }
 
 pub record IsEnded (state : State) : Type 0 where
-  pub place : place_of state ≡ done_place
+  pub place : place_of state ≡ done-place
   pub run : run_of state ≡ None
   pub head : head_of state ≡ None
   pub depth : state.depth ≡ 0
   pub width : state.width ≡ 0
 
-nothing_left : (lows highs : List ℤ) (b : BlockScan) (state : State) → IsEnded state → left_in lows highs b state ≡ []
-nothing_left lows highs (Scanned b) state is = ap (λ (o : Option Run). block_left (space_of lows highs b) o (place_of state)) is.run
-nothing_left lows highs (Listed b) state is = ap (λ (o : Option (ArrayVec ℤ)). after_head o (listed_in lows highs b.points.items)) is.head
+nothing-left : (lows highs : List ℤ) (b : BlockScan) (state : State) → IsEnded state → left_in lows highs b state ≡ []
+nothing-left lows highs (Scanned b) state is = ap (λ (o : Option Run). block_left (space_of lows highs b) o (place_of state)) is.run
+nothing-left lows highs (Listed b) state is = ap (λ (o : Option (ArrayVec ℤ)). after_head o (listed_in lows highs b.points.items)) is.head
 
-block_done : (n : ℕ) (lows highs : List ℤ) (b : Scanning) → IsScanning n b → BlockStands (space_of lows highs b) None done_place
+block-done : (n : ℕ) (lows highs : List ℤ) (b : Scanning) → IsScanning n b → BlockStands (space_of lows highs b) None done-place
 unfolding left
-block_done n lows highs b is =
+block-done n lows highs b is =
     let levels = is.levels in
     let some = is.some in
     let few = is.few in
@@ -46,46 +46,46 @@ block_done n lows highs b is =
       run = refl;
     }
 
-one_stands : (n : ℕ) (lows highs : List ℤ) (b : BlockScan) (s : State) → IsBlock n b → IsEnded s → StandsIn lows highs b s
-one_stands n lows highs (Scanned b) s is end =
+one-stands : (n : ℕ) (lows highs : List ℤ) (b : BlockScan) (s : State) → IsBlock n b → IsEnded s → StandsIn lows highs b s
+one-stands n lows highs (Scanned b) s is end =
     let levels = is.levels in
     let few = is.few in
     let depth = end.depth in
     let width = end.width in
-    packed_stands (space_of lows highs b) s None done_place (omega (arith, depth)) (omega (arith, width)) (omega (arith, levels, few)) end.place end.run (block_done n lows highs b is)
-one_stands n lows highs (Listed b) s is end = let width = end.width in omega (arith, width)
+    packed-stands (space_of lows highs b) s None done-place (omega (arith, depth)) (omega (arith, width)) (omega (arith, levels, few)) end.place end.run (block-done n lows highs b is)
+one-stands n lows highs (Listed b) s is end = let width = end.width in omega (arith, width)
 
-pub ended_stands : (n : ℕ) (lows highs : List ℤ) (bs : List BlockScan) (ss : List State) → AllByRecursion (IsBlock n) bs → AllByRecursion IsEnded ss → AllStand lows highs bs ss
-ended_stands n lows highs [] ss blocks all = tt
-ended_stands n lows highs (b ∷ bs) [] blocks all = tt
-ended_stands n lows highs (b ∷ bs) (s ∷ ss) blocks all = (one_stands n lows highs b s blocks.0 all.0, ended_stands n lows highs bs ss blocks.1 all.1)
+pub ended-stands : (n : ℕ) (lows highs : List ℤ) (bs : List BlockScan) (ss : List State) → AllByRecursion (IsBlock n) bs → AllByRecursion IsEnded ss → AllStand lows highs bs ss
+ended-stands n lows highs [] ss blocks all = tt
+ended-stands n lows highs (b ∷ bs) [] blocks all = tt
+ended-stands n lows highs (b ∷ bs) (s ∷ ss) blocks all = (one-stands n lows highs b s blocks.0 all.0, ended-stands n lows highs bs ss blocks.1 all.1)
 
-pub ended_ordered : (lows highs : List ℤ) (bs : List BlockScan) (ss : List State) → AllByRecursion IsEnded ss → AllOrdered (all_left lows highs bs ss)
-ended_ordered lows highs [] ss all = tt
-ended_ordered lows highs (b ∷ bs) [] all = tt
-ended_ordered lows highs (b ∷ bs) (s ∷ ss) all =
-    subst (λ l. AllOrdered (l ∷ all_left lows highs bs ss)) (sym (nothing_left lows highs b s all.0)) (tt, ended_ordered lows highs bs ss all.1)
+pub ended-ordered : (lows highs : List ℤ) (bs : List BlockScan) (ss : List State) → AllByRecursion IsEnded ss → AllOrdered (all_left lows highs bs ss)
+ended-ordered lows highs [] ss all = tt
+ended-ordered lows highs (b ∷ bs) [] all = tt
+ended-ordered lows highs (b ∷ bs) (s ∷ ss) all =
+    subst (λ l. AllOrdered (l ∷ all_left lows highs bs ss)) (sym (nothing-left lows highs b s all.0)) (tt, ended-ordered lows highs bs ss all.1)
 
-nothing_tagged : (lows highs : List ℤ) (r : ℕ) (bs : List BlockScan) (ss : List State) → AllByRecursion IsEnded ss → tagged r (all_left lows highs bs ss) ≡ []
-nothing_tagged lows highs r [] ss all = refl
-nothing_tagged lows highs r (b ∷ bs) [] all = refl
-nothing_tagged lows highs r (b ∷ bs) (s ∷ ss) all =
-    ap₂ (λ p q. map (tag r) p ++ q) (nothing_left lows highs b s all.0) (nothing_tagged lows highs (suc r) bs ss all.1)
+nothing-tagged : (lows highs : List ℤ) (r : ℕ) (bs : List BlockScan) (ss : List State) → AllByRecursion IsEnded ss → tagged r (all_left lows highs bs ss) ≡ []
+nothing-tagged lows highs r [] ss all = refl
+nothing-tagged lows highs r (b ∷ bs) [] all = refl
+nothing-tagged lows highs r (b ∷ bs) (s ∷ ss) all =
+    ap₂ (λ p q. map (tag r) p ++ q) (nothing-left lows highs b s all.0) (nothing-tagged lows highs (suc r) bs ss all.1)
 
-pub nothing_merged : (lows highs : List ℤ) (bs : List BlockScan) (ss : List State) → AllByRecursion IsEnded ss → merged (all_left lows highs bs ss) ≡ []
+pub nothing-merged : (lows highs : List ℤ) (bs : List BlockScan) (ss : List State) → AllByRecursion IsEnded ss → merged (all_left lows highs bs ss) ≡ []
 unfolding merged
-nothing_merged lows highs bs ss all = ap sorted (nothing_tagged lows highs 0 bs ss all)
+nothing-merged lows highs bs ss all = ap sorted (nothing-tagged lows highs 0 bs ss all)
 
-zeros_long : (n : ℕ) → length (replicate n (pos 0)) ≡ n
-zeros_long zero = refl
-zeros_long (suc n) = ap suc (zeros_long n)
+zeros-long : (n : ℕ) → length (replicate n (pos 0)) ≡ n
+zeros-long zero = refl
+zeros-long (suc n) = ap suc (zeros-long n)
 
-zero_within : IsWithin LOWEST HIGHEST (pos 0)
-zero_within = record { least = omega (arith, ints); greatest = omega (arith, ints) }
+zero-within : IsWithin LOWEST HIGHEST (pos 0)
+zero-within = record { least = omega (arith, ints); greatest = omega (arith, ints) }
 
-zeros_within : (n : ℕ) → AllByRecursion (IsWithin LOWEST HIGHEST) (replicate n (pos 0))
-zeros_within zero = tt
-zeros_within (suc n) = (zero_within, zeros_within n)
+zeros-within : (n : ℕ) → AllByRecursion (IsWithin LOWEST HIGHEST) (replicate n (pos 0))
+zeros-within zero = tt
+zeros-within (suc n) = (zero-within, zeros-within n)
 
-pub zeros_box : (n : ℕ) → IsBox n (replicate n (pos 0)) (replicate n (pos 0))
-zeros_box n = record { long_lows = zeros_long n; long_highs = zeros_long n; within_lows = zeros_within n; within_highs = zeros_within n }
+pub zeros-box : (n : ℕ) → IsBox n (replicate n (pos 0)) (replicate n (pos 0))
+zeros-box n = record { long_lows = zeros-long n; long_highs = zeros-long n; within_lows = zeros-within n; within_highs = zeros-within n }

@@ -10,7 +10,7 @@ use Rattle.std.proofs.lemmas.Int.{ints}
 use Rattle.orders.specs.Orders.{Ordered, Has}
 use Rattle.level_walk.specs.Orders.{Precedes}
 use Rattle.level_walk.specs.Spaces.{Space, AllWithin, ListsPoints, points, span, spread}
-use Rattle.level_walk.proofs.Spreads.{span_is, span_inside}
+use Rattle.level_walk.proofs.Spreads.{span-is, span-inside}
 
 start : (first : ℤ) → first ≡ first +ℤ pos 0
 start first = omega (arith, ints)
@@ -24,66 +24,66 @@ module _ {X : Type 0} where
   all_has P (y ∷ ys) x all (inl e) = subst P (sym e) all.0
   all_has P (y ∷ ys) x all (inr h) = all_has P ys x all.1 h
 
-  pub all_from : (P : X → Type 0) (xs : List X) → ((x : X) → Has xs x → P x) → AllByRecursion P xs
-  all_from P [] h = tt
-  all_from P (x ∷ xs) h = (h x (inl refl), all_from P xs (λ y k. h y (inr k)))
+  pub all-from : (P : X → Type 0) (xs : List X) → ((x : X) → Has xs x → P x) → AllByRecursion P xs
+  all-from P [] h = tt
+  all-from P (x ∷ xs) h = (h x (inl refl), all-from P xs (λ y k. h y (inr k)))
 
-  pub has_left : (us vs : List X) (x : X) → Has us x → Has (us ++ vs) x
-  has_left [] vs x h = absurd h
-  has_left (u ∷ us) vs x (inl e) = inl e
-  has_left (u ∷ us) vs x (inr h) = inr (has_left us vs x h)
+  pub has-left : (us vs : List X) (x : X) → Has us x → Has (us ++ vs) x
+  has-left [] vs x h = absurd h
+  has-left (u ∷ us) vs x (inl e) = inl e
+  has-left (u ∷ us) vs x (inr h) = inr (has-left us vs x h)
 
-  pub has_right : (us vs : List X) (x : X) → Has vs x → Has (us ++ vs) x
-  has_right [] vs x h = h
-  has_right (u ∷ us) vs x h = inr (has_right us vs x h)
+  pub has-right : (us vs : List X) (x : X) → Has vs x → Has (us ++ vs) x
+  has-right [] vs x h = h
+  has-right (u ∷ us) vs x h = inr (has-right us vs x h)
 
-  pub has_cases : (us vs : List X) (x : X) → Has (us ++ vs) x → Has us x ⊎ Has vs x
-  has_cases [] vs x h = inr h
-  has_cases (u ∷ us) vs x (inl e) = inl (inl e)
-  has_cases (u ∷ us) vs x (inr h) = ⊎_elim (λ k. inl (inr k)) (λ k. inr k) (has_cases us vs x h)
+  pub has-cases : (us vs : List X) (x : X) → Has (us ++ vs) x → Has us x ⊎ Has vs x
+  has-cases [] vs x h = inr h
+  has-cases (u ∷ us) vs x (inl e) = inl (inl e)
+  has-cases (u ∷ us) vs x (inr h) = ⊎_elim (λ k. inl (inr k)) (λ k. inr k) (has-cases us vs x h)
 
-  pub ordered_append : (R : X → X → Type 0) (us vs : List X) → Ordered R us → Ordered R vs → ((u v : X) → Has us u → Has vs v → R u v) → Ordered R (us ++ vs)
-  ordered_append R [] vs left right across = right
-  ordered_append R (u ∷ us) vs left right across = (
-    all_from (R u) (us ++ vs) (λ z h. ⊎_elim (λ k. all_has (R u) us z left.0 k) (λ k. across u z (inl refl) k) (has_cases us vs z h)),
-    ordered_append R us vs left.1 right (λ a b h k. across a b (inr h) k),
+  pub ordered-append : (R : X → X → Type 0) (us vs : List X) → Ordered R us → Ordered R vs → ((u v : X) → Has us u → Has vs v → R u v) → Ordered R (us ++ vs)
+  ordered-append R [] vs left right across = right
+  ordered-append R (u ∷ us) vs left right across = (
+    all-from (R u) (us ++ vs) (λ z h. ⊎_elim (λ k. all_has (R u) us z left.0 k) (λ k. across u z (inl refl) k) (has-cases us vs z h)),
+    ordered-append R us vs left.1 right (λ a b h k. across a b (inr h) k),
   )
 
-  pub spread_from : (n : ℕ) (first : ℤ) (f : ℤ → List X) (x : X) → Has (spread n first f) x → (i : ℕ) × (i < n) × Has (f (first +ℤ pos i)) x
-  spread_from zero first f x h = absurd h
-  spread_from (suc n) first f x h = ⊎_elim
+  pub spread-from : (n : ℕ) (first : ℤ) (f : ℤ → List X) (x : X) → Has (spread n first f) x → (i : ℕ) × (i < n) × Has (f (first +ℤ pos i)) x
+  spread-from zero first f x h = absurd h
+  spread-from (suc n) first f x h = ⊎_elim
       (λ k. (0, omega arith, subst (λ (v : ℤ). Has (f v) x) (start first) k))
-      (λ k. let (i, below, has) = spread_from n (first +ℤ pos 1) f x k in (suc i, omega arith, subst (λ (v : ℤ). Has (f v) x) (shift first i) has))
-      (has_cases (f first) (spread n (first +ℤ pos 1) f) x h)
+      (λ k. let (i, below, has) = spread-from n (first +ℤ pos 1) f x k in (suc i, omega arith, subst (λ (v : ℤ). Has (f v) x) (shift first i) has))
+      (has-cases (f first) (spread n (first +ℤ pos 1) f) x h)
 
-  pub spread_to : (n : ℕ) (first : ℤ) (f : ℤ → List X) (x : X) (i : ℕ) → i < n → Has (f (first +ℤ pos i)) x → Has (spread n first f) x
-  spread_to zero first f x i below h = absurd (omega arith)
-  spread_to (suc n) first f x zero below h = has_left (f first) (spread n (first +ℤ pos 1) f) x (subst (λ (v : ℤ). Has (f v) x) (sym (start first)) h)
-  spread_to (suc n) first f x (suc i) below h =
-      has_right (f first) (spread n (first +ℤ pos 1) f) x (spread_to n (first +ℤ pos 1) f x i (omega arith) (subst (λ (v : ℤ). Has (f v) x) (sym (shift first i)) h))
+  pub spread-to : (n : ℕ) (first : ℤ) (f : ℤ → List X) (x : X) (i : ℕ) → i < n → Has (f (first +ℤ pos i)) x → Has (spread n first f) x
+  spread-to zero first f x i below h = absurd (omega arith)
+  spread-to (suc n) first f x zero below h = has-left (f first) (spread n (first +ℤ pos 1) f) x (subst (λ (v : ℤ). Has (f v) x) (sym (start first)) h)
+  spread-to (suc n) first f x (suc i) below h =
+      has-right (f first) (spread n (first +ℤ pos 1) f) x (spread-to n (first +ℤ pos 1) f x i (omega arith) (subst (λ (v : ℤ). Has (f v) x) (sym (shift first i)) h))
 
-  pub spread_ordered : (R : X → X → Type 0) (n : ℕ) (first : ℤ) (f : ℤ → List X) → ((v : ℤ) → Ordered R (f v)) → ((v w : ℤ) (x y : X) → v <ℤ w → Has (f v) x → Has (f w) y → R x y) → Ordered R (spread n first f)
-  spread_ordered R zero first f each across = tt
-  spread_ordered R (suc n) first f each across = ordered_append R (f first) (spread n (first +ℤ pos 1) f) (each first) (spread_ordered R n (first +ℤ pos 1) f each across)
-      (λ x y h k. let (i, below, has) = spread_from n (first +ℤ pos 1) f y k in across first ((first +ℤ pos 1) +ℤ pos i) x y (omega (arith, ints)) h has)
+  pub spread-ordered : (R : X → X → Type 0) (n : ℕ) (first : ℤ) (f : ℤ → List X) → ((v : ℤ) → Ordered R (f v)) → ((v w : ℤ) (x y : X) → v <ℤ w → Has (f v) x → Has (f w) y → R x y) → Ordered R (spread n first f)
+  spread-ordered R zero first f each across = tt
+  spread-ordered R (suc n) first f each across = ordered-append R (f first) (spread n (first +ℤ pos 1) f) (each first) (spread-ordered R n (first +ℤ pos 1) f each across)
+      (λ x y h k. let (i, below, has) = spread-from n (first +ℤ pos 1) f y k in across first ((first +ℤ pos 1) +ℤ pos i) x y (omega (arith, ints)) h has)
 
 -- lexicographic order
 
-step_same : (a : ℤ) (o : Ordering) → ordering_then (int_cmp a a) o ≡ o
-step_same a o = ap (λ (r : Ordering). ordering_then r o) (tied_itself int_cmp_total a)
+step-same : (a : ℤ) (o : Ordering) → ordering_then (int_cmp a a) o ≡ o
+step-same a o = ap (λ (r : Ordering). ordering_then r o) (tied_itself int_cmp_total a)
 
-same_front : (us xs ys : List ℤ) → slice_cmp int_cmp (us ++ xs) (us ++ ys) ≡ slice_cmp int_cmp xs ys
-same_front [] xs ys = refl
-same_front (u ∷ us) xs ys = step_same u (slice_cmp int_cmp (us ++ xs) (us ++ ys)) ∙ same_front us xs ys
+same-front : (us xs ys : List ℤ) → slice_cmp int_cmp (us ++ xs) (us ++ ys) ≡ slice_cmp int_cmp xs ys
+same-front [] xs ys = refl
+same-front (u ∷ us) xs ys = step-same u (slice_cmp int_cmp (us ++ xs) (us ++ ys)) ∙ same-front us xs ys
 
 less : (a b : ℤ) → a <ℤ b → int_cmp a b ≡ Less
 less a b h = sym (int_cmp_is a b Less h)
 
-step_less : (a b : ℤ) (o : Ordering) → a <ℤ b → ordering_then (int_cmp a b) o ≡ Less
-step_less a b o l = ap (λ (r : Ordering). ordering_then r o) (less a b l)
+step-less : (a b : ℤ) (o : Ordering) → a <ℤ b → ordering_then (int_cmp a b) o ≡ Less
+step-less a b o l = ap (λ (r : Ordering). ordering_then r o) (less a b l)
 
-pub precedes_at : (outer : List ℤ) (v w : ℤ) (xs ys : List ℤ) → v <ℤ w → Precedes (outer ++ v ∷ xs) (outer ++ w ∷ ys)
-precedes_at outer v w xs ys h = same_front outer (v ∷ xs) (w ∷ ys) ∙ step_less v w (slice_cmp int_cmp xs ys) h
+pub precedes-at : (outer : List ℤ) (v w : ℤ) (xs ys : List ℤ) → v <ℤ w → Precedes (outer ++ v ∷ xs) (outer ++ w ∷ ys)
+precedes-at outer v w xs ys h = same-front outer (v ∷ xs) (w ∷ ys) ∙ step-less v w (slice_cmp int_cmp xs ys) h
 
 -- the points
 
@@ -98,23 +98,23 @@ pub record IsFrom (s : Space) (n : ℕ) (outer point : List ℤ) : Type 0 where
   pub within : AllWithin s rest
   pub accepted : s.accepts point ≡ true
 
-pub points_from : (s : Space) (n : ℕ) (outer point : List ℤ) → Has (points s n outer) point → IsFrom s n outer point
+pub points-from : (s : Space) (n : ℕ) (outer point : List ℤ) → Has (points s n outer) point → IsFrom s n outer point
 unfolding points
-points_from s zero outer point h = at (s.accepts outer) refl h
+points-from s zero outer point h = at (s.accepts outer) refl h
   where
     at : (b : Bool) → s.accepts outer ≡ b → Has (if b then outer ∷ [] else []) point → IsFrom s zero outer point
     at true e (inl is) = record { rest = []; is = is ∙ sym (append_nil outer); long = refl; within = tt; accepted = ap s.accepts is ∙ e }
     at true e (inr k) = absurd k
     at false e k = absurd k
-points_from s (suc n) outer point h =
-    let (i, below, has) = spread_from (span s.least s.greatest) s.least (λ value. points s n (outer ++ value ∷ [])) point h in
-    let deeper = points_from s n (outer ++ (s.least +ℤ pos i) ∷ []) point has in
+points-from s (suc n) outer point h =
+    let (i, below, has) = spread-from (span s.least s.greatest) s.least (λ value. points s n (outer ++ value ∷ [])) point h in
+    let deeper = points-from s n (outer ++ (s.least +ℤ pos i) ∷ []) point has in
     let long = deeper.long in
     record {
       rest = (s.least +ℤ pos i) ∷ deeper.rest;
       is = deeper.is ∙ append_assoc outer ((s.least +ℤ pos i) ∷ []) deeper.rest;
       long = omega (arith, long);
-      within = (record { least = omega (arith, ints); greatest = span_inside s.least s.greatest i below }, deeper.within);
+      within = (record { least = omega (arith, ints); greatest = span-inside s.least s.greatest i below }, deeper.within);
       accepted = deeper.accepted;
     }
 
@@ -125,51 +125,51 @@ offset low value h = at (value -ℤ low) refl
     at (pos i) e = (i, omega (arith, ints, e))
     at (negsuc i) e = absurd (omega (arith, ints, e, h))
 
-pub points_to : (s : Space) (n : ℕ) (outer rest : List ℤ) → length rest ≡ n → AllWithin s rest → s.accepts (outer ++ rest) ≡ true → Has (points s n outer) (outer ++ rest)
+pub points-to : (s : Space) (n : ℕ) (outer rest : List ℤ) → length rest ≡ n → AllWithin s rest → s.accepts (outer ++ rest) ≡ true → Has (points s n outer) (outer ++ rest)
 unfolding points
-points_to s zero outer [] long within taken =
+points-to s zero outer [] long within taken =
     let same : outer ++ [] ≡ outer = append_nil outer in
     let here : s.accepts outer ≡ true = ap s.accepts (sym same) ∙ taken in
     rw here (inl same)
-points_to s zero outer (v ∷ rest) long within taken = absurd (omega arith)
-points_to s (suc n) outer [] long within taken = absurd (omega arith)
-points_to s (suc n) outer (v ∷ rest) long within taken =
+points-to s zero outer (v ∷ rest) long within taken = absurd (omega arith)
+points-to s (suc n) outer [] long within taken = absurd (omega arith)
+points-to s (suc n) outer (v ∷ rest) long within taken =
     let (i, is) = offset s.least v within.0.least in
     let front : (outer ++ v ∷ []) ++ rest ≡ outer ++ v ∷ rest = append_assoc outer (v ∷ []) rest in
-    let deeper = points_to s n (outer ++ v ∷ []) rest (omega arith) within.1 (ap s.accepts front ∙ taken) in
-    let size = span_is s.least s.greatest (bound v within.0.least within.0.greatest) in
-    spread_to (span s.least s.greatest) s.least (λ value. points s n (outer ++ value ∷ [])) (outer ++ v ∷ rest) i
+    let deeper = points-to s n (outer ++ v ∷ []) rest (omega arith) within.1 (ap s.accepts front ∙ taken) in
+    let size = span-is s.least s.greatest (bound v within.0.least within.0.greatest) in
+    spread-to (span s.least s.greatest) s.least (λ value. points s n (outer ++ value ∷ [])) (outer ++ v ∷ rest) i
     (let top = within.0.greatest in omega (arith, ints, size, is, top))
     (subst (λ (w : ℤ). Has (points s n (outer ++ w ∷ [])) (outer ++ v ∷ rest)) (sym is) (subst (Has (points s n (outer ++ v ∷ []))) front deeper))
   where
     bound : (v : ℤ) → s.least ≤ℤ v → v ≤ℤ s.greatest → s.least ≤ℤ (s.greatest +ℤ pos 1)
     bound v a b = omega (arith, ints)
 
-pub points_ordered : (s : Space) (n : ℕ) (outer : List ℤ) → Ordered Precedes (points s n outer)
+pub points-ordered : (s : Space) (n : ℕ) (outer : List ℤ) → Ordered Precedes (points s n outer)
 unfolding points
-points_ordered s zero outer = at (s.accepts outer)
+points-ordered s zero outer = at (s.accepts outer)
   where
     at : (b : Bool) → Ordered Precedes (if b then outer ∷ [] else [])
     at true = (tt, tt)
     at false = tt
-points_ordered s (suc n) outer = spread_ordered Precedes (span s.least s.greatest) s.least (λ value. points s n (outer ++ value ∷ []))
-    (λ v. points_ordered s n (outer ++ v ∷ []))
+points-ordered s (suc n) outer = spread-ordered Precedes (span s.least s.greatest) s.least (λ value. points s n (outer ++ value ∷ []))
+    (λ v. points-ordered s n (outer ++ v ∷ []))
     (λ v w x y l h k.
-    let first = points_from s n (outer ++ v ∷ []) x h in
-    let second = points_from s n (outer ++ w ∷ []) y k in
+    let first = points-from s n (outer ++ v ∷ []) x h in
+    let second = points-from s n (outer ++ w ∷ []) y k in
     let one : x ≡ outer ++ v ∷ first.rest = first.is ∙ append_assoc outer (v ∷ []) first.rest in
     let two : y ≡ outer ++ w ∷ second.rest = second.is ∙ append_assoc outer (w ∷ []) second.rest in
-    subst (λ (p : List ℤ). Precedes p y) (sym one) (subst (Precedes (outer ++ v ∷ first.rest)) (sym two) (precedes_at outer v w first.rest second.rest l)))
+    subst (λ (p : List ℤ). Precedes p y) (sym one) (subst (Precedes (outer ++ v ∷ first.rest)) (sym two) (precedes-at outer v w first.rest second.rest l)))
 
-pub lists_points : (s : Space) → ListsPoints s (points s s.levels [])
-lists_points s = record {
-  ordered = points_ordered s s.levels [];
+pub lists-points : (s : Space) → ListsPoints s (points s s.levels [])
+lists-points s = record {
+  ordered = points-ordered s s.levels [];
   same = λ point. (
-    λ h. let from = points_from s s.levels [] point h in record {
+    λ h. let from = points-from s s.levels [] point h in record {
       long = ap length from.is ∙ from.long;
       within = subst (AllWithin s) (sym from.is) from.within;
       accepted = from.accepted;
     },
-    λ is. points_to s s.levels [] point is.long is.within is.accepted,
+    λ is. points-to s s.levels [] point is.long is.within is.accepted,
   );
 }

@@ -9,8 +9,8 @@ use Rattle.line_fit.specs.Samples.{Sample, IsCoefficient}
 use Rattle.line_fit.specs.Lines.{largest, AreCoefficients, IsLargeCoefficient}
 
 -- what holds of each number before a place, and of a new number there, holds of each after the number is put there
-pub below_set : (P : ℕ → ℤ → Type 0) (numbers : List ℤ) (i : ℕ) (v : ℤ) → i < length numbers → ((k : ℕ) → k < i → P k (get_or numbers k (pos 0))) → P i v → (k : ℕ) → k < i + 1 → P k (get_or (slice_set numbers i v) k (pos 0))
-below_set P numbers i v within before here =
+pub below-set : (P : ℕ → ℤ → Type 0) (numbers : List ℤ) (i : ℕ) (v : ℤ) → i < length numbers → ((k : ℕ) → k < i → P k (get_or numbers k (pos 0))) → P i v → (k : ℕ) → k < i + 1 → P k (get_or (slice_set numbers i v) k (pos 0))
+below-set P numbers i v within before here =
     below_more (λ k. P k (get_or (slice_set numbers i v) k (pos 0))) i
     (λ k h. let apart : k ≢ i = omega arith in subst (P k) (sym (get_or-set_other numbers i k v (pos 0) apart)) (before k h))
     (subst (P i) (sym (get_or-set_same numbers i v (pos 0) within)) here)

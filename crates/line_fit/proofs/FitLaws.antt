@@ -25,15 +25,15 @@ constant-large n samples coef constant line small large = inr (record { line = r
 residual-zero : (line : Affine) (s : Sample) → value_at line s.at ≡ s.value → residual line s ≡ pos 0
 residual-zero line s e = rw e (omega (arith, ints))
 
-pub tube-holds_zero : (n : ℕ) (samples : List Sample) (line : Affine) (low high : ℤ) → 0 < length samples → IsLine n samples line → IsTube line samples low high → (low ≤ℤ pos 0) × (pos 0 ≤ℤ high)
-tube-holds_zero n samples line low high some through tube =
+pub tube-holds-zero : (n : ℕ) (samples : List Sample) (line : Affine) (low high : ℤ) → 0 < length samples → IsLine n samples line → IsTube line samples low high → (low ≤ℤ pos 0) × (pos 0 ≤ℤ high)
+tube-holds-zero n samples line low high some through tube =
     let about = tube.about 0 some in
     let zero = residual-zero line (sample_at samples 0) through.meets in
     (subst (λ (z : ℤ). low ≤ℤ z) zero about.0, subst (λ (z : ℤ). z ≤ℤ high) zero about.1)
 
 -- a line that meets every sample has the tube (0, 0)
-pub tube-of_met : (samples : List Sample) (line : Affine) (low high : ℤ) (widest : ℕ) → IsTube line samples low high → ((place : ℕ) → place < length samples → Meets line samples place) → pos widest <ℤ (high -ℤ low) → ⊥
-tube-of_met samples line low high widest tube met wide =
+pub tube-of-met : (samples : List Sample) (line : Affine) (low high : ℤ) (widest : ℕ) → IsTube line samples low high → ((place : ℕ) → place < length samples → Meets line samples place) → pos widest <ℤ (high -ℤ low) → ⊥
+tube-of-met samples line low high widest tube met wide =
     let least : low ≡ pos 0 = sym tube.least.2 ∙ residual-zero line (sample_at samples tube.least.0) (met tube.least.0 tube.least.1) in
     let greatest : high ≡ pos 0 = sym tube.greatest.2 ∙ residual-zero line (sample_at samples tube.greatest.0) (met tube.greatest.0 tube.greatest.1) in
     omega (arith, ints)

@@ -14,11 +14,11 @@ use Rattle.line_fit.specs.Laws.{CoefficientIsOne, LineIsOne, FitIsOne, SamplesLi
 cases : (a b : ℕ) → (a < b) ⊎ ((a ≡ b) ⊎ (b < a))
 cases a b = grind arith
 
-same_to : (k : ℕ) (samples : List Sample) (a b c d : ℕ) → IsFirstStep k samples a b → IsFirstStep k samples c d → b ≡ d
-same_to k samples a b c d one two = elim (cases b d) [ inl less ↦ absurd (two.first a b less one.step) | inr rest ↦ elim rest [ inl same ↦ same | inr more ↦ absurd (one.first c d more two.step) ] ]
+same-to : (k : ℕ) (samples : List Sample) (a b c d : ℕ) → IsFirstStep k samples a b → IsFirstStep k samples c d → b ≡ d
+same-to k samples a b c d one two = elim (cases b d) [ inl less ↦ absurd (two.first a b less one.step) | inr rest ↦ elim rest [ inl same ↦ same | inr more ↦ absurd (one.first c d more two.step) ] ]
 
-same_from : (k : ℕ) (samples : List Sample) (a b c d : ℕ) → IsFirstStep k samples a b → IsFirstStep k samples c d → b ≡ d → a ≡ c
-same_from k samples a b c d one two same =
+same-from : (k : ℕ) (samples : List Sample) (a b c d : ℕ) → IsFirstStep k samples a b → IsFirstStep k samples c d → b ≡ d → a ≡ c
+same-from k samples a b c d one two same =
     elim (cases a c) [
       | inl less ↦ absurd (two.only a less (subst (IsStep k samples a) same one.step))
       | inr rest ↦ elim rest [ inl e ↦ e | inr more ↦ absurd (one.only c more (subst (IsStep k samples c) (sym same) two.step)) ]
@@ -29,8 +29,8 @@ coefficient-one k samples c d (inl none) (inl other) = none.1 ∙ sym other.1
 coefficient-one k samples c d (inl none) (inr rise) = absurd (none.0 rise.from rise.to rise.step.step)
 coefficient-one k samples c d (inr rise) (inl none) = absurd (none.0 rise.from rise.to rise.step.step)
 coefficient-one k samples c d (inr one) (inr two) =
-    let to = same_to k samples one.from one.to two.from two.to one.step two.step in
-    let from = same_from k samples one.from one.to two.from two.to one.step two.step to in
+    let to = same-to k samples one.from one.to two.from two.to one.step two.step in
+    let from = same-from k samples one.from one.to two.from two.to one.step two.step to in
     one.difference ∙ ap (λ (b : ℕ). (sample_at samples b).value -ℤ (sample_at samples one.from).value) to ∙ ap (λ (a : ℕ). (sample_at samples two.to).value -ℤ (sample_at samples a).value) from ∙ sym two.difference
 
 -- ---- one line
@@ -55,8 +55,8 @@ abbrev tube_of : Affine → ℤ → ℤ → Tube
 tube_of line low high = record { line = line; low = low; high = high }
 
 -- two lines with the same coefficients that both meet a sample are the same
-same_line : (line other : Affine) (s : Sample) → line.coef ≡ other.coef → value_at line s.at ≡ s.value → value_at other s.at ≡ s.value → line ≡ other
-same_line line other s coef one two =
+same-line : (line other : Affine) (s : Sample) → line.coef ≡ other.coef → value_at line s.at ≡ s.value → value_at other s.at ≡ s.value → line ≡ other
+same-line line other s coef one two =
     let turned : dot line.coef s.at +ℤ other.cst ≡ s.value = ap (λ (q : List ℤ). dot q s.at +ℤ other.cst) coef ∙ two in
     let cst : line.cst ≡ other.cst = cancel (dot line.coef s.at) line.cst other.cst (one ∙ sym turned) in
     let first : line ≡ affine other.coef line.cst = ap (λ (q : List ℤ). affine q line.cst) coef in
@@ -64,7 +64,7 @@ same_line line other s coef one two =
 
 pub line-one : LineIsOne
 line-one n samples line other one two =
-    same_line line other (sample_at samples 0)
+    same-line line other (sample_at samples 0)
     (same_numbers line.coef other.coef (one.coefficients.counters ∙ sym two.coefficients.counters)
     (λ k h. let within : k < n = subst (λ (m : ℕ). k < m) one.coefficients.counters h in coefficient-one k samples _ _ (one.coefficients.each k within) (two.coefficients.each k within)))
     one.meets two.meets
@@ -92,8 +92,8 @@ fit-one n widest samples tube other some one two =
 
 -- ---- in the tube
 
-pub lie_in_tube : SamplesLieInTube
-lie_in_tube n widest samples tube fit place h =
+pub lie-in-tube : SamplesLieInTube
+lie-in-tube n widest samples tube fit place h =
     let about = fit.spread.about place h in let low = about.0 in let high = about.1 in
     (above (value_at tube.line (sample_at samples place).at) (sample_at samples place).value tube.low low, below (value_at tube.line (sample_at samples place).at) (sample_at samples place).value tube.high high)
   where
@@ -146,7 +146,7 @@ only-affine n widest samples tube some sizes fit low high pairs = (mine, others)
 
     others : (other : Affine) → length other.coef ≡ n → ((place : ℕ) → place < length samples → Meets other samples place) → other ≡ tube.line
     others other size meets =
-        same_line other tube.line (sample_at samples 0)
+        same-line other tube.line (sample_at samples 0)
         (same_numbers other.coef tube.line.coef (size ∙ sym fit.line.coefficients.counters) (λ k h. let within : k < n = subst (λ (m : ℕ). k < m) size h in each k within))
         (meets 0 some) (mine 0 some)
       where
@@ -160,22 +160,22 @@ only-affine n widest samples tube some sizes fit low high pairs = (mine, others)
 
 -- ---- a fit, or none
 
-not_large : (n : ℕ) (samples : List Sample) (line : Affine) → IsLine n samples line → IsSmall line → (number : ℤ) → IsLarge n samples number → ⊥
-not_large n samples line through small number (inl large) =
+not-large : (n : ℕ) (samples : List Sample) (line : Affine) → IsLine n samples line → IsSmall line → (number : ℤ) → IsLarge n samples number → ⊥
+not-large n samples line through small number (inl large) =
     let is = coefficient-one large.counter samples number _ large.is (through.coefficients.each large.counter large.within) in
     let within : large.counter < length line.coef = subst (λ (m : ℕ). large.counter < m) (sym through.coefficients.counters) large.within in
     let kept : unsigned_abs number ≤ largest = subst (λ (z : ℤ). unsigned_abs z ≤ largest) (sym is) (small.coefficients large.counter (pos 0) within) in
     let size = large.large in
     omega arith
-not_large n samples line through small number (inr large) =
+not-large n samples line through small number (inr large) =
     let same = line-one n samples large.line line large.through through in
     large.large (subst (FitsSigned w64) (sym (large.is ∙ ap (λ (l : Affine). l.cst) same)) small.constant)
 
 pub fit-or-unfit : FitOrUnfit
-fit-or-unfit n widest samples tube some fit = (not_large n samples tube.line fit.line fit.small, not_wide)
+fit-or-unfit n widest samples tube some fit = (not-large n samples tube.line fit.line fit.small, not-wide)
   where
-    not_wide : (miss : Miss) → IsTooWide n widest samples miss → ⊥
-    not_wide miss wide =
+    not-wide : (miss : Miss) → IsTooWide n widest samples miss → ⊥
+    not-wide miss wide =
         let line = line-one n samples tube.line wide.line fit.line wide.through in
         let spread = subst (λ (l : Affine). IsTube l samples wide.low wide.high) (sym line) wide.spread in
         let low = least-one samples tube.line tube.low tube.high wide.low wide.high fit.spread spread in

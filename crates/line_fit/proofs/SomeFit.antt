@@ -12,7 +12,7 @@ use Rattle.line_fit.specs.Samples.{Sample, sample_at, one_less, IsStep, IsCoeffi
 use Rattle.line_fit.specs.Lines.{largest, residual, IsLine, IsSmall, IsLarge, IsLargeCoefficient, IsTube, IsFirstMiss, Miss, Meets}
 use Rattle.line_fit.specs.Laws.{FitOrReason, ReasonIsOne}
 use Rattle.line_fit.proofs.CoefficientLaws.{coefficients-whole, large-found}
-use Rattle.line_fit.proofs.FitLaws.{line-found, line-small, constant-large, tube-of_met}
+use Rattle.line_fit.proofs.FitLaws.{line-found, line-small, constant-large, tube-of-met}
 use Rattle.line_fit.proofs.LineLaws.{coefficient-one, line-one}
 use Rattle.line_fit.proofs.TubeLaws.{TubeOver, tube-one, tube-whole}
 
@@ -217,7 +217,7 @@ module _ (line : Affine) (samples : List Sample) where
   -- a line that doesn't meet every sample misses a first one
   missed : (low high : ℤ) (widest : ℕ) → IsTube line samples low high → pos widest <ℤ (high -ℤ low) → (miss : Miss) × IsFirstMiss line samples miss
   missed low high widest spread wide = elim (first (λ place. Meets line samples place → ⊥) (λ place. apart place) (length samples)) [
-    | inr none ↦ absurd (tube-of_met samples line low high widest spread (λ place h. met place (none place h)) wide)
+    | inr none ↦ absurd (tube-of-met samples line low high widest spread (λ place h. met place (none place h)) wide)
     | inl (place, within, (other, before)) ↦ (
       record { at = (sample_at samples place).at; line = value_at line (sample_at samples place).at; seen = (sample_at samples place).value },
       record { place = place; within = within; at = refl; seen = refl; expected = refl; differs = λ e. other (sym e); first = λ earlier h. met earlier (before earlier h) },
@@ -232,8 +232,8 @@ module _ (line : Affine) (samples : List Sample) where
 
 -- ---- the whole
 
-pub fit-or_reason : FitOrReason
-fit-or_reason n widest samples some = elim (small-or-large n samples) [
+pub fit-or-reason : FitOrReason
+fit-or-reason n widest samples some = elim (small-or-large n samples) [
   | inr large ↦ inr (inl large)
   | inl small ↦
       let about = tube (line n samples) samples some in
@@ -255,8 +255,8 @@ not-both k samples number is large small other kept =
     omega (arith, large, size)
 
 -- nor is one of a line whose coefficients are small
-not-of_line : (n : ℕ) (samples : List Sample) (number : ℤ) (line : Affine) → IsLargeCoefficient n samples number → IsLine n samples line → AllWithinSize largest line.coef → ⊥
-not-of_line n samples number line large through small =
+not-of-line : (n : ℕ) (samples : List Sample) (number : ℤ) (line : Affine) → IsLargeCoefficient n samples number → IsLine n samples line → AllWithinSize largest line.coef → ⊥
+not-of-line n samples number line large through small =
     let within : large.counter < length line.coef = subst (λ (m : ℕ). large.counter < m) (sym through.coefficients.counters) large.within in
     not-both large.counter samples number large.is large.large (get_or line.coef large.counter (pos 0)) (through.coefficients.each large.counter large.within) (small large.counter (pos 0) within)
 
@@ -271,18 +271,18 @@ large-one n samples a b (inl one) (inl two) = elim (compared one.counter two.cou
     | inr more ↦ (let small = one.first two.counter more in absurd (not-both two.counter samples b two.is two.large small.coefficient small.is small.small))
   ]
 ]
-large-one n samples a b (inl one) (inr two) = absurd (not-of_line n samples a two.line one two.through two.coefficients)
-large-one n samples a b (inr one) (inl two) = absurd (not-of_line n samples b one.line two one.through one.coefficients)
+large-one n samples a b (inl one) (inr two) = absurd (not-of-line n samples a two.line one two.through two.coefficients)
+large-one n samples a b (inr one) (inl two) = absurd (not-of-line n samples b one.line two one.through one.coefficients)
 large-one n samples a b (inr one) (inr two) = one.is ∙ ap (λ (l : Affine). l.cst) (line-one n samples one.line two.line one.through two.through) ∙ sym two.is
 
 -- a line that can be kept has no number that is too large
 not-large : (n : ℕ) (samples : List Sample) (line : Affine) (number : ℤ) → IsLine n samples line → IsSmall line → IsLarge n samples number → ⊥
-not-large n samples line number through small (inl large) = not-of_line n samples number line large through small.coefficients
+not-large n samples line number through small (inl large) = not-of-line n samples number line large through small.coefficients
 not-large n samples line number through small (inr large) =
     large.large (subst (FitsSigned w64) (sym (large.is ∙ ap (λ (l : Affine). l.cst) (line-one n samples large.line line large.through through))) small.constant)
 
-abbrev miss_of : List ℤ → ℤ → ℤ → Miss
-miss_of at line seen = record { at = at; line = line; seen = seen }
+abbrev miss-of : List ℤ → ℤ → ℤ → Miss
+miss-of at line seen = record { at = at; line = line; seen = seen }
 
 -- a line misses one sample first
 miss-one : (line : Affine) (samples : List Sample) (a b : Miss) → IsFirstMiss line samples a → IsFirstMiss line samples b → a ≡ b
@@ -293,7 +293,7 @@ miss-one line samples a b one two = elim (compared one.place two.place) [
         let at : a.at ≡ b.at = one.at ∙ ap (λ (p : ℕ). (sample_at samples p).at) same ∙ sym two.at in
         let seen : a.seen ≡ b.seen = one.seen ∙ ap (λ (p : ℕ). (sample_at samples p).value) same ∙ sym two.seen in
         let expected : a.line ≡ b.line = one.expected ∙ ap (value_at line) at ∙ sym two.expected in
-        ap (λ (z : List ℤ). miss_of z a.line a.seen) at ∙ ap (λ (z : ℤ). miss_of b.at z a.seen) expected ∙ ap (λ (z : ℤ). miss_of b.at b.line z) seen
+        ap (λ (z : List ℤ). miss-of z a.line a.seen) at ∙ ap (λ (z : ℤ). miss-of b.at z a.seen) expected ∙ ap (λ (z : ℤ). miss-of b.at b.line z) seen
     | inr more ↦ absurd (two.differs (met b two (one.first two.place more)))
   ]
 ]

@@ -24,9 +24,9 @@ step-least k samples b within least numbers c step =
     let fits = numbers c step.earlier in
     let is : get_or (sample_at samples c).at k (pos 0) ≡ get_or (sample_at samples b).at k (pos 0) -ℤ pos 1 = ap (λ at. get_or at k (pos 0)) step.less ∙ get_or-set_same (sample_at samples b).at k (get_or (sample_at samples b).at k (pos 0) -ℤ pos 1) (pos 0) within in
     let below : FitsSigned w64 (negsuc 9223372036854775807 -ℤ pos 1) = subst (FitsSigned w64) (is ∙ ap (λ (z : ℤ). z -ℤ pos 1) least) fits in
-    no_less below
+    no-less below
   where
-    no_less : FitsSigned w64 (negsuc 9223372036854775807 -ℤ pos 1) → ⊥
-    no_less h = let small = h.sfits in omega arith
+    no-less : FitsSigned w64 (negsuc 9223372036854775807 -ℤ pos 1) → ⊥
+    no-less h = let small = h.sfits in omega arith
 
 pub ruleset steps = (step-found, step-first, step-absent, step-late, step-least)

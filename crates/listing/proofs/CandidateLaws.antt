@@ -11,8 +11,8 @@ use Rattle.domain.specs.Tables.{Table}
 use Rattle.transform.specs.Schedules.{Schedule}
 use Rattle.transform.specs.Scripts.{schedule_of}
 use Rattle.transform.specs.Standards.{standard, standard_script, standard_scripts}
-use Rattle.dependence.proofs.AddedLaws.{flat_more}
-use Rattle.dependence.proofs.RangeLaws.{any_default}
+use Rattle.dependence.proofs.AddedLaws.{flat-more}
+use Rattle.dependence.proofs.RangeLaws.{any-default}
 use Rattle.report.specs.declared.line.ListingLine.{ListingLine}
 use Rattle.listing.specs.Lists.{judged_if_any, judgement_at, judgements, judgements_of}
 
@@ -22,9 +22,9 @@ ranged-same : {Y : Type 0} (f g : ℕ → List Y) (n : ℕ) → ((k : ℕ) → k
 ranged-same f g zero same = refl
 ranged-same {Y} f g (suc n) same =
     let here : 0 + n ≡ n = omega arith in
-    flat_more f 0 n
+    flat-more f 0 n
     ∙ ap₂ (λ (xs ys : List Y). xs ++ ys) (ranged-same f g n (λ k l. same k (omega arith))) (ap f here ∙ same n (omega arith) ∙ sym (ap g here))
-    ∙ sym (flat_more g 0 n)
+    ∙ sym (flat-more g 0 n)
 
 -- a range past whose first n numbers nothing is made
 ranged-stop : {Y : Type 0} (f g : ℕ → List Y) (n m : ℕ) → n ≤ m → ((k : ℕ) → k < n → f k ≡ g k) → ((k : ℕ) → n ≤ k → f k ≡ []) → flat_map f (range_with_len 0 m) ≡ flat_map g (range_with_len 0 n)
@@ -35,7 +35,7 @@ ranged-stop {Y} f g n (suc m) l same none = elim (cases_lt m n) [
       ranged-same f g (suc m) (λ k h. same k (omega arith)) ∙ ap (λ (j : ℕ). flat_map g (range_with_len 0 j)) (sym whole)
   | inr more ↦
       let here : 0 + m ≡ m = omega arith in
-      flat_more f 0 m
+      flat-more f 0 m
       ∙ ap (λ (ys : List Y). flat_map f (range_with_len 0 m) ++ ys) (ap f here ∙ none m (omega arith))
       ∙ append-nil (flat_map f (range_with_len 0 m))
       ∙ ranged-stop f g n m (omega arith) same none
@@ -51,7 +51,7 @@ module _ (loops : List Loop) (t : Table) (L : ℤ) (D : ℕ) (deep : length loop
   -- a candidate of the file
   pub own-judged : (scripts : List (List Command)) (k : ℕ) (script d : List Command) (schedule : Option Schedule) → k < length scripts → get_or scripts k d ≡ script → schedule ≡ schedule_of D script
       → judged_if_any loops t L (k + 1) schedule ≡ judgement_at loops t L scripts k
-  own-judged scripts k script d schedule l e s = ap (judged_if_any loops t L (k + 1)) (s ∙ ap₂ schedule_of (sym deep) (sym e ∙ any_default scripts k d [] l))
+  own-judged scripts k script d schedule l e s = ap (judged_if_any loops t L (k + 1)) (s ∙ ap₂ schedule_of (sym deep) (sym e ∙ any-default scripts k d [] l))
 
   abbrev At : ℕ → List ListingLine
   At k = standard_at loops t L D k

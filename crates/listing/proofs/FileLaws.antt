@@ -2,7 +2,7 @@
 use Rattle.std.proofs.Common.{◌≡◌, ℕ, ◌<◌, ◌≤◌, List, [], ◌∷◌, length, length-append, subst, true, nat_le, arith}
 use Rattle.std.specs.List.{All}
 use Rattle.std.proofs.lemmas.List.Elements.{All-head, All-nil, All-push, All-tail}
-use Rattle.plain_lemmas.proofs.MembershipLaws.{All_from, All_has}
+use Rattle.plain_lemmas.proofs.MembershipLaws.{All-from, All-has}
 use Rattle.std.proofs.lemmas.Bool.{and_parts}
 use Rattle.nest_lang.specs.declared.tree.Loop.{Loop}
 use Rattle.nest_lang.specs.Rules.{NestKeeps, loop_keeps, loops_keep}
@@ -49,11 +49,11 @@ units-of_text file of =
     record {
       scalars = keeps.few_scalars;
       count = keeps.few_nests;
-      each = All_from (IsUnitOf (length file.scalars)) file.units
+      each = All-from (IsUnitOf (length file.scalars)) file.units
           (λ u h. record {
             few = keeps.few_scalars;
-            keeps = All_has (λ (v : NestUnit). NestKeeps (length file.scalars) v.nest.loops) file.units u keeps.nests_keep h;
-            candidates = All_has HasFew file.units u few h;
+            keeps = All-has (λ (v : NestUnit). NestKeeps (length file.scalars) v.nest.loops) file.units u keeps.nests_keep h;
+            candidates = All-has HasFew file.units u few h;
           });
     }
 

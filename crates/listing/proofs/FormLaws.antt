@@ -70,9 +70,9 @@ unfolding form_of tube_of
 address-tube t rank access line low high e f = address-by (access_at (block_at t rank) access) line low high e f
 
 -- and it has one where it has a form
-pub address-has_tube : (t : Table) (rank access : ℕ) (line : Affine) → form_of t rank (Address access) ≡ Some line → tube_of t rank access ≡ None → ⊥
+pub address-has-tube : (t : Table) (rank access : ℕ) (line : Affine) → form_of t rank (Address access) ≡ Some line → tube_of t rank access ≡ None → ⊥
 unfolding form_of tube_of
-address-has_tube t rank access line e f = by (access_at (block_at t rank) access) e f
+address-has-tube t rank access line e f = by (access_at (block_at t rank) access) e f
   where
     by : (o : Option Access) → line_of o ≡ Some line → tube_by o (line_of o) ≡ None → ⊥
     by None e f = cc

@@ -3,15 +3,15 @@ use Rattle.std.proofs.Common.{◌≡◌, sym, ap, ◌∙◌, ℕ, suc, ◌+◌, 
 use Rattle.std.specs.List.{flat_map, range_with_len}
 use Rattle.std.proofs.lemmas.List.{take_more, map-append}
 use Rattle.std.proofs.lemmas.List.Folds.{flat_map-map}
-use Rattle.dependence.proofs.AddedLaws.{flat_more}
-use Rattle.dependence.proofs.ViolationLaws.{flat_append}
+use Rattle.dependence.proofs.AddedLaws.{flat-more}
+use Rattle.dependence.proofs.ViolationLaws.{flat-append}
 
 -- what is made of one more number of a range
 pub ranged-more : {Y : Type 0} (f : ℕ → List Y) (from n j : ℕ) (old before after : List Y) → from + n ≡ j → before ≡ old ++ flat_map f (range_with_len from n) → after ≡ before ++ f j → after ≡ old ++ flat_map f (range_with_len from (n + 1))
 ranged-more {Y} f from n j old before after e b a =
     let next : n + 1 ≡ suc n = omega arith in
     let grown : flat_map f (range_with_len from (n + 1)) ≡ flat_map f (range_with_len from n) ++ f j =
-    ap (λ (m : ℕ). flat_map f (range_with_len from m)) next ∙ flat_more f from n ∙ ap (λ (m : ℕ). flat_map f (range_with_len from n) ++ f m) e in
+    ap (λ (m : ℕ). flat_map f (range_with_len from m)) next ∙ flat-more f from n ∙ ap (λ (m : ℕ). flat_map f (range_with_len from n) ++ f m) e in
     a ∙ ap (λ (ys : List Y). ys ++ f j) b ∙ append_assoc old (flat_map f (range_with_len from n)) (f j) ∙ ap (λ (ys : List Y). old ++ ys) (sym grown)
 
 -- and of what is numbered
@@ -34,7 +34,7 @@ three-parts {X} {Y} g a b c old one two new e f h =
     h
     ∙ ap (λ (ys : List Y). ys ++ flat_map g c) (f ∙ ap (λ (ys : List Y). ys ++ flat_map g b) e ∙ append_assoc old (flat_map g a) (flat_map g b))
     ∙ append_assoc old (flat_map g a ++ flat_map g b) (flat_map g c)
-    ∙ ap (λ (ys : List Y). old ++ ys) (sym (flat_append g (a ++ b) c ∙ ap (λ (ys : List Y). ys ++ flat_map g c) (flat_append g a b)))
+    ∙ ap (λ (ys : List Y). old ++ ys) (sym (flat-append g (a ++ b) c ∙ ap (λ (ys : List Y). ys ++ flat_map g c) (flat-append g a b)))
 
 pub three-lists : {Y : Type 0} (a b c old one two new : List Y) → one ≡ old ++ a → two ≡ one ++ b → new ≡ two ++ c → new ≡ old ++ (a ++ (b ++ c))
 three-lists {Y} a b c old one two new e f h =

@@ -11,11 +11,11 @@ use Rattle.nest_grammar.specs.Files.{first_store}
 use Rattle.profile.specs.declared.unfit.Unfit.{Unfit}
 use Rattle.profile.proofs.FitLaws.{fit_or_unfit}
 use Rattle.profile.proofs.OneFitLaws.{one-fit}
-use Rattle.profile.proofs.OneUnfitLaws.{one-first_unfit}
-use Rattle.profile.proofs.SomeFitLaws.{fit-or_first_unfit}
+use Rattle.profile.proofs.OneUnfitLaws.{one-first-unfit}
+use Rattle.profile.proofs.SomeFitLaws.{fit-or-first-unfit}
 use Rattle.profiling.specs.declared.run.FirstProfile.{FirstProfile}
 use Rattle.profiling.specs.declared.run.FirstProfile.TheVariants.{Missing, Short, Whole}
-use Rattle.profiling.proofs.OneProfile.{one_profile}
+use Rattle.profiling.proofs.OneProfile.{one-profile}
 use Rattle.report.specs.declared.journey.Options.{Options}
 use Rattle.report.specs.declared.line.ListingLine.{ListingLine}
 use Rattle.report.specs.declared.line.ListingLine.TheVariants as listing
@@ -30,22 +30,22 @@ use Rattle.listing.proofs.FileLaws.{units-of_text}
 
 module _ (options : Options) (scalars : ℕ) (unit : NestUnit) where
   one-fitted : (D : ℕ) (observations : List Observation) (x y : List ListingLine) → AreFittedLines D options scalars unit observations x → AreFittedLines D options scalars unit observations y → x ≡ y
-  one-fitted D observations x y (unfit u h) (unfit v k) = ap (λ (w : Unfit D). unfit_line unit.nest.loops w ∷ []) (one-first_unfit D scalars unit.nest.loops observations u v h k)
+  one-fitted D observations x y (unfit u h) (unfit v k) = ap (λ (w : Unfit D). unfit_line unit.nest.loops w ∷ []) (one-first-unfit D scalars unit.nest.loops observations u v h k)
   one-fitted D observations x y (unfit u h) (fitted t k) = absurd (fit_or_unfit D scalars unit.nest.loops observations t u k h)
   one-fitted D observations x y (fitted t h) (unfit u k) = absurd (fit_or_unfit D scalars unit.nest.loops observations t u h k)
   one-fitted D observations x y (fitted t h) (fitted r k) = ap (table_lines scalars unit.nest.loops options.chunk unit.scripts) (one-fit D scalars unit.nest.loops observations t r h k)
 
-  one-profile_lines : (profile : FirstProfile) (x y : List ListingLine) → AreProfileLines options scalars unit profile x → AreProfileLines options scalars unit profile y → x ≡ y
-  one-profile_lines Missing x y h k = h ∙ sym k
-  one-profile_lines (Short turns) x y h k = h ∙ sym k
-  one-profile_lines (Whole observations) x y h k =
+  one-profile-lines : (profile : FirstProfile) (x y : List ListingLine) → AreProfileLines options scalars unit profile x → AreProfileLines options scalars unit profile y → x ≡ y
+  one-profile-lines Missing x y h k = h ∙ sym k
+  one-profile-lines (Short turns) x y h k = h ∙ sym k
+  one-profile-lines (Whole observations) x y h k =
       h.2 ∙ ap (λ (rest : List ListingLine). profile_line options.sample ∷ rest) (one-fitted (length unit.nest.loops) observations h.0 k.0 h.1 k.1) ∙ sym k.2
 
   one-nest : (s : Store) (left : ℕ) (x y : List ListingLine) → AreNestLines options scalars unit s left x → AreNestLines options scalars unit s left y → x ≡ y
   one-nest s left x y h k =
-      let one = one_profile unit.nest.loops (unsigned_abs options.sample) s left in
+      let one = one-profile unit.nest.loops (unsigned_abs options.sample) s left in
       let same : k.0 ≡ h.0 = one.2 k.0 k.1 ∙ sym (one.2 h.0 h.1) in
-      one-profile_lines h.0 x y h.2 (subst (λ (p : FirstProfile). AreProfileLines options scalars unit p y) same k.2)
+      one-profile-lines h.0 x y h.2 (subst (λ (p : FirstProfile). AreProfileLines options scalars unit p y) same k.2)
 
 one-rest : (e : Finish) (F : List ListingLine → Type 0) (x y : List ListingLine) → (F x → F y → x ≡ y) → where_done e (F x) (x ≡ []) → where_done e (F y) (y ≡ []) → x ≡ y
 one-rest Done F x y more h k = more h k
@@ -65,20 +65,20 @@ one-nests options version scalars (unit ∷ units) number s left x y h k =
 
 module _ (options : Options) (scalars : ℕ) (unit : NestUnit) (of : IsUnitOf scalars unit) where
   some-fitted : (observations : List Observation) → (lines : List ListingLine) × AreFittedLines (length unit.nest.loops) options scalars unit observations lines
-  some-fitted observations = elim (fit-or_first_unfit (length unit.nest.loops) scalars unit.nest.loops observations) [
+  some-fitted observations = elim (fit-or-first-unfit (length unit.nest.loops) scalars unit.nest.loops observations) [
     | inl f ↦ (table_lines scalars unit.nest.loops options.chunk unit.scripts f.0, fitted f.0 f.1)
     | inr u ↦ (unfit_line unit.nest.loops u.0 ∷ [], unfit u.0 u.1)
   ]
 
-  some-profile_lines : (profile : FirstProfile) → (lines : List ListingLine) × AreProfileLines options scalars unit profile lines
-  some-profile_lines Missing = (listing.NothingToFit ∷ [], refl)
-  some-profile_lines (Short turns) = (profile_line turns ∷ listing.NothingToFit ∷ [], refl)
-  some-profile_lines (Whole observations) = let f = some-fitted observations in (profile_line options.sample ∷ f.0, (f.0, f.1, refl))
+  some-profile-lines : (profile : FirstProfile) → (lines : List ListingLine) × AreProfileLines options scalars unit profile lines
+  some-profile-lines Missing = (listing.NothingToFit ∷ [], refl)
+  some-profile-lines (Short turns) = (profile_line turns ∷ listing.NothingToFit ∷ [], refl)
+  some-profile-lines (Whole observations) = let f = some-fitted observations in (profile_line options.sample ∷ f.0, (f.0, f.1, refl))
 
   some-nest : (s : Store) (left : ℕ) → (lines : List ListingLine) × AreNestLines options scalars unit s left lines
   some-nest s left =
-      let one = one_profile unit.nest.loops (unsigned_abs options.sample) s left in
-      let f = some-profile_lines one.0 in
+      let one = one-profile unit.nest.loops (unsigned_abs options.sample) s left in
+      let f = some-profile-lines one.0 in
       (f.0, (one.0, one.1, f.1))
 
 some-rest : (e : Finish) (F : List ListingLine → Type 0) → ((x : List ListingLine) × F x) → (x : List ListingLine) × where_done e (F x) (x ≡ [])

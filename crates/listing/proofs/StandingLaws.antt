@@ -3,7 +3,7 @@ use Rattle.std.proofs.Common.{◌≡◌, refl, sym, subst, ℕ, suc, zero, ◌+�
 use Rattle.std.specs.Prelude.{IfSome, if◌then◌else◌, slice_index_or}
 use Rattle.std.proofs.lemmas.Option.{get_or_from_slice_get, slice_get_within}
 use Rattle.std.specs.List.{All, flat_map, range_with_len}
-use Rattle.plain_lemmas.proofs.MembershipLaws.{Has, All_from, flat_map_has, has_at, has_cases, map_has}
+use Rattle.plain_lemmas.proofs.MembershipLaws.{Has, All-from, flat-map-has, has-at, has-cases, map-has}
 use Rattle.nest_lang.specs.declared.command.Command.{Command}
 use Rattle.nest_lang.specs.declared.tree.BlockRef.{BlockRef}
 use Rattle.nest_lang.specs.declared.tree.Loop.{Loop}
@@ -55,10 +55,10 @@ stand-one : (scalars : ℕ) (line : ListingLine) → CanBeListed scalars line �
 stand-one scalars line can = λ other h. ⊎_elim (λ e. subst (CanBeListed scalars) (sym e) can) (λ k. absurd k) h
 
 stand-both : (scalars : ℕ) (xs ys : List ListingLine) → Stand scalars xs → Stand scalars ys → Stand scalars (xs ++ ys)
-stand-both scalars xs ys a b = λ line h. ⊎_elim (λ k. a line k) (λ k. b line k) (has_cases xs ys line h)
+stand-both scalars xs ys a b = λ line h. ⊎_elim (λ k. a line k) (λ k. b line k) (has-cases xs ys line h)
 
 stand-flat : {X : Type 0} (scalars : ℕ) (f : X → List ListingLine) (xs : List X) → ((x : X) → Has xs x → Stand scalars (f x)) → Stand scalars (flat_map f xs)
-stand-flat scalars f xs each = λ line h. let k = flat_map_has f xs line h in each k.0 k.1 line k.2
+stand-flat scalars f xs each = λ line h. let k = flat-map-has f xs line h in each k.0 k.1 line k.2
 
 -- ---- data
 
@@ -82,16 +82,16 @@ named-bounds scalars Head level what h = by (nat_le 2 level) h
     by false k = absurd k
 
 pub named-data : (scalars : ℕ) (loops : List Loop) (block : BlockRef) (what : What) → Has (data_of scalars loops block) what → IsNamed scalars what
-named-data scalars loops block what h = ⊎_elim numbered (named-bounds scalars block.part block.level what) (has_cases (map (λ n. Scalar n) (range_with_len 0 scalars) ++ map (λ n. Address n) (range_with_len 1 (length (accesses_of loops block)))) (bounds_of block.part block.level) what h)
+named-data scalars loops block what h = ⊎_elim numbered (named-bounds scalars block.part block.level what) (has-cases (map (λ n. Scalar n) (range_with_len 0 scalars) ++ map (λ n. Address n) (range_with_len 1 (length (accesses_of loops block)))) (bounds_of block.part block.level) what h)
   where
     scalar : Has (map (λ (n : ℕ). Scalar n) (range_with_len 0 scalars)) what → IsNamed scalars what
-    scalar k = let m = map_has (λ (n : ℕ). Scalar n) (range_with_len 0 scalars) what k in let r = in-range 0 scalars m.0 m.1 in subst (IsNamed scalars) (sym m.2) (omega arith)
+    scalar k = let m = map-has (λ (n : ℕ). Scalar n) (range_with_len 0 scalars) what k in let r = in-range 0 scalars m.0 m.1 in subst (IsNamed scalars) (sym m.2) (omega arith)
 
     address : Has (map (λ (n : ℕ). Address n) (range_with_len 1 (length (accesses_of loops block)))) what → IsNamed scalars what
-    address k = let m = map_has (λ (n : ℕ). Address n) (range_with_len 1 (length (accesses_of loops block))) what k in subst (IsNamed scalars) (sym m.2) tt
+    address k = let m = map-has (λ (n : ℕ). Address n) (range_with_len 1 (length (accesses_of loops block))) what k in subst (IsNamed scalars) (sym m.2) tt
 
     numbered : Has (map (λ (n : ℕ). Scalar n) (range_with_len 0 scalars) ++ map (λ (n : ℕ). Address n) (range_with_len 1 (length (accesses_of loops block)))) what → IsNamed scalars what
-    numbered k = ⊎_elim scalar address (has_cases (map (λ (n : ℕ). Scalar n) (range_with_len 0 scalars)) (map (λ (n : ℕ). Address n) (range_with_len 1 (length (accesses_of loops block)))) what k)
+    numbered k = ⊎_elim scalar address (has-cases (map (λ (n : ℕ). Scalar n) (range_with_len 0 scalars)) (map (λ (n : ℕ). Address n) (range_with_len 1 (length (accesses_of loops block)))) what k)
 
 -- ---- the lines of a table
 
@@ -107,7 +107,7 @@ stand-forms scalars loops t =
 
 stand-dependences : (scalars : ℕ) (loops : List Loop) (t : Table) (L : ℤ) → Stand scalars (map (depends_line loops) (dependences t L))
 stand-dependences scalars loops t L = λ line h.
-    let m = map_has (depends_line loops) (dependences t L) line h in
+    let m = map-has (depends_line loops) (dependences t L) line h in
     subst (CanBeListed scalars) (sym m.2) (dependence-listed t L m.0 m.1).refuses
 
 module _ (scalars : ℕ) (loops : List Loop) (t : Table) (L : ℤ) where
@@ -131,7 +131,7 @@ stand-table scalars loops L scripts t =
 -- ---- the lines of nests
 
 slice_get-has : {X : Type 0} (xs : List X) (k : ℕ) (x : X) → slice_get xs k ≡ Some x → Has xs x
-slice_get-has xs k x e = has_at xs k x (slice_get_within xs k x e) (get_or_from_slice_get xs k x x e)
+slice_get-has xs k x e = has-at xs k x (slice_get_within xs k x e) (get_or_from_slice_get xs k x x e)
 
 stand-unfit : (D scalars : ℕ) (loops : List Loop) (observations : List Observation) (u : Unfit D) → IsUnfitAt D scalars loops observations u → CanBeListed scalars (unfit_line loops u)
 stand-unfit D scalars loops observations u h = record {
@@ -173,4 +173,4 @@ stand-nests options version scalars (unit ∷ units) number s left lines h =
     (stand-rest scalars run.ending (AreNestsLines options version scalars units (suc number) run.store run.left h.1) h.1 (λ k. stand-nests options version scalars units (suc number) run.store run.left h.1 k) h.3)))
 
 pub listing-stands : (options : Options) (file : File) (lines : List ListingLine) → IsListing options file lines → All (CanBeListed (length file.scalars)) lines
-listing-stands options file lines h = All_from (CanBeListed (length file.scalars)) lines (stand-nests options file.version (length file.scalars) file.units 1 (first_store file) options.steps lines h)
+listing-stands options file lines h = All-from (CanBeListed (length file.scalars)) lines (stand-nests options file.version (length file.scalars) file.units 1 (first_store file) options.steps lines h)

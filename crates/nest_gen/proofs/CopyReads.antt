@@ -20,7 +20,7 @@ use Rattle.nest_grammar.specs.Grammar as grammar
 use Rattle.canonical.specs.Pieces.{Piece, Space, plain, number, piece_text, token_text, text_of}
 use Rattle.canonical.specs.Layout.{words, AllWritten}
 use Rattle.canonical.proofs.LayoutPieces.{Laid, Free, is_sign, with_equals}
-use Rattle.nest_gen.proofs.Named.{named_i, written_i}
+use Rattle.nest_gen.proofs.Named.{named_i, written-i}
 use Rattle.nest_gen.proofs.TextReads.{Parsed, sight, text-read, length-brief}
 use Rattle.nest_gen.specs.Texts.{copy_of}
 
@@ -47,7 +47,7 @@ module _ (n k : ℕ) (many_words : n ≤ 16384) (small : k < 100) where
   copy-laid = (tt, (tt, (tt, (tt, (tt, (tt, (tt, (tt, (tt, (tt, (tt, (tt, (refl, (tt, (tt, (refl, (tt, (tt, (refl, (refl, (tt, (tt, (tt, tt)))))))))))))))))))))))
 
   copy-written : AllWritten copy_pieces
-  copy-written = (tt, (omega arith, (tt, (omega arith, (tt, (written_i, (tt, (omega arith, (tt, (omega arith, (tt, (tt, (omega arith, (tt, (written_i, (tt, (tt, (tt, (written_i, (tt, (tt, (omega arith, (tt, tt)))))))))))))))))))))))
+  copy-written = (tt, (omega arith, (tt, (omega arith, (tt, (written-i, (tt, (omega arith, (tt, (omega arith, (tt, (tt, (omega arith, (tt, (written-i, (tt, (tt, (tt, (written-i, (tt, (tt, (omega arith, (tt, tt)))))))))))))))))))))))
 
   copy-short : length (text_of copy_pieces) ≤ most_bytes
   unfolding piece_text token_text spelling name_text
@@ -57,16 +57,16 @@ module _ (n k : ℕ) (many_words : n ≤ 16384) (small : k < 100) where
   unfolding spelling keyword_of is_mark here skip refused need obeys number_where minus signed_where more many end place_of fresh target start_of product_of addition_of comparison_of taken closed access unary term sum expr expression opening_of statements block loop_keyword body_end loops word_spelling word_of_name command_word row_begins rows operands command script candidates
   copy-parsed at size = record {
     scalars = [];
-    memory_at = of_version One (beyond 2 (sight at size (words copy_pieces)));
+    memory-at = of_version One (beyond 2 (sight at size (words copy_pieces)));
     words = 2 * n;
     items = [];
-    loops_at = beyond 2 (of_version One (beyond 2 (sight at size (words copy_pieces))));
+    loops-at = beyond 2 (of_version One (beyond 2 (sight at size (words copy_pieces))));
     version = grammar.one refl refl;
-    has_scalars = grammar.none;
+    has-scalars = grammar.none;
     memory = refl;
     number = refl;
     few = omega arith;
-    has_items = grammar.none;
+    has-items = grammar.none;
     loops = refl;
   }
 

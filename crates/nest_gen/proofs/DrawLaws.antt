@@ -20,18 +20,18 @@ module _ (seed n : ℕ) where
   abbrev pub so_far : ℕ → List ℕ
   so_far k = chain n ++ flat_map (shortcut n) (map node (range_with_len 0 k))
 
-  so_far_more : (k : ℕ) → so_far (k + 1) ≡ so_far k ++ shortcut n (node k)
-  so_far_more k =
+  so-far-more : (k : ℕ) → so_far (k + 1) ≡ so_far k ++ shortcut n (node k)
+  so-far-more k =
       ap (λ js. chain n ++ flat_map (shortcut n) js) (map-range_with_len_more node 0 k k (omega arith))
       ∙ ap (λ t. chain n ++ t) (flat_map-append (shortcut n) (map node (range_with_len 0 k)) (node k ∷ []) ∙ ap (λ t. flat_map (shortcut n) (map node (range_with_len 0 k)) ++ t) (append-nil (shortcut n (node k))))
       ∙ sym (append_assoc (chain n) (flat_map (shortcut n) (map node (range_with_len 0 k))) (shortcut n (node k)))
 
-  pub one_more : (k nodes latest newer j : ℕ) (text added whole : List ℕ) → nodes ≡ n → text ≡ so_far k → latest ≡ after seed (k + 1) → newer ≡ next latest → j ≡ drawn (nodes - 2) newer
+  pub one-more : (k nodes latest newer j : ℕ) (text added whole : List ℕ) → nodes ≡ n → text ≡ so_far k → latest ≡ after seed (k + 1) → newer ≡ next latest → j ≡ drawn (nodes - 2) newer
       → added ≡ shortcut nodes (1 + j) → whole ≡ text ++ added → whole ≡ so_far (k + 1)
-  one_more k nodes latest newer j text added whole same before at then is by all =
+  one-more k nodes latest newer j text added whole same before at then is by all =
       let newest : newer ≡ after seed (k + 1 + 1) = then ∙ ap next at ∙ sym (after-more seed (k + 1)) in
       let drew : 1 + j ≡ node k = ap (λ (x : ℕ). 1 + x) (is ∙ ap (λ (x : ℕ). drawn (nodes - 2) x) newest ∙ ap (λ (x : ℕ). drawn (x - 2) (after seed (k + 1 + 1))) same) in
-      all ∙ ap (λ t. t ++ added) before ∙ ap (λ t. so_far k ++ t) (by ∙ ap (λ x. shortcut x (1 + j)) same ∙ ap (λ x. shortcut n x) drew) ∙ sym (so_far_more k)
+      all ∙ ap (λ t. t ++ added) before ∙ ap (λ t. so_far k ++ t) (by ∙ ap (λ x. shortcut x (1 + j)) same ∙ ap (λ x. shortcut n x) drew) ∙ sym (so-far-more k)
 
   in-range : (f : ℕ → ℕ) (a c : ℕ) → ((i : ℕ) → f i + 1 < n) → Below n (map f (range_with_len a c))
   in-range f a zero each = tt

@@ -21,12 +21,12 @@ use Rattle.nest_grammar.specs.Grammar as grammar
 use Rattle.canonical.specs.Pieces.{Piece, Space, plain, number, piece_text, token_text, text_of}
 use Rattle.canonical.specs.Layout.{words, AllWritten}
 use Rattle.canonical.proofs.LayoutPieces.{Laid, Free, is_sign, with_equals}
-use Rattle.nest_gen.proofs.Named.{named_i, named_j, named_tile, written_i, written_j, written_tile}
+use Rattle.nest_gen.proofs.Named.{named_i, named_j, named_tile, written-i, written-j, written-tile}
 use Rattle.nest_gen.proofs.TextReads.{Parsed, sight, text-read, length-brief}
 use Rattle.nest_gen.specs.Texts.{grid_of}
 use Rattle.nest_gen.specs.Texts.{rows, upper, lower}
 use Rattle.canonical.proofs.Texts.{text-append}
-use Rattle.nest_gen.proofs.Items.{ramp-in, one_is_not_zero, square-small}
+use Rattle.nest_gen.proofs.Items.{ramp-in, one-is-not-zero, square-small}
 
 module _ (m v : ℕ) (from : 2 ≤ m) (to : m ≤ 258) (small : v < 1000) where
   abbrev rows_pieces : List Piece
@@ -38,8 +38,8 @@ module _ (m v : ℕ) (from : 2 ≤ m) (to : m ≤ 258) (small : v < 1000) where
   abbrev lower_pieces : List Piece
   lower_pieces = plain mark.OpenBracket ∷ number m ∷ Space ∷ plain mark.Times ∷ Space ∷ named_i ∷ Space ∷ plain mark.Plus ∷ Space ∷ named_j ∷ plain mark.CloseBracket ∷ Space ∷ plain mark.Plus ∷ Space ∷ plain mark.OpenBracket ∷ number m ∷ Space ∷ plain mark.Times ∷ Space ∷ named_i ∷ Space ∷ plain mark.Plus ∷ Space ∷ named_j ∷ Space ∷ plain mark.Plus ∷ Space ∷ number 1 ∷ plain mark.CloseBracket ∷ Space ∷ plain mark.Plus ∷ Space ∷ plain mark.OpenBracket ∷ number m ∷ Space ∷ plain mark.Times ∷ Space ∷ named_i ∷ Space ∷ plain mark.Plus ∷ Space ∷ named_j ∷ Space ∷ plain mark.Plus ∷ Space ∷ number m ∷ plain mark.CloseBracket ∷ plain mark.Close ∷ Space ∷ plain mark.Divide ∷ Space ∷ number 5 ∷ Space ∷ plain mark.CloseBrace ∷ Space ∷ plain mark.CloseBrace ∷ Space ∷ plain mark.Candidate ∷ Space ∷ plain mark.OpenBrace ∷ Space ∷ named_tile ∷ Space ∷ number 1 ∷ Space ∷ number 8 ∷ plain mark.Semicolon ∷ Space ∷ named_tile ∷ Space ∷ number 2 ∷ Space ∷ number 8 ∷ Space ∷ plain mark.CloseBrace ∷ []
 
-  abbrev grid_pieces : List Piece
-  grid_pieces = rows_pieces ++ (upper_pieces ++ lower_pieces)
+  abbrev grid-pieces : List Piece
+  grid-pieces = rows_pieces ++ (upper_pieces ++ lower_pieces)
 
   -- the text, with the digits that stand in it in place of its short numbers
   abbrev rows_by : List ℕ → List ℕ → List ℕ
@@ -83,43 +83,43 @@ module _ (m v : ℕ) (from : 2 ≤ m) (to : m ≤ 258) (small : v < 1000) where
   pub lower-is : lower m ≡ text_of lower_pieces
   lower-is = lower-by ∙ ap (λ d. lower_by d (codes "2") (codes "5") (codes "8")) (sym (decimal_digit 1 (omega arith))) ∙ ap (λ d. lower_by (decimal 1) d (codes "5") (codes "8")) (sym (decimal_digit 2 (omega arith))) ∙ ap (λ d. lower_by (decimal 1) (decimal 2) d (codes "8")) (sym (decimal_digit 5 (omega arith))) ∙ ap (λ d. lower_by (decimal 1) (decimal 2) (decimal 5) d) (sym (decimal_digit 8 (omega arith))) ∙ lower-pieces
 
-  grid-is : grid_of m v ≡ text_of grid_pieces
+  grid-is : grid_of m v ≡ text_of grid-pieces
   grid-is =
       ap (λ t. t ++ (upper m ++ lower m)) rows-is ∙ ap (λ t. text_of rows_pieces ++ (t ++ lower m)) upper-is ∙ ap (λ t. text_of rows_pieces ++ (text_of upper_pieces ++ t)) lower-is
       ∙ ap (λ t. text_of rows_pieces ++ t) (sym (text-append upper_pieces lower_pieces)) ∙ sym (text-append rows_pieces (upper_pieces ++ lower_pieces))
 
-  grid-laid : Laid Free grid_pieces
+  grid-laid : Laid Free grid-pieces
   unfolding is_sign with_equals
   grid-laid = (tt, (tt, (tt, (tt, (tt, (tt, (tt, (tt, (tt, (tt, (tt, (tt, (tt, (tt, (tt, (tt, (tt, (tt, (tt, (tt, (tt, (tt, (tt, (tt, (tt, (refl, (tt, (tt, (tt, (tt, (refl, (tt, (tt, (refl, (refl, (tt, (tt, (tt, (tt, (tt, (tt, (refl, (tt, (tt, (refl, (tt, (tt, (tt, (tt, (tt, (tt, (refl, (tt, (tt, (refl, (tt, (tt, (tt, (tt, (refl, (tt, (tt, (refl, (tt, (tt, (tt, (tt, (tt, (tt, (refl, (tt, (tt, (refl, (tt, (tt, (tt, (tt, (tt, (tt, (refl, (refl, (tt, (tt, (tt, (tt, (tt, (tt, (tt, (tt, (tt, (refl, (tt, (tt, (tt, (tt, tt)))))))))))))))))))))))))))))))))))))))))))))))))))))))))))))))))))))))))))))))))))))))))))))))
 
   area : m * m ≤ 66564
   area = square-small m to
 
-  grid-written : AllWritten grid_pieces
-  grid-written = (tt, (omega arith, (tt, (omega (arith, area), (tt, (omega arith, (omega (arith, area), (omega arith, (omega arith, (omega arith, (tt, (written_i, (tt, (omega arith, (tt, (omega arith, (tt, (tt, (written_j, (tt, (omega arith, (tt, (omega arith, (tt, (tt, (omega arith, (tt, (written_i, (tt, (written_j, (tt, (tt, (tt, (tt, (omega arith, (tt, (written_i, (tt, (written_j, (tt, (omega arith, (tt, (tt, (tt, (omega arith, (tt, (written_i, (tt, (written_j, (tt, (omega arith, (tt, (tt, (tt, (omega arith, (tt, (written_i, (tt, (written_j, (tt, (tt, (tt, (omega arith, (tt, (written_i, (tt, (written_j, (tt, (omega arith, (tt, (tt, (tt, (omega arith, (tt, (written_i, (tt, (written_j, (tt, (omega arith, (tt, (tt, (tt, (omega arith, (tt, (tt, (tt, (tt, (written_tile, (omega arith, (omega arith, (tt, (written_tile, (omega arith, (omega arith, (tt, tt)))))))))))))))))))))))))))))))))))))))))))))))))))))))))))))))))))))))))))))))))))))))))))))))
+  grid-written : AllWritten grid-pieces
+  grid-written = (tt, (omega arith, (tt, (omega (arith, area), (tt, (omega arith, (omega (arith, area), (omega arith, (omega arith, (omega arith, (tt, (written-i, (tt, (omega arith, (tt, (omega arith, (tt, (tt, (written-j, (tt, (omega arith, (tt, (omega arith, (tt, (tt, (omega arith, (tt, (written-i, (tt, (written-j, (tt, (tt, (tt, (tt, (omega arith, (tt, (written-i, (tt, (written-j, (tt, (omega arith, (tt, (tt, (tt, (omega arith, (tt, (written-i, (tt, (written-j, (tt, (omega arith, (tt, (tt, (tt, (omega arith, (tt, (written-i, (tt, (written-j, (tt, (tt, (tt, (omega arith, (tt, (written-i, (tt, (written-j, (tt, (omega arith, (tt, (tt, (tt, (omega arith, (tt, (written-i, (tt, (written-j, (tt, (omega arith, (tt, (tt, (tt, (omega arith, (tt, (tt, (tt, (tt, (written-tile, (omega arith, (omega arith, (tt, (written-tile, (omega arith, (omega arith, (tt, tt)))))))))))))))))))))))))))))))))))))))))))))))))))))))))))))))))))))))))))))))))))))))))))))))
 
-  grid-short : length (text_of grid_pieces) ≤ most_bytes
+  grid-short : length (text_of grid-pieces) ≤ most_bytes
   unfolding piece_text token_text spelling name_text
-  grid-short = let h = length-brief grid_pieces refl grid-written in omega (arith, h)
+  grid-short = let h = length-brief grid-pieces refl grid-written in omega (arith, h)
 
-  grid-parsed : (at : ℕ → ℕ) (size : ℕ) → Parsed (sight at size (words grid_pieces))
+  grid-parsed : (at : ℕ → ℕ) (size : ℕ) → Parsed (sight at size (words grid-pieces))
   unfolding spelling keyword_of is_mark here skip refused need obeys number_where minus signed_where more many end place_of fresh target start_of product_of addition_of comparison_of taken closed access unary term sum expr expression opening_of statements block loop_keyword body_end loops word_spelling word_of_name command_word row_begins script_rows operands command script candidates
   grid-parsed at size =
-      let memory_at : Sight = of_version One (beyond 2 (sight at size (words grid_pieces))) in
+      let memory-at : Sight = of_version One (beyond 2 (sight at size (words grid-pieces))) in
       record {
         scalars = [];
-        memory_at = memory_at;
+        memory-at = memory-at;
         words = m * m;
         items = Ramp 0 (m * m) 1 (pos v) (pos 1) ∷ [];
-        loops_at = beyond 6 (beyond 2 memory_at);
+        loops-at = beyond 6 (beyond 2 memory-at);
         version = grammar.one refl refl;
-        has_scalars = grammar.none;
+        has-scalars = grammar.none;
         memory = refl;
         number = refl;
         few = omega (arith, area);
-        has_items = grammar.more grammar.none (grammar.ramp refl refl refl refl refl refl one_is_not_zero (grammar.unsigned refl) (grammar.unsigned refl) (ramp-in (m * m) 0 (m * m) 1 v 1 (λ k lt. omega (arith, lt)) (omega (arith, area))));
+        has-items = grammar.more grammar.none (grammar.ramp refl refl refl refl refl refl one-is-not-zero (grammar.unsigned refl) (grammar.unsigned refl) (ramp-in (m * m) 0 (m * m) 1 v 1 (λ k lt. omega (arith, lt)) (omega (arith, area))));
         loops = refl;
       }
 
   pub grid-reads : (file : File) × (reading (grid_of m v) ≡ Ok file)
-  grid-reads = subst (λ (text : List ℕ). (file : File) × (reading text ≡ Ok file)) (sym grid-is) (text-read grid_pieces grid-laid grid-written grid-short grid-parsed)
+  grid-reads = subst (λ (text : List ℕ). (file : File) × (reading text ≡ Ok file)) (sym grid-is) (text-read grid-pieces grid-laid grid-written grid-short grid-parsed)

@@ -24,14 +24,14 @@ use Rattle.nest_grammar.specs.Grammar as grammar
 use Rattle.canonical.specs.Pieces.{Piece, Space, plain, number, piece_text, token_text, text_of}
 use Rattle.canonical.specs.Layout.{words, AllWritten}
 use Rattle.canonical.proofs.LayoutPieces.{Laid, Free, is_sign, with_equals}
-use Rattle.nest_gen.proofs.Named.{named_p, written_p}
+use Rattle.nest_gen.proofs.Named.{named_p, written-p}
 use Rattle.nest_gen.proofs.TextReads.{Parsed, sight, text-read, length-brief}
 use Rattle.nest_gen.specs.Texts.{shortcut, list_of}
 use Rattle.nest_tokens.specs.Lexing.{name_of}
 use Rattle.nest_gen.specs.Texts.{chain}
 use Rattle.canonical.proofs.Texts.{text-append}
 use Rattle.nest_gen.proofs.TextReads.{is_brief}
-use Rattle.nest_gen.proofs.Items.{ramp-in, two_is_not_zero}
+use Rattle.nest_gen.proofs.Items.{ramp-in, two-is-not-zero}
 
 -- each of these numbers is below n - 1
 abbrev pub Below : ℕ → List ℕ → Type 0
@@ -39,17 +39,17 @@ Below n [] = Unit {0}
 Below n (j ∷ js) = (j + 1 < n) × Below n js
 
 module _ (n : ℕ) (from : 2 ≤ n) (to : n ≤ 16384) where
-  abbrev shortcut_pieces : ℕ → List Piece
-  shortcut_pieces j = plain mark.Data ∷ Space ∷ number (2 * j) ∷ plain mark.Colon ∷ Space ∷ number (2 * n + 2 + 2 * j) ∷ Space ∷ plain mark.Data ∷ Space ∷ number (2 * n + 2 + 2 * j) ∷ plain mark.Colon ∷ Space ∷ number (4 + 2 * j) ∷ Space ∷ []
+  abbrev shortcut-pieces : ℕ → List Piece
+  shortcut-pieces j = plain mark.Data ∷ Space ∷ number (2 * j) ∷ plain mark.Colon ∷ Space ∷ number (2 * n + 2 + 2 * j) ∷ Space ∷ plain mark.Data ∷ Space ∷ number (2 * n + 2 + 2 * j) ∷ plain mark.Colon ∷ Space ∷ number (4 + 2 * j) ∷ Space ∷ []
 
-  shortcut-is : (j : ℕ) → shortcut n j ≡ text_of (shortcut_pieces j)
+  shortcut-is : (j : ℕ) → shortcut n j ≡ text_of (shortcut-pieces j)
   unfolding text_of piece_text token_text spelling name_text
   shortcut-is j = refl
 
-  shortcuts-are : (nodes : List ℕ) → flat_map (shortcut n) nodes ≡ text_of (flat_map shortcut_pieces nodes)
+  shortcuts-are : (nodes : List ℕ) → flat_map (shortcut n) nodes ≡ text_of (flat_map shortcut-pieces nodes)
   unfolding text_of
   shortcuts-are [] = refl
-  shortcuts-are (j ∷ js) = ap (λ t. t ++ flat_map (shortcut n) js) (shortcut-is j) ∙ ap (λ t. text_of (shortcut_pieces j) ++ t) (shortcuts-are js) ∙ sym (text-append (shortcut_pieces j) (flat_map shortcut_pieces js))
+  shortcuts-are (j ∷ js) = ap (λ t. t ++ flat_map (shortcut n) js) (shortcut-is j) ∙ ap (λ t. text_of (shortcut-pieces j) ++ t) (shortcuts-are js) ∙ sym (text-append (shortcut-pieces j) (flat_map shortcut-pieces js))
 
   abbrev head_pieces : List Piece
   head_pieces = plain mark.Nest ∷ Space ∷ number 1 ∷ Space ∷ plain mark.Scalar ∷ Space ∷ named_p ∷ Space ∷ plain mark.Assign ∷ Space ∷ number 2 ∷ Space ∷ plain mark.Memory ∷ Space ∷ number (4 * n) ∷ Space ∷ plain mark.Ramp ∷ Space ∷ number 2 ∷ Space ∷ number (n - 1) ∷ Space ∷ number 2 ∷ Space ∷ number 4 ∷ Space ∷ number 2 ∷ Space ∷ []
@@ -85,51 +85,51 @@ module _ (n : ℕ) (from : 2 ≤ n) (to : n ≤ 16384) where
   pub tail-is : codes "while [p] { [p + 1] = [p + 1] + 1 p = [p] }" ≡ text_of tail_pieces
   tail-is = tail-by ∙ ap (λ d. tail_by d) (sym (decimal_digit 1 (omega arith))) ∙ tail-pieces
 
-  abbrev list_pieces : List ℕ → List Piece
-  list_pieces nodes = head_pieces ++ (flat_map shortcut_pieces nodes ++ tail_pieces)
+  abbrev list-pieces : List ℕ → List Piece
+  list-pieces nodes = head_pieces ++ (flat_map shortcut-pieces nodes ++ tail_pieces)
 
-  list-is : (nodes : List ℕ) → list_of n nodes ≡ text_of (list_pieces nodes)
+  list-is : (nodes : List ℕ) → list_of n nodes ≡ text_of (list-pieces nodes)
   list-is nodes =
-      let rest = flat_map shortcut_pieces nodes in
+      let rest = flat_map shortcut-pieces nodes in
       ap (λ t. t ++ (flat_map (shortcut n) nodes ++ codes "while [p] { [p + 1] = [p + 1] + 1 p = [p] }")) head-is
       ∙ ap (λ t. text_of head_pieces ++ (t ++ codes "while [p] { [p + 1] = [p + 1] + 1 p = [p] }")) (shortcuts-are nodes)
       ∙ ap (λ t. text_of head_pieces ++ (text_of rest ++ t)) tail-is
       ∙ ap (λ t. text_of head_pieces ++ t) (sym (text-append rest tail_pieces))
       ∙ sym (text-append head_pieces (rest ++ tail_pieces))
 
-  nodes-laid : (nodes : List ℕ) → Laid Free (flat_map shortcut_pieces nodes ++ tail_pieces)
+  nodes-laid : (nodes : List ℕ) → Laid Free (flat_map shortcut-pieces nodes ++ tail_pieces)
   unfolding is_sign with_equals
   nodes-laid [] = (tt, (tt, (refl, (refl, (tt, (tt, (refl, (tt, (tt, (refl, (tt, (tt, (refl, (tt, (tt, (refl, (tt, (tt, (tt, (tt, (tt, (refl, (refl, (tt, tt))))))))))))))))))))))))
   nodes-laid (j ∷ js) = (tt, (tt, (refl, (tt, (tt, (tt, (refl, (tt, nodes-laid js))))))))
 
-  list-laid : (nodes : List ℕ) → Laid Free (list_pieces nodes)
+  list-laid : (nodes : List ℕ) → Laid Free (list-pieces nodes)
   unfolding is_sign with_equals
   list-laid nodes = (tt, (tt, (tt, (tt, (tt, (tt, (tt, (tt, (tt, (tt, (tt, (tt, (tt, (tt, nodes-laid nodes))))))))))))))
 
-  nodes-written : (nodes : List ℕ) → Below n nodes → AllWritten (flat_map shortcut_pieces nodes ++ tail_pieces)
-  nodes-written [] below = (tt, (tt, (written_p, (tt, (tt, (tt, (written_p, (tt, (omega arith, (tt, (tt, (tt, (written_p, (tt, (omega arith, (tt, (tt, (omega arith, (written_p, (tt, (tt, (written_p, (tt, (tt, tt))))))))))))))))))))))))
+  nodes-written : (nodes : List ℕ) → Below n nodes → AllWritten (flat_map shortcut-pieces nodes ++ tail_pieces)
+  nodes-written [] below = (tt, (tt, (written-p, (tt, (tt, (tt, (written-p, (tt, (omega arith, (tt, (tt, (tt, (written-p, (tt, (omega arith, (tt, (tt, (omega arith, (written-p, (tt, (tt, (written-p, (tt, (tt, tt))))))))))))))))))))))))
   nodes-written (j ∷ js) (h, below) = (tt, (omega (arith, h), (tt, (omega (arith, h), (tt, (omega (arith, h), (tt, (omega (arith, h), nodes-written js below))))))))
 
-  list-written : (nodes : List ℕ) → Below n nodes → AllWritten (list_pieces nodes)
-  list-written nodes below = (tt, (omega arith, (tt, (written_p, (tt, (omega arith, (tt, (omega arith, (tt, (omega arith, (omega arith, (omega arith, (omega arith, (omega arith, nodes-written nodes below))))))))))))))
+  list-written : (nodes : List ℕ) → Below n nodes → AllWritten (list-pieces nodes)
+  list-written nodes below = (tt, (omega arith, (tt, (written-p, (tt, (omega arith, (tt, (omega arith, (tt, (omega arith, (omega arith, (omega arith, (omega arith, (omega arith, nodes-written nodes below))))))))))))))
 
-  nodes-brief : (nodes : List ℕ) → list_all is_brief (flat_map shortcut_pieces nodes ++ tail_pieces) ≡ true
+  nodes-brief : (nodes : List ℕ) → list_all is_brief (flat_map shortcut-pieces nodes ++ tail_pieces) ≡ true
   unfolding piece_text token_text spelling name_text
   nodes-brief [] = refl
   nodes-brief (j ∷ js) = nodes-brief js
 
-  list-brief : (nodes : List ℕ) → list_all is_brief (list_pieces nodes) ≡ true
+  list-brief : (nodes : List ℕ) → list_all is_brief (list-pieces nodes) ≡ true
   unfolding piece_text token_text spelling name_text
   list-brief nodes = nodes-brief nodes
 
-  nodes-few : (nodes : List ℕ) → length (flat_map shortcut_pieces nodes ++ tail_pieces) ≤ 20 * length nodes + 40
+  nodes-few : (nodes : List ℕ) → length (flat_map shortcut-pieces nodes ++ tail_pieces) ≤ 20 * length nodes + 40
   nodes-few [] = omega arith
   nodes-few (j ∷ js) = let h = nodes-few js in omega (arith, h)
 
-  list-short : (nodes : List ℕ) → Below n nodes → length nodes ≤ 4 → length (text_of (list_pieces nodes)) ≤ most_bytes
-  list-short nodes below few = let h = length-brief (list_pieces nodes) (list-brief nodes) (list-written nodes below) in let f = nodes-few nodes in omega (arith, h, f, few)
+  list-short : (nodes : List ℕ) → Below n nodes → length nodes ≤ 4 → length (text_of (list-pieces nodes)) ≤ most_bytes
+  list-short nodes below few = let h = length-brief (list-pieces nodes) (list-brief nodes) (list-written nodes below) in let f = nodes-few nodes in omega (arith, h, f, few)
 
-  data-items : (nodes : List ℕ) → Below n nodes → (at : ℕ → ℕ) (size : ℕ) (s : Sight) (is : List Item) → IsItems (4 * n) s is (sight at size (words (flat_map shortcut_pieces nodes ++ tail_pieces)))
+  data-items : (nodes : List ℕ) → Below n nodes → (at : ℕ → ℕ) (size : ℕ) (s : Sight) (is : List Item) → IsItems (4 * n) s is (sight at size (words (flat_map shortcut-pieces nodes ++ tail_pieces)))
       → (all : List Item) × (later : ℕ → ℕ) × IsItems (4 * n) s all (sight later size (words tail_pieces))
   unfolding here skip
   data-items [] below at size s is h = (is, at, h)
@@ -138,33 +138,33 @@ module _ (n : ℕ) (from : 2 ≤ n) (to : n ≤ 16384) where
       (grammar.more (grammar.more h (grammar.data_ {first = 2 * j} {vs = pos (2 * n + 2 + 2 * j) ∷ []} refl refl refl refl (grammar.one (omega (arith, lt)) (grammar.unsigned refl)))) (grammar.data_ {first = 2 * n + 2 + 2 * j} {vs = pos (4 + 2 * j) ∷ []} refl refl refl refl (grammar.one (omega (arith, lt)) (grammar.unsigned refl))))
 
   module _ (nodes : List ℕ) (below : Below n nodes) (at : ℕ → ℕ) (size : ℕ) where
-    abbrev memory_from : Sight
-    memory_from = beyond 4 (of_version One (beyond 2 (sight at size (words (list_pieces nodes)))))
+    abbrev memory-from : Sight
+    memory-from = beyond 4 (of_version One (beyond 2 (sight at size (words (list-pieces nodes)))))
 
-    ramp-items : IsItems (4 * n) (beyond 2 memory_from) (Ramp 2 (n - 1) 2 (pos 4) (pos 2) ∷ []) (beyond 8 memory_from)
+    ramp-items : IsItems (4 * n) (beyond 2 memory-from) (Ramp 2 (n - 1) 2 (pos 4) (pos 2) ∷ []) (beyond 8 memory-from)
     unfolding here skip
-    ramp-items = grammar.more grammar.none (grammar.ramp refl refl refl refl refl refl two_is_not_zero (grammar.unsigned refl) (grammar.unsigned refl) (ramp-in (4 * n) 2 (n - 1) 2 4 2 (λ k lt. omega (arith, lt)) (omega arith)))
+    ramp-items = grammar.more grammar.none (grammar.ramp refl refl refl refl refl refl two-is-not-zero (grammar.unsigned refl) (grammar.unsigned refl) (ramp-in (4 * n) 2 (n - 1) 2 4 2 (λ k lt. omega (arith, lt)) (omega arith)))
 
-    all-items : (all : List Item) × (later : ℕ → ℕ) × IsItems (4 * n) (beyond 2 memory_from) all (sight later size (words tail_pieces))
+    all-items : (all : List Item) × (later : ℕ → ℕ) × IsItems (4 * n) (beyond 2 memory-from) all (sight later size (words tail_pieces))
     unfolding skip
-    all-items = data-items nodes below (λ k. at (suc (suc (suc (suc (suc (suc (suc (suc (suc (suc (suc (suc (suc (suc (k)))))))))))))))) size (beyond 2 memory_from) (Ramp 2 (n - 1) 2 (pos 4) (pos 2) ∷ []) ramp-items
+    all-items = data-items nodes below (λ k. at (suc (suc (suc (suc (suc (suc (suc (suc (suc (suc (suc (suc (suc (suc (k)))))))))))))))) size (beyond 2 memory-from) (Ramp 2 (n - 1) 2 (pos 4) (pos 2) ∷ []) ramp-items
 
-    list-parsed : Parsed (sight at size (words (list_pieces nodes)))
+    list-parsed : Parsed (sight at size (words (list-pieces nodes)))
     unfolding spelling keyword_of is_mark here skip refused need obeys number_where minus signed_where more many end place_of fresh target start_of product_of addition_of comparison_of taken closed access unary term sum expr expression opening_of statements block loop_keyword body_end loops word_spelling word_of_name command_word row_begins rows operands command script candidates
     list-parsed = record {
       scalars = record { name = name_of (codes "p"); value = pos 2 } ∷ [];
-      memory_at = memory_from;
+      memory-at = memory-from;
       words = 4 * n;
       items = all-items.0;
-      loops_at = sight all-items.1 size (words tail_pieces);
+      loops-at = sight all-items.1 size (words tail_pieces);
       version = grammar.one refl refl;
-      has_scalars = grammar.more grammar.none refl (omega arith) refl refl refl (grammar.unsigned refl);
+      has-scalars = grammar.more grammar.none refl (omega arith) refl refl refl (grammar.unsigned refl);
       memory = refl;
       number = refl;
       few = omega arith;
-      has_items = all-items.2;
+      has-items = all-items.2;
       loops = refl;
     }
 
   pub list-reads : (nodes : List ℕ) → Below n nodes → length nodes ≤ 4 → (file : File) × (reading (list_of n nodes) ≡ Ok file)
-  list-reads nodes below few = subst (λ (text : List ℕ). (file : File) × (reading text ≡ Ok file)) (sym (list-is nodes)) (text-read (list_pieces nodes) (list-laid nodes) (list-written nodes below) (list-short nodes below few) (list-parsed nodes below))
+  list-reads nodes below few = subst (λ (text : List ℕ). (file : File) × (reading text ≡ Ok file)) (sym (list-is nodes)) (text-read (list-pieces nodes) (list-laid nodes) (list-written nodes below) (list-short nodes below few) (list-parsed nodes below))

@@ -9,27 +9,27 @@ use Rattle.canonical.specs.Layout.{IsWritten}
 abbrev pub named_i : Piece
 named_i = name (name_of (codes "i"))
 
-pub written_i : IsWritten (token.Name (name_of (codes "i")))
+pub written-i : IsWritten (token.Name (name_of (codes "i")))
 unfolding keyword_of spelling
-written_i = (codes "i", refl, omega arith, refl, (refl, tt), refl)
+written-i = (codes "i", refl, omega arith, refl, (refl, tt), refl)
 
 abbrev pub named_j : Piece
 named_j = name (name_of (codes "j"))
 
-pub written_j : IsWritten (token.Name (name_of (codes "j")))
+pub written-j : IsWritten (token.Name (name_of (codes "j")))
 unfolding keyword_of spelling
-written_j = (codes "j", refl, omega arith, refl, (refl, tt), refl)
+written-j = (codes "j", refl, omega arith, refl, (refl, tt), refl)
 
 abbrev pub named_p : Piece
 named_p = name (name_of (codes "p"))
 
-pub written_p : IsWritten (token.Name (name_of (codes "p")))
+pub written-p : IsWritten (token.Name (name_of (codes "p")))
 unfolding keyword_of spelling
-written_p = (codes "p", refl, omega arith, refl, (refl, tt), refl)
+written-p = (codes "p", refl, omega arith, refl, (refl, tt), refl)
 
 abbrev pub named_tile : Piece
 named_tile = name (name_of (codes "tile"))
 
-pub written_tile : IsWritten (token.Name (name_of (codes "tile")))
+pub written-tile : IsWritten (token.Name (name_of (codes "tile")))
 unfolding keyword_of spelling
-written_tile = (codes "tile", refl, omega arith, refl, (refl, (refl, (refl, (refl, tt)))), refl)
+written-tile = (codes "tile", refl, omega arith, refl, (refl, (refl, (refl, (refl, tt)))), refl)

@@ -80,24 +80,24 @@ goes_on-found (Err f) h = absurd (cc)
 -- a sight from which a file of version 1 stands
 pub record Parsed (s : Sight) : Type 0 where
   pub scalars : List Scalar
-  pub memory_at : Sight
+  pub memory-at : Sight
   pub words : ℕ
   pub items : List Item
-  pub loops_at : Sight
+  pub loops-at : Sight
   pub version : IsVersion s One (of_version One (beyond 2 s))
-  pub has_scalars : IsScalars (of_version One (beyond 2 s)) scalars memory_at
-  pub memory : Sees mark.Memory memory_at
-  pub number : SeesNumber words (skip memory_at)
+  pub has-scalars : IsScalars (of_version One (beyond 2 s)) scalars memory-at
+  pub memory : Sees mark.Memory memory-at
+  pub number : SeesNumber words (skip memory-at)
   pub few : words ≤ most_words
-  pub has_items : IsItems words (beyond 2 memory_at) items loops_at
-  pub loops : goes_on (Rattle.nest_grammar.specs.Loops.loops (most_depth One) 0 (names_of scalars) loops_at) ≡ true
+  pub has-items : IsItems words (beyond 2 memory-at) items loops-at
+  pub loops : goes_on (Rattle.nest_grammar.specs.Loops.loops (most_depth One) 0 (names_of scalars) loops-at) ≡ true
 
 parsed-read : (text : List ℕ) → length text ≤ most_bytes → Parsed (start text) → (file : File) × (reading text ≡ Ok file)
 parsed-read text short p =
-    let (x, loops_read, more) = goes_on-found (Rattle.nest_grammar.specs.Loops.loops (most_depth One) 0 (names_of p.scalars) p.loops_at) p.loops in
+    let (x, loops_read, more) = goes_on-found (Rattle.nest_grammar.specs.Loops.loops (most_depth One) 0 (names_of p.scalars) p.loops-at) p.loops in
     let (y, scripts_read, end) = ends-found (candidates (length x.0.0) x.1) more in
-    let unit = grammar.unit (loops-sound (most_depth One) 0 (names_of p.scalars) p.loops_at x loops_read) (candidates-sound (length x.0.0) x.1 y scripts_read) in
-    let read = grammar.file short p.version p.has_scalars p.memory p.number p.few p.has_items (grammar.one unit) end in
+    let unit = grammar.unit (loops-sound (most_depth One) 0 (names_of p.scalars) p.loops-at x loops_read) (candidates-sound (length x.0.0) x.1 y scripts_read) in
+    let read = grammar.file short p.version p.has-scalars p.memory p.number p.few p.has-items (grammar.one unit) end in
     (_, reads-reading text _ read)
 
 pub text-read : (ps : List Piece) → Laid Free ps → AllWritten ps → length (text_of ps) ≤ most_bytes → ((at : ℕ → ℕ) (size : ℕ) → Parsed (sight at size (Rattle.canonical.specs.Layout.words ps)))

@@ -25,7 +25,7 @@ use Rattle.nest_grammar.specs.Readings.{Reading, ◌>>=◌, gives, refused, wron
 use Rattle.nest_grammar.specs.Names.{Names, declared, place_of, unless_known, fresh_at, fresh, if_scalar, target}
 use Rattle.nest_grammar.specs.Expressions.{start_of, product_of, addition_of, comparison_of, taken, closed, access, access_number, if_visible, operand, operated, parts, compared_at, compared, unary, term, sum, expr, expression}
 use Rattle.nest_grammar.specs.Statements.{opening_of, local_room, local_number, braced, else_at, else_of, branches, statement, another, listed, statements}
-use Rattle.nest_grammar.proofs.Many.{bind_ok}
+use Rattle.nest_grammar.proofs.Many.{bind-ok}
 
 -- where i at least were open before the reading, j at least are open behind it
 abbrev pub Open : ℕ → ℕ → {A : Type 0} → Reading A → Type 0
@@ -36,7 +36,7 @@ abbrev pub Keeps : {A : Type 0} → Reading A → Type 0
 Keeps r = (i : ℕ) → Open i i r
 
 open-then : {A B : Type 0} (i j k : ℕ) {r : Reading A} {f : A → Reading B} → Open i j r → ((a : A) → Open j k (f a)) → Open i k (r >>= f)
-open-then i j k {r} {f} h hf s y e le = let x = bind_ok (r s) f y e in hf x.0.0 x.0.1 y x.2 (h s x.0 x.1 le)
+open-then i j k {r} {f} h hf s y e le = let x = bind-ok (r s) f y e in hf x.0.0 x.0.1 y x.2 (h s x.0 x.1 le)
 
 -- one reading behind another
 keeps : {A B : Type 0} {r : Reading A} {f : A → Reading B} → Keeps r → ((a : A) → Keeps (f a)) → Keeps (r >>= f)

@@ -60,8 +60,8 @@ pub record Here {A : Type 0} (r : Reading A) (s : Sight) : Type 0 where
 abbrev pub Local : {A : Type 0} → Reading A → Type 0
 Local r = (s : Sight) → Here r s
 
-pub no_longer-local : {A : Type 0} {r : Reading A} → Local r → NoLonger r
-no_longer-local {A} {r} l s x e =
+pub no-longer-local : {A : Type 0} {r : Reading A} → Local r → NoLonger r
+no-longer-local {A} {r} l s x e =
     let h : Here r s = l s in
     let v : (x.1.left ≡ h.more) × (x.1.size ≡ s.size) = rw e at h.ends in
     let q : s.left ≡ h.prefix.0 ++ h.more = h.from ∙ h.prefix.1 h.more in
@@ -69,11 +69,11 @@ no_longer-local {A} {r} l s x e =
     let m : length x.1.left ≡ length h.more = ap (λ (z : List Spot). length z) v.0 in
     omega arith
 
-here-bind_at : {A B : Type 0} (r : Reading A) (f : A → Reading B) (s : Sight) → Here r s → ((x : A × Sight) → r s ≡ Ok x → Here (f x.0) x.1) → (y : Result (A × Sight) TextFault) → r s ≡ y → Here (r >>= f) s
-here-bind_at r f s h hf (Err e) q =
+here-bind-at : {A B : Type 0} (r : Reading A) (f : A → Reading B) (s : Sight) → Here r s → ((x : A × Sight) → r s ≡ Ok x → Here (f x.0) x.1) → (y : Result (A × Sight) TextFault) → r s ≡ y → Here (r >>= f) s
+here-bind-at r f s h hf (Err e) q =
     let w : EndsAt (r s) s.size h.more = h.ends in
     record { go = h.go; prefix = h.prefix; more = h.more; from = h.from; ends = rw q (rw q at w); is = λ n k m. rw (h.is n k m, q) refl }
-here-bind_at r f s h hf (Ok x) q =
+here-bind-at r f s h hf (Ok x) q =
     let w : EndsAt (r s) s.size h.more = h.ends in
     let v : (x.1.left ≡ h.more) × (x.1.size ≡ s.size) = rw q at w in
     let c : Here (f x.0) x.1 = hf x q in
@@ -91,7 +91,7 @@ here-bind_at r f s h hf (Ok x) q =
     }
 
 pub here-bind : {A B : Type 0} (r : Reading A) (f : A → Reading B) (s : Sight) → Here r s → ((x : A × Sight) → r s ≡ Ok x → Here (f x.0) x.1) → Here (r >>= f) s
-here-bind r f s h hf = here-bind_at r f s h hf (r s) refl
+here-bind r f s h hf = here-bind-at r f s h hf (r s) refl
 
 -- one reading behind another
 pub behind : {A B : Type 0} {r : Reading A} {f : A → Reading B} → Local r → ((a : A) → Local (f a)) → Local (r >>= f)

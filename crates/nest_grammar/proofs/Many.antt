@@ -21,9 +21,9 @@ pub record Parts {A B : Type 0} (begins : Token → Option B) (part : B → A �
   pub takes : (b : B) (a : A) → Takes (part b a)
 
 -- what was read, and what was read behind it
-pub bind_ok : {A B : Type 0} (r : Result (A × Sight) TextFault) (go : A → Reading B) (y : B × Sight) → after r go ≡ Ok y → (x : A × Sight) × (r ≡ Ok x) × (go x.0 x.1 ≡ Ok y)
-bind_ok (Ok x) go y h = (x, refl, h)
-bind_ok (Err e) go y h = cc
+pub bind-ok : {A B : Type 0} (r : Result (A × Sight) TextFault) (go : A → Reading B) (y : B × Sight) → after r go ≡ Ok y → (x : A × Sight) × (r ≡ Ok x) × (go x.0 x.1 ≡ Ok y)
+bind-ok (Ok x) go y h = (x, refl, h)
+bind-ok (Err e) go y h = cc
 
 pub after-same : {A B : Type 0} (r : Result (A × Sight) TextFault) (f g : A → Reading B) → ((x : A × Sight) → r ≡ Ok x → f x.0 x.1 ≡ g x.0 x.1) → after r f ≡ after r g
 after-same (Ok x) f g h = h x refl

@@ -46,8 +46,8 @@ use Rattle.nest_grammar.specs.Statements.{opening_of, local_room, local_number, 
 use Rattle.nest_grammar.specs.Loops.{loop_keyword, Loops, not_zero, stride_at, stride, heading, inside, rest_at, rest_of, has_any, body_end, around, loop_of, loop_at, loops}
 use Rattle.nest_grammar.specs.Scripts.{Script, command_word, may_follow, ruled, row, is_factor, is_size, row_begins, next_row, rows, operands, command_at, command, next_command, script_at, script, candidate, candidates}
 use Rattle.nest_grammar.specs.Contents.{set_version, version_at, version, scalar, scalars, memory, item_keyword, value_begins, data_value, next_value, data_values, ramp_fits, item_of, item, items, outermost, unit, next_unit, other_units, units, contents}
-use Rattle.nest_grammar.proofs.Many.{Takes, Parts, bind_ok}
-use Rattle.nest_grammar.proofs.Local.{elsewhere, Local, no_longer-local, behind, local-gives, local-counts, local-refused, local-skipped, local-by, local-of, local-if, local-wrong, local-many}
+use Rattle.nest_grammar.proofs.Many.{Takes, Parts, bind-ok}
+use Rattle.nest_grammar.proofs.Local.{elsewhere, Local, no-longer-local, behind, local-gives, local-counts, local-refused, local-skipped, local-by, local-of, local-if, local-wrong, local-many}
 
 -- A part of a loop: it depends on nothing behind the token where it stops, and takes one at least.
 pub record IsPart {A : Type 0} (r : Reading A) : Type 0 where
@@ -67,9 +67,9 @@ pub starts : {A B : Type 0} {r : Reading A} {f : A → Reading B} → IsPart r �
 starts {A} {B} {r} {f} p h = record {
   local = behind p.local h;
   takes = λ s y real e. (
-      let x = bind_ok (r s) f y e in
+      let x = bind-ok (r s) f y e in
       let a : length x.0.1.left < length s.left = p.takes s x.0 real x.1 in
-      let b : length y.1.left ≤ length x.0.1.left = no_longer-local (h x.0.0) x.0.1 y x.2 in omega arith);
+      let b : length y.1.left ≤ length x.0.1.left = no-longer-local (h x.0.0) x.0.1 y x.2 in omega arith);
 }
 
 -- the second of two takes a token
@@ -77,7 +77,7 @@ pub waits : {A B : Type 0} {r : Reading A} {f : A → Reading B} → Local r →
 waits {A} {B} {r} {f} l q h = record {
   local = behind l (λ a. (h a).local);
   takes = λ s y real e. (
-      let x = bind_ok (r s) f y e in
+      let x = bind-ok (r s) f y e in
       let v = q s x.0 x.1 in
       let t : stands x.0.1 ≡ stands s = still-here s x.0.1 v.0 v.1 in
       let b : length y.1.left < length x.0.1.left = (h x.0.0).takes x.0.1 y (λ k. real (sym t ∙ k)) x.2 in

@@ -18,8 +18,8 @@ Takes-trans (Some left) second third xs ys taken more =
     (then.0, taken.1 ∙ (ap (λ (all : List ℕ). xs ++ all) then.1 ∙ sym (append_assoc xs ys then.0)), then.2)
 
 -- a read that takes nothing leaves what was taken
-pub Takes-then_nothing : (first second third : Option (List ℕ)) (xs : List ℕ) → Takes first second xs → Takes second third [] → Takes first third xs
-Takes-then_nothing first second third xs taken none =
+pub Takes-then-nothing : (first second third : Option (List ℕ)) (xs : List ℕ) → Takes first second xs → Takes second third [] → Takes first third xs
+Takes-then-nothing first second third xs taken none =
     subst (λ (all : List ℕ). Takes first third all) (append-nil xs) (Takes-trans first second third xs [] taken none)
 
 -- nothing is put into a sink that stays
@@ -34,16 +34,16 @@ Appends-trans (Some held) second third xs ys put more =
     then ∙ ap Some (append_assoc held xs ys)
 
 -- what was put after the next piece, and what is left behind it
-pub put_more : (first second third : Option (List ℕ)) (bytes put rest : List ℕ) (count before now : ℕ) → bytes ≡ put ++ rest → Appends first second put → Appends second third (take count rest) → 1 ≤ count → count ≤ length rest → now ≤ before + length put → (more : List ℕ) × (bytes ≡ more ++ take (length rest - count) (drop count rest)) × Appends first third more × (now + 1 ≤ before + length more)
-put_more first second third bytes put rest count before now whole had then least most steps =
+pub put-more : (first second third : Option (List ℕ)) (bytes put rest : List ℕ) (count before now : ℕ) → bytes ≡ put ++ rest → Appends first second put → Appends second third (take count rest) → 1 ≤ count → count ≤ length rest → now ≤ before + length put → (more : List ℕ) × (bytes ≡ more ++ take (length rest - count) (drop count rest)) × Appends first third more × (now + 1 ≤ before + length more)
+put-more first second third bytes put rest count before now whole had then least most steps =
     let len : length (put ++ take count rest) ≡ length put + count = length-append put (take count rest) ∙ ap (λ (n : ℕ). length put + n) (length-take-le count rest most) in
     let seam : bytes ≡ (put ++ take count rest) ++ drop count rest = whole ∙ (ap (λ (all : List ℕ). put ++ all) (sym (take-append-drop count rest)) ∙ sym (append_assoc put (take count rest) (drop count rest))) in
     let behind : take (length rest - count) (drop count rest) ≡ drop count rest = search (rules, take_all, length-drop) in
     (put ++ take count rest, seam ∙ ap (λ (all : List ℕ). (put ++ take count rest) ++ all) (sym behind), Appends-trans first second third put (take count rest) had then, omega arith)
 
 -- where a write fails, what was put is a front of the bytes
-pub put_front : (first second third : Option (List ℕ)) (bytes put rest : List ℕ) (before now : ℕ) → bytes ≡ put ++ rest → Appends first second put → Appends second third [] → 0 < length rest → now ≤ before + (length put + 1) → (n : ℕ) × (n < length bytes) × Appends first third (take n bytes) × (now ≤ before + (n + 1))
-put_front first second third bytes put rest before now whole had none some steps =
+pub put-front : (first second third : Option (List ℕ)) (bytes put rest : List ℕ) (before now : ℕ) → bytes ≡ put ++ rest → Appends first second put → Appends second third [] → 0 < length rest → now ≤ before + (length put + 1) → (n : ℕ) × (n < length bytes) × Appends first third (take n bytes) × (now ≤ before + (n + 1))
+put-front first second third bytes put rest before now whole had none some steps =
     let all : length bytes ≡ length put + length rest = ap length whole ∙ length-append put rest in
     let front : take (length put) bytes ≡ put = ap (λ (xs : List ℕ). take (length put) xs) whole ∙ take-append_seam put rest in
     let held : Appends first third (put ++ []) = Appends-trans first second third put [] had none in
@@ -66,8 +66,8 @@ take_more first second third bytes piece count limit before now taken more room 
     (bytes ++ take count piece, Takes-trans first second third bytes (take count piece) taken more, omega arith, omega arith)
 
 -- what was copied to the front of a buffer from what is behind `given` is taken from there
-pub front_copied : (whole shown left into after : List ℕ) (given count : ℕ) → shown ≡ whole → drop given whole ≡ left → count ≤ length (take (length shown - given) (drop given shown)) → after ≡ take count (take (length shown - given) (drop given shown)) ++ drop count into → (rest : List ℕ) × (left ≡ take count after ++ rest) × (Some (drop (given + count) whole) ≡ Some rest)
-front_copied whole shown left into after given count same behind fits copied =
+pub front-copied : (whole shown left into after : List ℕ) (given count : ℕ) → shown ≡ whole → drop given whole ≡ left → count ≤ length (take (length shown - given) (drop given shown)) → after ≡ take count (take (length shown - given) (drop given shown)) ++ drop count into → (rest : List ℕ) × (left ≡ take count after ++ rest) × (Some (drop (given + count) whole) ≡ Some rest)
+front-copied whole shown left into after given count same behind fits copied =
     let cut : take (length shown - given) (drop given shown) ≡ drop given shown = search (rules, take_all, length-drop) in
     let seen : take (length shown - given) (drop given shown) ≡ left = cut ∙ (ap (λ (xs : List ℕ). drop given xs) same ∙ behind) in
     let there : count ≤ length left = subst (λ (xs : List ℕ). count ≤ length xs) seen fits in

@@ -1,3 +1,5 @@
+//! Sources and sinks over memory: pieces of every size, a text that is cut, and faults.
+
 use super::*;
 use std::alloc::{AllocError, Global};
 use std::io;

@@ -33,17 +33,17 @@ abbrev pub stepped : Transition → Store → ℕ → ℕ → Cut
 stepped st s zero used = cut_of s 0 used Limited
 stepped st s (suc n) used = goes_on st.halt (in_turn st.rest (effect_on s st.entry.effect)) (effect_on s st.entry.effect) n (used + 1)
 
-cut-joined_one : (halt : Option Halt) (e : Entry) (more : Trace) (s : Store) (n used : ℕ) → cut (joined halt (e ∷ []) more) s (suc n) used ≡ goes_on halt more (effect_on s e.effect) n (used + 1)
-cut-joined_one (Some halt) e more s n used = cut-cons e [] (Some halt) s n used ∙ cut-end (Some halt) _ _ _
-cut-joined_one None e more s n used = cut-cons e more.entries more.halt s n used
+cut-joined-one : (halt : Option Halt) (e : Entry) (more : Trace) (s : Store) (n used : ℕ) → cut (joined halt (e ∷ []) more) s (suc n) used ≡ goes_on halt more (effect_on s e.effect) n (used + 1)
+cut-joined-one (Some halt) e more s n used = cut-cons e [] (Some halt) s n used ∙ cut-end (Some halt) _ _ _
+cut-joined-one None e more s n used = cut-cons e more.entries more.halt s n used
 
-cut-joined_stop : (halt : Option Halt) (e : Entry) (more : Trace) (s : Store) (used : ℕ) → cut (joined halt (e ∷ []) more) s 0 used ≡ cut_of s 0 used Limited
-cut-joined_stop (Some halt) e more s used = cut-stop e [] (Some halt) s used
-cut-joined_stop None e more s used = cut-stop e more.entries more.halt s used
+cut-joined-stop : (halt : Option Halt) (e : Entry) (more : Trace) (s : Store) (used : ℕ) → cut (joined halt (e ∷ []) more) s 0 used ≡ cut_of s 0 used Limited
+cut-joined-stop (Some halt) e more s used = cut-stop e [] (Some halt) s used
+cut-joined-stop None e more s used = cut-stop e more.entries more.halt s used
 
 pub cut-traced : (st : Transition) (s : Store) (left used : ℕ) → cut (traced st s) s left used ≡ stepped st s left used
-cut-traced st s zero used = cut-joined_stop st.halt st.entry _ s used
-cut-traced st s (suc n) used = cut-joined_one st.halt st.entry _ s n used
+cut-traced st s zero used = cut-joined-stop st.halt st.entry _ s used
+cut-traced st s (suc n) used = cut-joined-one st.halt st.entry _ s n used
 
 -- a step that is due is taken where one is left
 pub cut-step : (st : Transition) (s : Store) (left used left' used' : ℕ) → 0 < left → left' ≡ left - 1 → used' ≡ used + min 1 left → cut (traced st s) s left used ≡ goes_on st.halt (in_turn st.rest (effect_on s st.entry.effect)) (effect_on s st.entry.effect) left' used'
@@ -66,14 +66,14 @@ resumed_at Limited s left used go = cut_of s left used Limited
 abbrev pub resumed : Cut → (Store → Trace) → Cut
 resumed c go = resumed_at c.ending c.store c.left c.used go
 
-resumed-not_at : (e : Finish) (s : Store) (left used : ℕ) (go : Store → Trace) → (e ≡ Done → ⊥) → resumed_at e s left used go ≡ cut_of s left used e
-resumed-not_at Done s left used go h = absurd (h refl)
-resumed-not_at (Halted halt) s left used go h = refl
-resumed-not_at Limited s left used go h = refl
+resumed-not-at : (e : Finish) (s : Store) (left used : ℕ) (go : Store → Trace) → (e ≡ Done → ⊥) → resumed_at e s left used go ≡ cut_of s left used e
+resumed-not-at Done s left used go h = absurd (h refl)
+resumed-not-at (Halted halt) s left used go h = refl
+resumed-not-at Limited s left used go h = refl
 
 -- a part that was not done is the end of the whole
 pub resumed-not : (cu : Cut) (go : Store → Trace) → (cu.ending ≡ Done → ⊥) → resumed cu go ≡ cu
-resumed-not cu go other = resumed-not_at cu.ending cu.store cu.left cu.used go other
+resumed-not cu go other = resumed-not-at cu.ending cu.store cu.left cu.used go other
 
 -- a run of two parts is a run of the first, and then of the second with what is left
 pub cut-join : (halt : Option Halt) (es : List Entry) (go : Store → Trace) (s : Store) (left used : ℕ) → cut (joined halt es (go (after_all s es))) s left used ≡ resumed (cut (trace_of es halt) s left used) go
@@ -98,12 +98,12 @@ unfolding cut
 cut-kept t s left used = omega arith
 
 pub resumed-ends : (cu : Cut) → resumed cu (in_turn []) ≡ cu
-resumed-ends cu = resumed-ends_at cu.ending cu.store cu.left cu.used
+resumed-ends cu = resumed-ends-at cu.ending cu.store cu.left cu.used
   where
-    resumed-ends_at : (e : Finish) (s : Store) (left used : ℕ) → resumed (cut_of s left used e) (in_turn []) ≡ cut_of s left used e
-    resumed-ends_at Done s left used = cut-end None s left used
-    resumed-ends_at (Halted halt) s left used = refl
-    resumed-ends_at Limited s left used = refl
+    resumed-ends-at : (e : Finish) (s : Store) (left used : ℕ) → resumed (cut_of s left used e) (in_turn []) ≡ cut_of s left used e
+    resumed-ends-at Done s left used = cut-end None s left used
+    resumed-ends-at (Halted halt) s left used = refl
+    resumed-ends-at Limited s left used = refl
 
 -- traces one after another
 pub cut-turn : (f : Store → Trace) (fs : List (Store → Trace)) (s : Store) (left used : ℕ) → cut (in_turn (f ∷ fs) s) s left used ≡ resumed (cut (f s) s left used) (in_turn fs)
@@ -126,25 +126,25 @@ abbrev pub goes_seen : Option Halt → Trace → ℕ → List Observation
 goes_seen (Some halt) more left = []
 goes_seen None more left = seen_in more left
 
-seen-joined_one : (halt : Option Halt) (e : Entry) (more : Trace) (n : ℕ) → seen_in (joined halt (e ∷ []) more) (suc n) ≡ e.before ++ e.seen ++ goes_seen halt more n
+seen-joined-one : (halt : Option Halt) (e : Entry) (more : Trace) (n : ℕ) → seen_in (joined halt (e ∷ []) more) (suc n) ≡ e.before ++ e.seen ++ goes_seen halt more n
 unfolding seen_in
-seen-joined_one (Some halt) e more n = refl
-seen-joined_one None e more n = refl
+seen-joined-one (Some halt) e more n = refl
+seen-joined-one None e more n = refl
 
-seen-joined_none : (halt : Option Halt) (e : Entry) (more : Trace) → seen_in (joined halt (e ∷ []) more) 0 ≡ e.before
+seen-joined-none : (halt : Option Halt) (e : Entry) (more : Trace) → seen_in (joined halt (e ∷ []) more) 0 ≡ e.before
 unfolding seen_in
-seen-joined_none (Some halt) e more = refl
-seen-joined_none None e more = refl
+seen-joined-none (Some halt) e more = refl
+seen-joined-none None e more = refl
 
 pub seen-step : (st : Transition) (s : Store) (left left' : ℕ) → 0 < left → left' ≡ left - 1 → seen_in (traced st s) left ≡ st.entry.before ++ st.entry.seen ++ goes_seen st.halt (in_turn st.rest (effect_on s st.entry.effect)) left'
 seen-step st s zero left' h e = absurd (omega arith)
 seen-step st s (suc n) left' h e =
     let a : left' ≡ n = omega arith in
-    rw a (seen-joined_one st.halt st.entry (in_turn st.rest (effect_on s st.entry.effect)) n)
+    rw a (seen-joined-one st.halt st.entry (in_turn st.rest (effect_on s st.entry.effect)) n)
 
 -- a step that is due shows what is shown before it
 pub seen-due : (st : Transition) (s : Store) (left : ℕ) → left ≡ 0 → seen_in (traced st s) left ≡ st.entry.before
-seen-due st s left e = rw e (seen-joined_none st.halt st.entry (in_turn st.rest (effect_on s st.entry.effect)))
+seen-due st s left e = rw e (seen-joined-none st.halt st.entry (in_turn st.rest (effect_on s st.entry.effect)))
 
 pub seen-ends : (left : ℕ) → seen_in ends left ≡ []
 unfolding seen_in
@@ -159,10 +159,10 @@ rest_seen_at Limited s left go = []
 abbrev pub rest_seen : Cut → (Store → Trace) → List Observation
 rest_seen cu go = rest_seen_at cu.ending cu.store cu.left go
 
-pub rest_seen-not : (e : Finish) (s : Store) (left : ℕ) (go : Store → Trace) → (e ≡ Done → ⊥) → rest_seen_at e s left go ≡ []
-rest_seen-not Done s left go h = absurd (h refl)
-rest_seen-not (Halted halt) s left go h = refl
-rest_seen-not Limited s left go h = refl
+pub rest-seen-not : (e : Finish) (s : Store) (left : ℕ) (go : Store → Trace) → (e ≡ Done → ⊥) → rest_seen_at e s left go ≡ []
+rest-seen-not Done s left go h = absurd (h refl)
+rest-seen-not (Halted halt) s left go h = refl
+rest-seen-not Limited s left go h = refl
 
 -- a run of two parts shows what the first shows, and then the second with what is left
 pub seen-join : (halt : Option Halt) (es : List Entry) (go : Store → Trace) (s : Store) (left used : ℕ) → seen_in (joined halt es (go (after_all s es))) left ≡ seen_in (trace_of es halt) left ++ rest_seen (cut (trace_of es halt) s left used) go

@@ -198,9 +198,9 @@ traces-known k [] = refl
 traces-known k (ls ∷ nests) = ap₂ (λ t ts. t ∷ ts) (nest_trace-known k ls) (traces-known k nests)
 
 -- the run of them, which computes
-abbrev pub run_by : List (List KnownLoop) → Store → ℕ → Run
-run_by nests s n = run_of (cut (in_turn (map (λ ls. loops_by (n + 1) 1 ls outside) nests) s) s n 0)
+abbrev pub run-by : List (List KnownLoop) → Store → ℕ → Run
+run-by nests s n = run_of (cut (in_turn (map (λ ls. loops_by (n + 1) 1 ls outside) nests) s) s n 0)
 
-pub plain_run-known : (nests : List (List KnownLoop)) (s : Store) (n : ℕ) → plain_run (nests_of nests) s n ≡ run_by nests s n
+pub plain_run-known : (nests : List (List KnownLoop)) (s : Store) (n : ℕ) → plain_run (nests_of nests) s n ≡ run-by nests s n
 unfolding plain_run nests_trace
 plain_run-known nests s n = ap (λ ts. run_of (cut (in_turn ts s) s n 0)) (traces-known (n + 1) nests)

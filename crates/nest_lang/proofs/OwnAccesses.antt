@@ -128,9 +128,9 @@ module _ (at : Occurrence) (values : List ℤ) (x y : Expectation) where
       ap (λ (q : Told). with_value q.seen q.value (λ v. step_of [] q.seen Nothing None (if same v (pos 0) then map (statement_trace f) (map (λ e. e.0) second) else map (statement_trace f) (map (λ e. e.0) first)))) one
       ∙ ap₂ (λ (p q : List (Store → Trace)). with_value (told g s e).seen (told g s e).value (λ v. step_of [] (told g s e).seen Nothing None (if same v (pos 0) then q else p))) two three
 
-  every_statement-same : (st : Stmt) → Traces st
+  every-statement-same : (st : Stmt) → Traces st
   unfolding Traces
-  every_statement-same = ind-Stmt Traces (λ w z is. subst (λ v. Traces (roll-Stmt v)) is
+  every-statement-same = ind-Stmt Traces (λ w z is. subst (λ v. Traces (roll-Stmt v)) is
       (λ h. statement-rolled f (map-Stmt _ _ (λ e. e.0) z)
       ∙ (λ i s. traced (statement_level-same z s (subst Agree (statement_accesses-rolled (map-Stmt _ _ (λ e. e.0) z)) h) i) s)
       ∙ sym (statement-rolled g (map-Stmt _ _ (λ e. e.0) z))))
@@ -140,7 +140,7 @@ module _ (at : Occurrence) (values : List ℤ) (x y : Expectation) where
   every-same [] h = refl
   every-same (st ∷ block) h =
       ap₂ (λ (t : Store → Trace) (ts : List (Store → Trace)). t ∷ ts)
-      (every_statement-same st (left (statement_accesses st) (flat_map statement_accesses block) h))
+      (every-statement-same st (left (statement_accesses st) (flat_map statement_accesses block) h))
       (every-same block (right (statement_accesses st) (flat_map statement_accesses block) h))
 
   announced-same : (s : Store) → announced f s ≡ announced g s
@@ -160,8 +160,8 @@ module _ (at : Occurrence) (values : List ℤ) (x y : Expectation) where
   head-same (While condition) s h =
       ap (λ (p : Told). then_head p.seen p.value (λ v. heading (shown f Condition (as_number (not (same v (pos 0)))) ∷ []) (Ok (Tested (not (same v (pos 0))))))) (told-same s condition h)
 
-pub instances-have_own_accesses : InstancesHaveOwnAccesses
-instances-have_own_accesses at values x y block s h = instance-same at values x y block s h
+pub instances-have-own-accesses : InstancesHaveOwnAccesses
+instances-have-own-accesses at values x y block s h = instance-same at values x y block s h
 
-pub heads-have_own_accesses : HeadsHaveOwnAccesses
-heads-have_own_accesses at values x y head s h = head-same at values x y head s h
+pub heads-have-own-accesses : HeadsHaveOwnAccesses
+heads-have-own-accesses at values x y head s h = head-same at values x y head s h

@@ -207,18 +207,18 @@ position-present : (loops : List Loop) (r : ℕ) (b : BlockRef) → slice_get (p
 position-present [] r b e = absurd (present_blocks-none r b e)
 position-present (l ∷ ls) r b e = position-rises (suc (length ls)) (present_blocks (l ∷ ls)) r b (present-rises (suc (length ls)) l ls refl) e
 
-pub ranks-are_numbers : RanksAreNumbers
-ranks-are_numbers loops b r = (position-get (present_blocks loops) r b, position-present loops r b)
+pub ranks-are-numbers : RanksAreNumbers
+ranks-are-numbers loops b r = (position-get (present_blocks loops) r b, position-present loops r b)
 
 -- the blocks of the loops inside, by the loop at their level
-has-if_any : (by : Part) (level : ℕ) (block : List Stmt) → block ≢ [] → Has (block_if_any by level block) (block_ref by level)
-has-if_any by level [] some = absurd (some refl)
-has-if_any by level (x ∷ xs) some = inl refl
+has-if-any : (by : Part) (level : ℕ) (block : List Stmt) → block ≢ [] → Has (block_if_any by level block) (block_ref by level)
+has-if-any by level [] some = absurd (some refl)
+has-if-any by level (x ∷ xs) some = inl refl
 
-if_any-has : (by : Part) (level : ℕ) (block : List Stmt) (b : BlockRef) → Has (block_if_any by level block) b → (b ≡ block_ref by level) × (block ≢ [])
-if_any-has by level [] b h = absurd h
-if_any-has by level (x ∷ xs) b (inl e) = (e, λ none. absurd (cc))
-if_any-has by level (x ∷ xs) b (inr h) = absurd h
+if-any-has : (by : Part) (level : ℕ) (block : List Stmt) (b : BlockRef) → Has (block_if_any by level block) b → (b ≡ block_ref by level) × (block ≢ [])
+if-any-has by level [] b h = absurd h
+if-any-has by level (x ∷ xs) b (inl e) = (e, λ none. absurd (cc))
+if-any-has by level (x ∷ xs) b (inr h) = absurd h
 
 abbrev Opens : Part → Loop → Type 0
 Opens part.Head l = Unit {0}
@@ -234,7 +234,7 @@ has-opening (m ∷ ls) level zero l by e h =
   where
     at : (by : Part) → Opens by l → Has (opening level (l ∷ ls)) (block_ref by level)
     at part.Head h = inl refl
-    at part.Pre h = inr (has-left (block_if_any part.Pre level l.pre) (opening (level + 1) ls) (block_ref part.Pre level) (has-if_any part.Pre level l.pre h))
+    at part.Pre h = inr (has-left (block_if_any part.Pre level l.pre) (opening (level + 1) ls) (block_ref part.Pre level) (has-if-any part.Pre level l.pre h))
     at part.Post h = absurd h
 has-opening (m ∷ ls) level (suc n) l by e h =
     let deeper : level + suc n ≡ level + 1 + n = omega arith in
@@ -246,7 +246,7 @@ has-closing (m ∷ ls) level zero l e h =
     let is : m ≡ l = cc in
     let here : level + 0 ≡ level = omega arith in
     rw here (has-right (closing (level + 1) ls) (block_if_any part.Post level m.post) (block_ref part.Post level)
-    (subst (λ (z : Loop). Has (block_if_any part.Post level z.post) (block_ref part.Post level)) (sym is) (has-if_any part.Post level l.post h)))
+    (subst (λ (z : Loop). Has (block_if_any part.Post level z.post) (block_ref part.Post level)) (sym is) (has-if-any part.Post level l.post h)))
 has-closing (m ∷ ls) level (suc n) l e h =
     let deeper : level + suc n ≡ level + 1 + n = omega arith in
     rw deeper (has-left (closing (level + 1) ls) (block_if_any part.Post level m.post) (block_ref part.Post (level + 1 + n)) (has-closing ls (level + 1) n l e h))
@@ -256,25 +256,25 @@ record Opened (level : ℕ) (ls : List Loop) (b : BlockRef) : Type 0 where
   at : ℕ
   loop : Loop
   found : slice_get ls at ≡ Some loop
-  level_is : b.level ≡ level + at
+  level-is : b.level ≡ level + at
   opens : Opens b.part loop
 
 opening-has : (ls : List Loop) (level : ℕ) (b : BlockRef) → Has (opening level ls) b → Opened level ls b
 opening-has [] level b h = absurd h
 opening-has (l ∷ ls) level b (inl e) =
     let here : level ≡ level + 0 = omega arith in
-    record { at = 0; loop = l; found = refl; level_is = ap (λ (z : BlockRef). z.level) e ∙ here; opens = subst (λ (z : BlockRef). Opens z.part l) (sym e) tt }
+    record { at = 0; loop = l; found = refl; level-is = ap (λ (z : BlockRef). z.level) e ∙ here; opens = subst (λ (z : BlockRef). Opens z.part l) (sym e) tt }
 opening-has (l ∷ ls) level b (inr h) = by (opening-has ls (level + 1) b) (has-either (block_if_any part.Pre level l.pre) (opening (level + 1) ls) b h)
   where
     by : (Has (opening (level + 1) ls) b → Opened (level + 1) ls b) → Has (block_if_any part.Pre level l.pre) b ⊎ Has (opening (level + 1) ls) b → Opened level (l ∷ ls) b
     by go (inl k) =
-        let q = if_any-has part.Pre level l.pre b k in
+        let q = if-any-has part.Pre level l.pre b k in
         let here : level ≡ level + 0 = omega arith in
-        record { at = 0; loop = l; found = refl; level_is = ap (λ (z : BlockRef). z.level) q.0 ∙ here; opens = subst (λ (z : BlockRef). Opens z.part l) (sym q.0) q.1 }
+        record { at = 0; loop = l; found = refl; level-is = ap (λ (z : BlockRef). z.level) q.0 ∙ here; opens = subst (λ (z : BlockRef). Opens z.part l) (sym q.0) q.1 }
     by go (inr k) =
         let q = go k in
         let deeper : level + 1 + q.at ≡ level + suc q.at = omega arith in
-        record { at = suc q.at; loop = q.loop; found = q.found; level_is = q.level_is ∙ deeper; opens = q.opens }
+        record { at = suc q.at; loop = q.loop; found = q.found; level-is = q.level-is ∙ deeper; opens = q.opens }
 
 record Closed (level : ℕ) (ls : List Loop) (b : BlockRef) : Type 0 where
   at : ℕ
@@ -293,7 +293,7 @@ closing-has (l ∷ ls) level b h = by (closing-has ls (level + 1) b) (has-either
         let deeper : level + 1 + q.at ≡ level + suc q.at = omega arith in
         record { at = suc q.at; loop = q.loop; found = q.found; is = q.is ∙ ap (block_ref part.Post) deeper; some = q.some }
     by go (inr k) =
-        let q = if_any-has part.Post level l.post b k in
+        let q = if-any-has part.Post level l.post b k in
         let here : level ≡ level + 0 = omega arith in
         record { at = 0; loop = l; found = refl; is = q.0 ∙ ap (block_ref part.Post) here; some = q.1 }
 
@@ -314,27 +314,27 @@ module _ (l : Loop) (ls : List Loop) where
   outermost-has (While condition) b (inl e) = (e, omega arith)
   outermost-has (While condition) b (inr k) = absurd k
 
-  in_front : (b : BlockRef) → Has (outermost l.head ++ block_if_any part.Pre 1 l.pre) b → Has (front ++ closing 1 (l ∷ ls)) b
-  in_front b k = has-left front (closing 1 (l ∷ ls)) b (has-left (outermost l.head ++ block_if_any part.Pre 1 l.pre) (opening 2 ls) b k)
+  in-front : (b : BlockRef) → Has (outermost l.head ++ block_if_any part.Pre 1 l.pre) b → Has (front ++ closing 1 (l ∷ ls)) b
+  in-front b k = has-left front (closing 1 (l ∷ ls)) b (has-left (outermost l.head ++ block_if_any part.Pre 1 l.pre) (opening 2 ls) b k)
 
   inside : (b : BlockRef) → Has (opening 2 ls) b → Has (front ++ closing 1 (l ∷ ls)) b
   inside b k = has-left front (closing 1 (l ∷ ls)) b (has-right (outermost l.head ++ block_if_any part.Pre 1 l.pre) (opening 2 ls) b k)
 
-  has-present_part : (by : Part) (level : ℕ) (m : Loop) → loop_at (l ∷ ls) level ≡ Some m → IsPresentPart by level m → Has (front ++ closing 1 (l ∷ ls)) (block_ref by level)
-  has-present_part by zero m e h = absurd (cc)
-  has-present_part part.Head (suc zero) m e h =
+  has-present-part : (by : Part) (level : ℕ) (m : Loop) → loop_at (l ∷ ls) level ≡ Some m → IsPresentPart by level m → Has (front ++ closing 1 (l ∷ ls)) (block_ref by level)
+  has-present-part by zero m e h = absurd (cc)
+  has-present-part part.Head (suc zero) m e h =
       let is : l ≡ m = cc in
-      in_front (block_ref part.Head 1) (has-left (outermost l.head) (block_if_any part.Pre 1 l.pre) (block_ref part.Head 1) (has-outermost l.head (subst (λ (z : Loop). IsPresentHead z.head 1) (sym is) h)))
-  has-present_part part.Pre (suc zero) m e h =
+      in-front (block_ref part.Head 1) (has-left (outermost l.head) (block_if_any part.Pre 1 l.pre) (block_ref part.Head 1) (has-outermost l.head (subst (λ (z : Loop). IsPresentHead z.head 1) (sym is) h)))
+  has-present-part part.Pre (suc zero) m e h =
       let is : l ≡ m = cc in
-      in_front (block_ref part.Pre 1) (has-right (outermost l.head) (block_if_any part.Pre 1 l.pre) (block_ref part.Pre 1) (has-if_any part.Pre 1 l.pre (subst (λ (z : Loop). z.pre ≢ []) (sym is) h)))
-  has-present_part part.Post (suc n) m e h =
+      in-front (block_ref part.Pre 1) (has-right (outermost l.head) (block_if_any part.Pre 1 l.pre) (block_ref part.Pre 1) (has-if-any part.Pre 1 l.pre (subst (λ (z : Loop). z.pre ≢ []) (sym is) h)))
+  has-present-part part.Post (suc n) m e h =
       let one : 1 + n ≡ suc n = omega arith in
       has-right front (closing 1 (l ∷ ls)) (block_ref part.Post (suc n)) (rw one at (has-closing (l ∷ ls) 1 n m e h))
-  has-present_part part.Head (suc (suc n)) m e h =
+  has-present-part part.Head (suc (suc n)) m e h =
       let two : 2 + n ≡ suc (suc n) = omega arith in
       inside (block_ref part.Head (suc (suc n))) (rw two at (has-opening ls 2 n m part.Head e tt))
-  has-present_part part.Pre (suc (suc n)) m e h =
+  has-present-part part.Pre (suc (suc n)) m e h =
       let two : 2 + n ≡ suc (suc n) = omega arith in
       inside (block_ref part.Pre (suc (suc n))) (rw two at (has-opening ls 2 n m part.Pre e h))
 
@@ -361,14 +361,14 @@ module _ (l : Loop) (ls : List Loop) where
           subst (λ (z : BlockRef). IsPresent (l ∷ ls) z) (sym (q.is ∙ ap (block_ref part.Post) one)) (q.loop, q.found, q.some)
 
       within : Opened 2 ls b → IsPresent (l ∷ ls) b
-      within q = opened-present b.part b.level q.loop q.at q.found q.level_is q.opens
+      within q = opened-present b.part b.level q.loop q.at q.found q.level-is q.opens
 
       before : Has (outermost l.head) b ⊎ Has (block_if_any part.Pre 1 l.pre) b → IsPresent (l ∷ ls) b
       before (inl k) =
           let q = outermost-has l.head b k in
           subst (λ (z : BlockRef). IsPresent (l ∷ ls) z) (sym q.0) (l, refl, q.1)
       before (inr k) =
-          let q = if_any-has part.Pre 1 l.pre b k in
+          let q = if-any-has part.Pre 1 l.pre b k in
           subst (λ (z : BlockRef). IsPresent (l ∷ ls) z) (sym q.0) (l, refl, q.1)
 
       outer : Has (outermost l.head ++ block_if_any part.Pre 1 l.pre) b ⊎ Has (opening 2 ls) b → IsPresent (l ∷ ls) b
@@ -386,15 +386,15 @@ has-present [] b (l, e, h) = absurd (none b.level e)
     none : (level : ℕ) {l : Loop} → loop_at [] level ≡ Some l → ⊥
     none zero e = cc
     none (suc n) e = cc
-has-present (l ∷ ls) b (m, e, h) = has-present_part l ls b.part b.level m e h
+has-present (l ∷ ls) b (m, e, h) = has-present-part l ls b.part b.level m e h
 
 present-is : (loops : List Loop) (b : BlockRef) → Has (present_blocks loops) b → IsPresent loops b
 unfolding present_blocks
 present-is [] b h = absurd h
 present-is (l ∷ ls) b h = present-has l ls b h
 
-pub present_blocks-have_ranks : PresentBlocksHaveRanks
-present_blocks-have_ranks loops b = (ranked, named)
+pub present_blocks-have-ranks : PresentBlocksHaveRanks
+present_blocks-have-ranks loops b = (ranked, named)
   where
     ranked : IsPresent loops b → (rank : ℕ) × (rank_of loops b ≡ Some rank)
     ranked p = let q = get-has (present_blocks loops) b (has-present loops b p) in (q.0, position-present loops q.0 b q.1)

@@ -20,8 +20,8 @@ begins-alike t u n m h (inr b) =
     let p = take-begins n m u.entries h in
     (p.0, p.1 ∙ ap (λ z. z ++ p.0) (sym (take-same n (n + 1) t.entries u.entries (omega arith) b.same)))
 
-pub longer_run-begins : LongerRunBegins
-longer_run-begins nests s n m h = begins-alike (nests_trace (n + 1) nests s) (nests_trace (m + 1) nests s) n m h (runs-alike nests s n m h)
+pub longer-run-begins : LongerRunBegins
+longer-run-begins nests s n m h = begins-alike (nests_trace (n + 1) nests s) (nests_trace (m + 1) nests s) n m h (runs-alike nests s n m h)
 
 take-all : {A : Type 0} (xs : List A) (n : ℕ) → length xs ≤ n → take n xs ≡ xs
 take-all [] zero h = refl
@@ -53,9 +53,9 @@ stays-alike t u s n m h (inl e) other =
     ap (λ z. run_of (cut z s m 0)) (sym e) ∙ here
 stays-alike t u s n m h (inr b) other = absurd (omega (arith, within-cut t s n 0 other, b.first))
 
-pub finished_run-stays : FinishedRunStays
+pub finished-run-stays : FinishedRunStays
 unfolding plain_run
-finished_run-stays nests s n m h other = stays-alike (nests_trace (n + 1) nests s) (nests_trace (m + 1) nests s) s n m h (runs-alike nests s n m h) other
+finished-run-stays nests s n m h other = stays-alike (nests_trace (n + 1) nests s) (nests_trace (m + 1) nests s) s n m h (runs-alike nests s n m h) other
 
 pub length-slice_set : (xs : List ℤ) (i : ℕ) (v : ℤ) → length (set xs i v) ≡ length xs
 length-slice_set xs i v = grind (arith, common_steps)

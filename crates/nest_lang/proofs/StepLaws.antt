@@ -35,20 +35,20 @@ stored-seen seen z v (Ok old) = refl
 stored-seen seen z v (Err halt) = refl
 
 -- the step of a store whose address was told, by what its value tells and what is found there
-abbrev pub value_step : Frame → ℕ → Told → Told → (ℤ → Result ℤ Halt) → ℤ → Transition
-value_step f access a e found address = with_value (a.seen ++ e.seen) e.value (λ v. stored (a.seen ++ e.seen ++ shown f (Address access) address ∷ []) address v (found address))
+abbrev pub value-step : Frame → ℕ → Told → Told → (ℤ → Result ℤ Halt) → ℤ → Transition
+value-step f access a e found address = with_value (a.seen ++ e.seen) e.value (λ v. stored (a.seen ++ e.seen ++ shown f (Address access) address ∷ []) address v (found address))
 
 -- the step of a store
-abbrev pub store_step : Frame → ℕ → Told → Told → (ℤ → Result ℤ Halt) → Transition
-store_step f access a e found = with_value a.seen a.value (value_step f access a e found)
+abbrev pub store-step : Frame → ℕ → Told → Told → (ℤ → Result ℤ Halt) → Transition
+store-step f access a e found = with_value a.seen a.value (value-step f access a e found)
 
-pub value_step-before : (f : Frame) (access : ℕ) (a e : Told) (found : ℤ → Result ℤ Halt) (z : ℤ) → (value_step f access a e found z).entry.before ≡ []
-value_step-before f access a e found z =
+pub value-step-before : (f : Frame) (access : ℕ) (a e : Told) (found : ℤ → Result ℤ Halt) (z : ℤ) → (value-step f access a e found z).entry.before ≡ []
+value-step-before f access a e found z =
     let seen : List Observation = a.seen ++ e.seen ++ shown f (Address access) z ∷ [] in
     with_value-before (a.seen ++ e.seen) e.value (λ v. stored seen z v (found z)) (λ v. stored-before seen z v (found z))
 
-pub store_step-before : (f : Frame) (access : ℕ) (a e : Told) (found : ℤ → Result ℤ Halt) → (store_step f access a e found).entry.before ≡ []
-store_step-before f access a e found = with_value-before a.seen a.value (value_step f access a e found) (value_step-before f access a e found)
+pub store-step-before : (f : Frame) (access : ℕ) (a e : Told) (found : ℤ → Result ℤ Halt) → (store-step f access a e found).entry.before ≡ []
+store-step-before f access a e found = with_value-before a.seen a.value (value-step f access a e found) (value-step-before f access a e found)
 
 pub head_step-before : (before seen : List Observation) (r : Result Yield Halt) (go : Yield → List (Store → Trace)) → (head_step before seen r go).entry.before ≡ before
 head_step-before before seen (Ok yield) go = refl

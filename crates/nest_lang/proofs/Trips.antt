@@ -9,16 +9,16 @@ use Rattle.std.specs.Int.{div_ceil}
 use Rattle.nest_lang.specs.Values.{IsTurn, steps_over, trip_count}
 
 -- t steps of a size stay below a distance exactly where t is below the quotient rounded up
-below_ceil-to : (d k t : ℕ) → 0 < k → t < div_ceil d k → t * k < d
-below_ceil-to d k t some h =
+below-ceil-to : (d k t : ℕ) → 0 < k → t < div_ceil d k → t * k < d
+below-ceil-to d k t some h =
     let c : ℕ = div_ceil d k in
     let room : c * k < d + k = (div_ceil_times d k some).1 in
     let step : (t + 1) * k ≤ c * k = mul-le-mul_right k (omega arith) in
     let split : (t + 1) * k ≡ t * k + k = grind arith in
     omega arith
 
-below_ceil-from : (d k t : ℕ) → 0 < k → t * k < d → t < div_ceil d k
-below_ceil-from d k t some h =
+below-ceil-from : (d k t : ℕ) → 0 < k → t * k < d → t < div_ceil d k
+below-ceil-from d k t some h =
     let c : ℕ = div_ceil d k in
     let all : d ≤ c * k = (div_ceil_times d k some).0 in
     let less : t * k < c * k = lt_of_lt_of_le h all in
@@ -28,13 +28,13 @@ below_ceil-from d k t some h =
 turns-rising : (distance : ℤ) (lower upper : ℤ) (k t : ℕ) → 0 < k → distance ≡ upper -ℤ lower → (t < steps_over distance k) ↔ ((lower +ℤ pos k *ℤ pos t) <ℤ upper)
 turns-rising (pos d) lower upper k t some e =
     let there : t < div_ceil d k → (lower +ℤ pos k *ℤ pos t) <ℤ upper =
-    λ h. let m : t * k < d = below_ceil-to d k t some h in
+    λ h. let m : t * k < d = below-ceil-to d k t some h in
     let c : k * t ≡ t * k = mul_comm k t in
     rw pos-*ℤ-pos (omega (arith, ints)) in
     let back : (lower +ℤ pos k *ℤ pos t) <ℤ upper → t < div_ceil d k =
     λ h. let p : (lower +ℤ pos (k * t)) <ℤ upper = rw pos-*ℤ-pos at h in
     let c : k * t ≡ t * k = mul_comm k t in
-    below_ceil-from d k t some (omega (arith, ints)) in
+    below-ceil-from d k t some (omega (arith, ints)) in
     (there, back)
 turns-rising (negsuc n) lower upper k t some e =
     let there : t < 0 → (lower +ℤ pos k *ℤ pos t) <ℤ upper = λ h. absurd (omega arith) in
@@ -46,13 +46,13 @@ turns-falling : (distance : ℤ) (lower upper : ℤ) (k t : ℕ) → distance �
 turns-falling (pos d) lower upper k t e =
     let some : 0 < suc k = omega arith in
     let there : t < div_ceil d (suc k) → upper <ℤ (lower +ℤ negsuc k *ℤ pos t) =
-    λ h. let m : t * suc k < d = below_ceil-to d (suc k) t some h in
+    λ h. let m : t * suc k < d = below-ceil-to d (suc k) t some h in
     let c : suc k * t ≡ t * suc k = mul_comm (suc k) t in
     rw negsuc-*ℤ-pos (omega (arith, ints)) in
     let back : upper <ℤ (lower +ℤ negsuc k *ℤ pos t) → t < div_ceil d (suc k) =
     λ h. let p = rw negsuc-*ℤ-pos at h in
     let c : suc k * t ≡ t * suc k = mul_comm (suc k) t in
-    below_ceil-from d (suc k) t some (omega (arith, ints)) in
+    below-ceil-from d (suc k) t some (omega (arith, ints)) in
     (there, back)
 turns-falling (negsuc n) lower upper k t e =
     let there : t < 0 → upper <ℤ (lower +ℤ negsuc k *ℤ pos t) = λ h. absurd (omega arith) in

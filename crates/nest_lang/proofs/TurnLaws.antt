@@ -88,8 +88,8 @@ turns_trace-split x k (l ∷ ls) o t c d s next = turns_by-split l.head x l.head
 pub turns-join : TurnsJoin
 turns-join x k loops o t c d s next = turns_trace-split x k loops o t c d s next
 
-pub fewer_turns-begin : FewerTurnsBegin
-fewer_turns-begin x k loops o t b c s left next few =
+pub fewer-turns-begin : FewerTurnsBegin
+fewer-turns-begin x k loops o t b c s left next few =
     let rest : Store → Trace = turns_trace x k loops (turns_later o b) (c - b) in
     let all : b + (c - b) ≡ c = omega (arith, few) in (
       rest_seen (cut (turns_trace x k loops o b s) s left 0) rest,
@@ -109,11 +109,11 @@ traced-same : (before seen : List Observation) (r : Result Yield Halt) (p q : Yi
 traced-same before seen (Err halt) p q s each = refl
 traced-same before seen (Ok y) p q s each = ap (λ (t : Trace). joined None (record { before = before; seen = seen; effect = Nothing } ∷ []) t) (each y s)
 
-for_turns-all : (x : Expectation) (head : Head) (lower upper : Expr) (stride : ℤ) (turn : Around → Store → Trace) (y : Yield) (u : Store)
+for-turns-all : (x : Expectation) (head : Head) (lower upper : Expr) (stride : ℤ) (turn : Around → Store → Trace) (y : Yield) (u : Store)
     → in_turn (turns_of (λ from t. turn (inward outside t (turn_value from stride t))) y) u ≡ in_turn (turns_by (For lower upper stride) x head turn (first_position y) (all_turns y) ∷ []) u
-for_turns-all x head lower upper stride turn (Bounds from trip) u =
+for-turns-all x head lower upper stride turn (Bounds from trip) u =
     ap (λ (t : Trace). and_then u t (in_turn [])) (sym (counted_turns-all trip 0 (λ t. turn (inward outside t (turn_value from stride t))) u))
-for_turns-all x head lower upper stride turn (Tested holds) u = refl
+for-turns-all x head lower upper stride turn (Tested holds) u = refl
 
 loop_by-for : (h : Head) (lower upper : Expr) (stride : ℤ) (x : Expectation) (k : ℕ) (head : Head) (turn : Around → Store → Trace) (s : Store) → h ≡ For lower upper stride
     → loop_by h x k 1 head turn outside s ≡ traced (headed (frame_of x part.Head 1 outside) head (λ y. turns_by h x head turn (first_position y) (all_turns y) ∷ []) s) s
@@ -121,8 +121,8 @@ loop_by-for h lower upper stride x k head turn s e =
     rw e
     (traced-same (announced (frame_of x part.Head 1 outside) s) (head_of (frame_of x part.Head 1 outside) head s).seen (head_of (frame_of x part.Head 1 outside) head s).value
     (turns_of (λ from t. turn (inward outside t (turn_value from stride t)))) (λ y. turns_by (For lower upper stride) x head turn (first_position y) (all_turns y) ∷ []) s
-    (for_turns-all x head lower upper stride turn))
+    (for-turns-all x head lower upper stride turn))
 
-pub for_is-its_turns : ForIsItsTurns
+pub for-is-its-turns : ForIsItsTurns
 unfolding turns_trace
-for_is-its_turns x k l ls lower upper stride s e = loop_by-for l.head lower upper stride x k l.head (turn_trace x 1 l (loops_trace x k 2 ls)) s e
+for-is-its-turns x k l ls lower upper stride s e = loop_by-for l.head lower upper stride x k l.head (turn_trace x 1 l (loops_trace x k 2 ls)) s e

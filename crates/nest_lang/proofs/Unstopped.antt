@@ -26,7 +26,7 @@ use Rattle.nest_lang.specs.Loops.{Around, inward, outside, frame_of, turn_trace,
 use Rattle.nest_lang.specs.Turns.{counted_turns, turn_or_over, tested_turns, turns_by, turns_trace}
 use Rattle.nest_lang.specs.TurnLaws.{UnstoppedTurnsArePlain}
 use Rattle.nest_lang.proofs.StopsShort.{UpTo, UpToOn, up-joined, up-and_then, up-ends, up-only, up-two, up-stops, up-same}
-use Rattle.nest_lang.proofs.StepLaws.{told-rolled, statement-rolled, with_value-before, stored-before, value_step, store_step, value_step-before, store_step-before, head_step-before}
+use Rattle.nest_lang.proofs.StepLaws.{told-rolled, statement-rolled, with_value-before, stored-before, value-step, store-step, value-step-before, store-step-before, head_step-before}
 
 -- a result that stops
 abbrev Stops : {A : Type 0} → Result A Halt → Type 0
@@ -156,20 +156,20 @@ module _ (at : Occurrence) (values : List ℤ) (x : Expectation) where
       (with_value-before q.seen q.value (λ v. step_of [] q.seen Nothing None (if same v (pos 0) then second' else first')) (λ z. refl))
 
   value-up : (access : ℕ) (a e e' : Told) (found found' : ℤ → Result ℤ Halt) (s : Store) (z : ℤ) → ToldUpTo e e' → (found z ≡ found' z) ⊎ Stops (found z)
-      → UpTo (traced (value_step f access a e found z) s) (traced (value_step f access a e' found' z) s)
+      → UpTo (traced (value-step f access a e found z) s) (traced (value-step f access a e' found' z) s)
   value-up access a e e' found found' s z (inr stop) fu =
-      with_value-stops (a.seen ++ e.seen) e.value (λ v. stored (a.seen ++ e.seen ++ shown f (Address access) z ∷ []) z v (found z)) (value_step f access a e' found' z) s stop (value_step-before f access a e' found' z)
+      with_value-stops (a.seen ++ e.seen) e.value (λ v. stored (a.seen ++ e.seen ++ shown f (Address access) z ∷ []) z v (found z)) (value-step f access a e' found' z) s stop (value-step-before f access a e' found' z)
   value-up access a e e' found found' s z (inl se) fu =
-      subst (λ (r : Told). UpTo (traced (value_step f access a e found z) s) (traced (value_step f access a r found' z) s)) se
+      subst (λ (r : Told). UpTo (traced (value-step f access a e found z) s) (traced (value-step f access a r found' z) s)) se
       (with_value-same (a.seen ++ e.seen) e.value (λ v. stored (a.seen ++ e.seen ++ shown f (Address access) z ∷ []) z v (found z)) (λ v. stored (a.seen ++ e.seen ++ shown f (Address access) z ∷ []) z v (found' z)) s
       (λ v. stored-up (a.seen ++ e.seen ++ shown f (Address access) z ∷ []) z v (found z) (found' z) s fu))
 
   store-up : (access : ℕ) (a a' e e' : Told) (found found' : ℤ → Result ℤ Halt) (s : Store) → ToldUpTo a a' → ToldUpTo e e' → ((z : ℤ) → (found z ≡ found' z) ⊎ Stops (found z))
-      → UpTo (traced (store_step f access a e found) s) (traced (store_step f access a' e' found') s)
-  store-up access a a' e e' found found' s (inr stop) eu fu = with_value-stops a.seen a.value (value_step f access a e found) (store_step f access a' e' found') s stop (store_step-before f access a' e' found')
+      → UpTo (traced (store-step f access a e found) s) (traced (store-step f access a' e' found') s)
+  store-up access a a' e e' found found' s (inr stop) eu fu = with_value-stops a.seen a.value (value-step f access a e found) (store-step f access a' e' found') s stop (store-step-before f access a' e' found')
   store-up access a a' e e' found found' s (inl sa) eu fu =
-      subst (λ (r : Told). UpTo (traced (store_step f access a e found) s) (traced (store_step f access r e' found') s)) sa
-      (with_value-same a.seen a.value (value_step f access a e found) (value_step f access a e' found') s (λ z. value-up access a e e' found found' s z eu (fu z)))
+      subst (λ (r : Told). UpTo (traced (store-step f access a e found) s) (traced (store-step f access r e' found') s)) sa
+      (with_value-same a.seen a.value (value-step f access a e found) (value-step f access a e' found') s (λ z. value-up access a e e' found found' s z eu (fu z)))
 
   statement_level-up : (y : Stmt-F ((st : Stmt) × Runs st)) → UpToOn (λ s. traced (statement_level f (map-Stmt _ _ (statement_trace f) (map-Stmt _ _ (λ e. e.0) y)) s) s) (λ s. traced (statement_level g (map-Stmt _ _ (statement_trace g) (map-Stmt _ _ (λ e. e.0) y)) s) s)
   unfolding Runs f g
@@ -179,16 +179,16 @@ module _ (at : Occurrence) (values : List ℤ) (x : Expectation) where
       store-up access _ _ _ _ (λ z. or_stopped access (look_store x s.memory access z)) (λ z. or_stopped access (look_store plain s.memory access z)) s (told-up s a) (told-up s e) (λ z. look-up x.verifies (x.stores access) s.memory access z)
   statement_level-up (Stmt-F.If e first second) s = if-up _ _ _ _ _ _ s (statements-up first) (statements-up second) (told-up s e)
 
-  every_statement-up : (st : Stmt) → Runs st
+  every-statement-up : (st : Stmt) → Runs st
   unfolding Runs
-  every_statement-up = ind-Stmt Runs (λ y z is. subst (λ w. Runs (roll-Stmt w)) is
+  every-statement-up = ind-Stmt Runs (λ y z is. subst (λ w. Runs (roll-Stmt w)) is
       (subst (λ (p : Store → Trace). UpToOn p (statement_trace g (roll-Stmt (map-Stmt _ _ (λ e. e.0) z)))) (sym (statement-rolled f (map-Stmt _ _ (λ e. e.0) z)))
       (subst (λ (q : Store → Trace). UpToOn (λ s. traced (statement_level f (map-Stmt _ _ (statement_trace f) (map-Stmt _ _ (λ e. e.0) z)) s) s) q) (sym (statement-rolled g (map-Stmt _ _ (λ e. e.0) z))) (statement_level-up z))))
 
   block-up : (block : List Stmt) → UpToOn (block_trace f block) (block_trace g block)
   unfolding Runs block_trace
   block-up [] s = inl refl
-  block-up (st ∷ block) s = up-and_then s _ _ _ _ (every_statement-up st s) (block-up block)
+  block-up (st ∷ block) s = up-and_then s _ _ _ _ (every-statement-up st s) (block-up block)
 
   shown_before-front : (os : List Observation) (es : List Entry) (e : Entry) (more : List Entry) → (first : List Entry) × (last : Entry) × (shown_before os (es ++ e ∷ more) ≡ first ++ last ∷ more)
   shown_before-front os [] e more = ([], record e { before = os ++ e.before }, refl)
@@ -196,11 +196,11 @@ module _ (at : Occurrence) (values : List ℤ) (x : Expectation) where
 
   instance-up : (block : List Stmt) → UpToOn (instance_trace f block) (instance_trace g block)
   unfolding instance_trace announced f g
-  instance-up block s = at_first (block_trace f block (started s)) (block_trace g block (started s)) (block-up block (started s))
+  instance-up block s = at-first (block_trace f block (started s)) (block_trace g block (started s)) (block-up block (started s))
     where
-      at_first : (t u : Trace) → UpTo t u → UpTo (record t { entries = shown_before (announced f s) t.entries }) (record u { entries = shown_before (announced g s) u.entries })
-      at_first t u (inl e) = inl (ap (λ (w : Trace). record w { entries = shown_before (announced f s) w.entries }) e)
-      at_first t u (inr p) = stops p.shared p.stopped p.goes
+      at-first : (t u : Trace) → UpTo t u → UpTo (record t { entries = shown_before (announced f s) t.entries }) (record u { entries = shown_before (announced g s) u.entries })
+      at-first t u (inl e) = inl (ap (λ (w : Trace). record w { entries = shown_before (announced f s) w.entries }) e)
+      at-first t u (inr p) = stops p.shared p.stopped p.goes
         where
           stops : (shared : List Entry) → t ≡ record { entries = shared ++ p.last ∷ []; halt = Some (Stopped p.access p.seen p.expected) } → u.entries ≡ shared ++ p.other ∷ p.more
               → UpTo (record t { entries = shown_before (announced f s) t.entries }) (record u { entries = shown_before (announced g s) u.entries })
@@ -241,12 +241,12 @@ module _ (at : Occurrence) (values : List ℤ) (x : Expectation) where
   unfolding announced f g
   headed-up head go go' s each = by (head_of f head s) (head_of g head s) (head-up head s)
     where
-      same_head : (seen : List Observation) (v : Result Yield Halt) → UpTo (traced (head_step (announced f s) seen v go) s) (traced (head_step (announced g s) seen v go') s)
-      same_head seen (Err halt) = inl refl
-      same_head seen (Ok y) = up-joined None (record { before = announced f s; seen = seen; effect = Nothing } ∷ []) (in_turn (go y) s) (in_turn (go' y) s) (each y s)
+      same-head : (seen : List Observation) (v : Result Yield Halt) → UpTo (traced (head_step (announced f s) seen v go) s) (traced (head_step (announced g s) seen v go') s)
+      same-head seen (Err halt) = inl refl
+      same-head seen (Ok y) = up-joined None (record { before = announced f s; seen = seen; effect = Nothing } ∷ []) (in_turn (go y) s) (in_turn (go' y) s) (each y s)
 
       by : (p q : Headed) → HeadedUpTo p q → UpTo (traced (head_step (announced f s) p.seen p.value go) s) (traced (head_step (announced g s) q.seen q.value go') s)
-      by p q (inl e) = subst (λ (r : Headed). UpTo (traced (head_step (announced f s) p.seen p.value go) s) (traced (head_step (announced g s) r.seen r.value go') s)) e (same_head p.seen p.value)
+      by p q (inl e) = subst (λ (r : Headed). UpTo (traced (head_step (announced f s) p.seen p.value go) s) (traced (head_step (announced g s) r.seen r.value go') s)) e (same-head p.seen p.value)
       by p q (inr stop) =
           up-stops (head_step (announced f s) p.seen p.value go) (head_step (announced g s) q.seen q.value go') s stop.0 stop.1 stop.2
           (ap (λ (v : Result Yield Halt). (head_step (announced f s) p.seen v go).halt) stop.3)
@@ -262,10 +262,10 @@ module _ (x : Expectation) where
   unfolding f g
   frame-up p level a block = instance-up (record { block = record { part = p; level = level }; counters = a.counters }) a.values x block
 
-  loop_head-up : (level : ℕ) (a : Around) (head : Head) (go go' : Yield → List (Store → Trace)) (s : Store) → ((y : Yield) → UpToOn (in_turn (go y)) (in_turn (go' y)))
+  loop-head-up : (level : ℕ) (a : Around) (head : Head) (go go' : Yield → List (Store → Trace)) (s : Store) → ((y : Yield) → UpToOn (in_turn (go y)) (in_turn (go' y)))
       → UpTo (traced (headed (frame_of x part.Head level a) head go s) s) (traced (headed (frame_of plain part.Head level a) head go' s) s)
   unfolding f g
-  loop_head-up level a head go go' s each = headed-up (record { block = record { part = part.Head; level = level }; counters = a.counters }) a.values x head go go' s each
+  loop-head-up level a head go go' s each = headed-up (record { block = record { part = part.Head; level = level }; counters = a.counters }) a.values x head go go' s each
 
   turns_of-up : (turn turn' : ℤ → ℕ → Store → Trace) → ((from : ℤ) (t : ℕ) → UpToOn (turn from t) (turn' from t)) → (y : Yield) → UpToOn (in_turn (turns_of turn y)) (in_turn (turns_of turn' y))
   turns_of-up turn turn' each (Bounds lower trip) = up-only _ _ (turns_from-up trip 0 (turn lower) (turn' lower) (each lower))
@@ -280,10 +280,10 @@ module _ (x : Expectation) where
       → UpToOn (whiles_from n t (λ i. frame_of x part.Head level (around i)) head turn) (whiles_from n t (λ i. frame_of plain part.Head level (around i)) head turn')
   whiles_from-up zero t level around head turn turn' each s = inl refl
   whiles_from-up (suc n) t level around head turn turn' each s =
-      loop_head-up level (around t) head _ _ s (turn_if-up (turn t) (turn' t) _ _ (each t) (whiles_from-up n (t + 1) level around head turn turn' each))
+      loop-head-up level (around t) head _ _ s (turn_if-up (turn t) (turn' t) _ _ (each t) (whiles_from-up n (t + 1) level around head turn turn' each))
 
   loop_by-up : (h : Head) (k level : ℕ) (head : Head) (turn turn' : Around → Store → Trace) → ((a : Around) → UpToOn (turn a) (turn' a)) → (a : Around) → UpToOn (loop_by h x k level head turn a) (loop_by h plain k level head turn' a)
-  loop_by-up (For lower upper stride) k level head turn turn' each a s = loop_head-up level a head _ _ s (turns_of-up _ _ (λ from t. each (inward a t (turn_value from stride t))))
+  loop_by-up (For lower upper stride) k level head turn turn' each a s = loop-head-up level a head _ _ s (turns_of-up _ _ (λ from t. each (inward a t (turn_value from stride t))))
   loop_by-up (While condition) k level head turn turn' each a s = whiles_from-up k 0 level (λ t. inward a t (pos t)) head _ _ (λ t. each (inward a t (pos t))) s
 
   turn_trace-up : (level : ℕ) (l : Loop) (inner inner' : Around → Store → Trace) → ((a : Around) → UpToOn (inner a) (inner' a)) → (a : Around) → UpToOn (turn_trace x level l inner a) (turn_trace plain level l inner' a)
@@ -310,7 +310,7 @@ module _ (x : Expectation) where
       → UpToOn (tested_turns c t (λ i. frame_of x part.Head 1 (around i)) head turn) (tested_turns c t (λ i. frame_of plain part.Head 1 (around i)) head turn')
   tested_turns-up zero t around head turn turn' each s = inl refl
   tested_turns-up (suc c) t around head turn turn' each s =
-      loop_head-up 1 (around t) head _ _ s (turn_or_over-up (turn t) (turn' t) _ _ (each t) (tested_turns-up c (t + 1) around head turn turn' each))
+      loop-head-up 1 (around t) head _ _ s (turn_or_over-up (turn t) (turn' t) _ _ (each t) (tested_turns-up c (t + 1) around head turn turn' each))
 
   turns_by-up : (h head : Head) (turn turn' : Around → Store → Trace) (o : Outer) (c : ℕ) → ((a : Around) → UpToOn (turn a) (turn' a)) → UpToOn (turns_by h x head turn o c) (turns_by h plain head turn' o c)
   turns_by-up (For lower upper stride) head turn turn' o c each s = counted_turns-up c _ _ _ _ (λ t. each (inward outside t (turn_value o.lower stride t))) s
@@ -321,5 +321,5 @@ module _ (x : Expectation) where
   turns_trace-up k [] o c s = inl refl
   turns_trace-up k (l ∷ ls) o c s = turns_by-up l.head l.head _ _ o c (turn_trace-up 1 l _ _ (loops_trace-up k 2 ls)) s
 
-pub unstopped_turns-plain : UnstoppedTurnsArePlain
-unstopped_turns-plain x k loops o c s left used other = up-same (turns_trace x k loops o c s) (turns_trace plain k loops o c s) s left used (turns_trace-up x k loops o c s) other
+pub unstopped-turns-plain : UnstoppedTurnsArePlain
+unstopped-turns-plain x k loops o c s left used other = up-same (turns_trace x k loops o c s) (turns_trace plain k loops o c s) s left used (turns_trace-up x k loops o c s) other

@@ -70,11 +70,11 @@ alike-tested (suc m) (suc k) (suc j) t frame head turn h i s =
     alike-headed m (frame t) head _ _ s (alike-turn_or_over m (turn t) (tested_turns k (t + 1) frame head turn) (tested_turns j (t + 1) frame head turn) (alike-tested m k j (t + 1) frame head turn (omega (arith, h)) (omega (arith, i))))
 
 -- a cut of it
-over_done : (halt : Option Halt) → finish_of (halts_else halt) ≡ over_is_done (finish_of halt)
-over_done None = refl
-over_done (Some (Trapped trap)) = refl
-over_done (Some (Stopped access seen expected)) = refl
-over_done (Some Over) = refl
+over-done : (halt : Option Halt) → finish_of (halts_else halt) ≡ over_is_done (finish_of halt)
+over-done None = refl
+over-done (Some (Trapped trap)) = refl
+over-done (Some (Stopped access seen expected)) = refl
+over-done (Some Over) = refl
 
 cut-without : (t : Trace) (s : Store) (left used : ℕ) → cut (without_over t) s left used ≡ record (cut t s left used) { ending = over_is_done (cut t s left used).ending }
 unfolding cut
@@ -82,7 +82,7 @@ cut-without t s left used =
     ap (λ (e : Finish). cut_of (after_all s (take left t.entries)) (left - length t.entries) (used + min left (length t.entries)) e) (by (nat_le (length t.entries) left))
   where
     by : (b : Bool) → (if b then finish_of (halts_else t.halt) else Limited) ≡ over_is_done (if b then finish_of t.halt else Limited)
-    by true = over_done t.halt
+    by true = over-done t.halt
     by false = refl
 
 seen-without : (t : Trace) (left : ℕ) → seen_in (without_over t) left ≡ seen_in t left
@@ -97,9 +97,9 @@ module _ (x : Expectation) (k : ℕ) (head : Head) (turn : Around → Store → 
   alike-turns_by h condition m c e few less s =
       rw e (alike-tested m k c 0 (λ i. frame_of x part.Head 1 (inward outside i (pos i))) head (λ i. turn (inward outside i (pos i))) few less s)
 
-pub while_is-its_turns : WhileIsItsTurns
+pub while-is-its-turns : WhileIsItsTurns
 unfolding turns_trace
-while_is-its_turns x k l ls condition c s left used is few less =
+while-is-its-turns x k l ls condition c s left used is few less =
     let turn : Around → Store → Trace = turn_trace x 1 l (loops_trace x k 2 ls) in
     let goes : (a : Around) (u : Store) → GoesOn (turn a u).halt = turn_trace-goes x 1 l (loops_trace x k 2 ls) (loops_trace-goes x k 2 ls) in
     let start = first_position (Tested true) in

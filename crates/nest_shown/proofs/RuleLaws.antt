@@ -15,5 +15,5 @@ few (l ∷ ls) h =
     let below : nat_le (length ls) 5 ≡ true = (and_parts (nat_le (length ls) 5) (loop_keeps l ls) h).0 in
     grind (arith, nat_tests)
 
-pub few_loops_of : {scalars : ℕ} {loops : List Loop} → NestKeeps scalars loops → length loops ≤ 6
-few_loops_of {loops = loops} k = few loops k.loops_keep
+pub few-loops-of : {scalars : ℕ} {loops : List Loop} → NestKeeps scalars loops → length loops ≤ 6
+few-loops-of {loops = loops} k = few loops k.loops_keep

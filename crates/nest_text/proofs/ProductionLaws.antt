@@ -26,7 +26,7 @@ use Rattle.nest_grammar.specs.Loops.{not_zero}
 use Rattle.nest_grammar.specs.Scripts.{is_factor}
 use Rattle.nest_grammar.specs.Names.{Names, place_of, unless_known, fresh_at, fresh}
 use Rattle.nest_grammar.specs.Expressions.{start_of, operand, closed, access, access_number, entered, taken, unary, expr, term, sum, expression}
-use Rattle.nest_grammar.proofs.Many.{after-same, bind_ok}
+use Rattle.nest_grammar.proofs.Many.{after-same, bind-ok}
 use Rattle.nest_grammar.proofs.Accesses.{Keeps, keeps-gives, keeps-refused, keeps-skipped, keeps-need, keeps-taken, keeps-closed, keeps-expr, keeps-expression}
 use Rattle.nest_grammar.specs.Statements.{listed, statements, branches}
 use Rattle.nest_text.specs.declared.refusal.ReadRefusal.{ReadRefusal}
@@ -233,7 +233,7 @@ pub ruleset lets = (fresh-lets)
 keeps-entered : (d : ℕ) → Keeps (entered d)
 unfolding entered
 keeps-entered zero i s x h l = keeps-refused kind.Deep i s x h l
-keeps-entered (suc d) i s x h l = let f = bind_ok (taken s) (λ _. gives d) x h in keeps-gives d i f.0.1 x f.2 (keeps-taken i s f.0 f.1 l)
+keeps-entered (suc d) i s x h l = let f = bind-ok (taken s) (λ _. gives d) x h in keeps-gives d i f.0.1 x f.2 (keeps-taken i s f.0 f.1 l)
 
 -- a load is begun before it is numbered
 pub load-room : (names : Names) (d k : ℕ) (e : Expr) (t u v w : Sight) → t.accesses < t.opened → entered d t ≡ Ok (k, u) → expr names k u ≡ Ok (e, v) → closed mark.CloseBracket v ≡ Ok (tt, w) → w.accesses < w.opened
@@ -262,12 +262,12 @@ pub ruleset store_room = (store-room)
 
 -- Versions
 
-version_by : Option ℕ → Reading Version
-version_by None = wrong
-version_by (Some n) = if n == 1 then set_version One else (if n == 2 then set_version Two else refused kind.Version)
+version-by : Option ℕ → Reading Version
+version-by None = wrong
+version-by (Some n) = if n == 1 then set_version One else (if n == 2 then set_version Two else refused kind.Version)
 
-version_at-is : (t : Token) (s : Sight) → version_at t s ≡ version_by (number_of t) s
-unfolding number_of version_by
+version_at-is : (t : Token) (s : Sight) → version_at t s ≡ version-by (number_of t) s
+unfolding number_of version-by
 version_at-is (token.Number n) s = refl
 version_at-is _ s = refl
 
@@ -275,15 +275,15 @@ said : Option Version → Reading Version
 said (Some v) = set_version v
 said None = refused kind.Version
 
-version_by-is : (a b : Bool) (s : Sight) → (if a then set_version One else (if b then set_version Two else refused kind.Version)) s ≡ said (version_if a b) s
+version-by-is : (a b : Bool) (s : Sight) → (if a then set_version One else (if b then set_version Two else refused kind.Version)) s ≡ said (version_if a b) s
 unfolding said
-version_by-is true b s = refl
-version_by-is false true s = refl
-version_by-is false false s = refl
+version-by-is true b s = refl
+version-by-is false true s = refl
+version-by-is false false s = refl
 
 version-said : (s : Sight) (n : ℕ) → number_of (stands s) ≡ Some n → version_at (stands s) s ≡ said (version_of n) s
-unfolding version_by version_of
-version-said s n h = version_at-is (stands s) s ∙ (rw h (version_by-is (n == 1) (n == 2) s))
+unfolding version-by version_of
+version-said s n h = version_at-is (stands s) s ∙ (rw h (version-by-is (n == 1) (n == 2) s))
 
 pub version-known : (s : Sight) (n : ℕ) (v : Version) → number_of (stands s) ≡ Some n → version_of n ≡ Some v → version_at (stands s) s ≡ Ok (v, of_version v (skip s))
 unfolding said
@@ -294,7 +294,7 @@ unfolding said refused
 version-unknown s n h k = version-said s n h ∙ (rw k refl)
 
 pub version-none : (s : Sight) (f : TextFault) → number_of (stands s) ≡ None → f ≡ record { at = (here s).at; what = unexpected (stands s) } → version_at (stands s) s ≡ Err f
-unfolding version_by refused
+unfolding version-by refused
 version-none s f h k = version_at-is (stands s) s ∙ (rw (h, k) refl)
 
 pub ruleset versions = (version-known, version-unknown, version-none)

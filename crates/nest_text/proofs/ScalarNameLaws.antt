@@ -27,12 +27,12 @@ pub nest-found : (file inner : File) (found : Option (Bor NestUnit)) (k : ℕ) �
 nest-found file inner found k same h = ap (λ (f : File). slice_get (nests_of f) k) (sym same) ∙ (slice_get-map (λ (u : NestUnit). u.nest) inner.units k ∙ ap (option_map (λ (u : NestUnit). u.nest)) (sym h))
 
 -- the bytes of a name are ASCII
-name_byte-ascii : (b : ℕ) → is_name_byte b ≡ true → b < 128
-name_byte-ascii b h = grind arith
+name-byte-ascii : (b : ℕ) → is_name_byte b ≡ true → b < 128
+name-byte-ascii b h = grind arith
 
 ascii-name : (s : List ℕ) → AllPass is_name_byte s → IsAscii s
 ascii-name [] a i = omega arith
-ascii-name (b ∷ s) a zero = name_byte-ascii b a.0
+ascii-name (b ∷ s) a zero = name-byte-ascii b a.0
 ascii-name (b ∷ s) a (suc i) = ascii-name s a.1 i
 
 pub spelled-text : (n : Name) → IsSpelled n → IsUtf8 (name_text n)

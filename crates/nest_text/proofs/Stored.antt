@@ -52,17 +52,17 @@ value-first : (start growth : ℤ) → start ≡ start +ℤ growth *ℤ pos 0
 value-first start (pos g) = let e : g * 0 ≡ 0 = grind arith in rw pos-*ℤ-pos (omega (arith, ints))
 value-first start (negsuc g) = let e : suc g * 0 ≡ 0 = grind arith in rw negsuc-*ℤ-pos (omega (arith, ints))
 
-pub ramp_from-start : (count first stride : ℕ) (start growth : ℤ) (memory : List ℤ) → set_ramp count first stride start growth memory ≡ ramp_from 0 count first stride start growth memory
-ramp_from-start count first stride start growth memory =
+pub ramp-from-start : (count first stride : ℕ) (start growth : ℤ) (memory : List ℤ) → set_ramp count first stride start growth memory ≡ ramp_from 0 count first stride start growth memory
+ramp-from-start count first stride start growth memory =
     let all : count ≡ count - 0 = omega arith in
     let here : first ≡ first + stride * 0 = grind arith in
     ap (λ (c : ℕ). set_ramp c first stride start growth memory) all
     ∙ ap (λ (a : ℕ). set_ramp (count - 0) a stride start growth memory) here
     ∙ ap (λ (z : ℤ). set_ramp (count - 0) (first + stride * 0) stride z growth memory) (value-first start growth)
 
-pub ramp_from-next : (i count first stride : ℕ) (start growth : ℤ) (memory : List ℤ) → i < count
+pub ramp-from-next : (i count first stride : ℕ) (start growth : ℤ) (memory : List ℤ) → i < count
     → ramp_from i count first stride start growth memory ≡ ramp_from (i + 1) count first stride start growth (slice_set memory (first + stride * i) (start +ℤ growth *ℤ pos i))
-ramp_from-next i count first stride start growth memory h =
+ramp-from-next i count first stride start growth memory h =
     let left : count - i ≡ suc (count - (i + 1)) = omega arith in
     let on : (first + stride * i) + stride ≡ first + stride * (i + 1) = grind arith in
     let new : List ℤ = slice_set memory (first + stride * i) (start +ℤ growth *ℤ pos i) in
@@ -70,8 +70,8 @@ ramp_from-next i count first stride start growth memory h =
     ∙ ap (λ (a : ℕ). set_ramp (count - (i + 1)) a stride ((start +ℤ growth *ℤ pos i) +ℤ growth) growth new) on
     ∙ ap (λ (z : ℤ). set_ramp (count - (i + 1)) (first + stride * (i + 1)) stride z growth new) (value-next start growth i)
 
-pub ramp_from-all : (i count first stride : ℕ) (start growth : ℤ) (memory : List ℤ) → count ≤ i → ramp_from i count first stride start growth memory ≡ memory
-ramp_from-all i count first stride start growth memory h =
+pub ramp-from-all : (i count first stride : ℕ) (start growth : ℤ) (memory : List ℤ) → count ≤ i → ramp_from i count first stride start growth memory ≡ memory
+ramp-from-all i count first stride start growth memory h =
     let none : count - i ≡ 0 = omega arith in
     ap (λ (c : ℕ). set_ramp c (first + stride * i) stride (start +ℤ growth *ℤ pos i) growth memory) none
 
@@ -105,8 +105,8 @@ ramp_fits-value words first (suc k) stride i start growth h l f =
     let p = and_parts (nat_lt (first + stride * k) words) (is_i64 (start +ℤ growth *ℤ pos k)) h in
     between-fits start growth i k (omega arith) f (is_i64-fits (start +ℤ growth *ℤ pos k) p.1)
 
-pub data_fits : (words first : ℕ) (vs : List ℤ) → item_fits words (Data first vs) ≡ true → first + length vs ≤ words
-data_fits words first vs h = leb-true (first + length vs) words h
+pub data-fits : (words first : ℕ) (vs : List ℤ) → item_fits words (Data first vs) ≡ true → first + length vs ≤ words
+data-fits words first vs h = leb-true (first + length vs) words h
 
 -- one item more
 

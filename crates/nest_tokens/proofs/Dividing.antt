@@ -7,7 +7,7 @@ use Rattle.nest_tokens.specs.declared.token.Spot.{Spot}
 use Rattle.nest_tokens.specs.Tokens.{spelling, sign_at}
 use Rattle.nest_tokens.specs.Lexing.{is_letter, is_digit, is_name_byte, is_blank, between, gap, Lexed, lexed, spelled_by, sign_or_byte, named, numbered, spots, spots_at, tokens_from}
 use Rattle.nest_tokens.specs.Division.{Gap, none, blank, opens, inside, closes, Begins, Stops, AllPass, StandsAt, Spells, name, number, sign, bad_byte, Divides, ends, goes_on, TokensDivide}
-use Rattle.nest_tokens.proofs.Places.{gap-stays, letter-named, lexed-moves, gap-no_longer, spelling-moves}
+use Rattle.nest_tokens.proofs.Places.{gap-stays, letter-named, lexed-moves, gap-no-longer, spelling-moves}
 use Rattle.nest_tokens.proofs.SignLaws.{found_len, sign_at-sign, sign_at-longest}
 use Rattle.nest_tokens.proofs.NameLaws.{sign-begins}
 
@@ -136,7 +136,7 @@ spots-divide zero size (b ∷ bs) h = absurd (omega arith)
 spots-divide (suc n) size bs h = elim (gap false bs) as (λ l. gap false bs ≡ l → Divides size bs (spots_at (spots n size) size l)) [
   | [] ↦ λ e. last size bs (parted false bs) e
   | c ∷ cs ↦ λ e. (
-      let a : length (gap false bs) ≤ length bs = gap-no_longer false bs in
+      let a : length (gap false bs) ≤ length bs = gap-no-longer false bs in
       let k : length (gap false bs) ≡ suc (length cs) = ap (λ (l : List ℕ). length l) e in
       let w : 0 < (lexed (c ∷ cs)).len = lexed-moves c cs in
       let d : length (drop (lexed (c ∷ cs)).len (c ∷ cs)) ≤ length cs = omega (arith, length-drop (lexed (c ∷ cs)).len (c ∷ cs)) in

@@ -56,22 +56,22 @@ record Front (s rest : List ℕ) (t : Token) : Type 0 where
   lexes : lexed (s ++ rest) ≡ record { token = t; len = length s }
 
 -- how the signs begin
-abbrev is_other : List ℕ → Bool
-is_other [] = false
-is_other (b ∷ bs) = not (is_letter b) && (not (is_digit b) && (not (is_blank b) && not (b == 35)))
+abbrev is-other : List ℕ → Bool
+is-other [] = false
+is-other (b ∷ bs) = not (is_letter b) && (not (is_digit b) && (not (is_blank b) && not (b == 35)))
 
-abbrev all_other : List Mark → Bool
-all_other [] = true
-all_other (x ∷ xs) = is_other (spelling x) && all_other xs
+abbrev all-other : List Mark → Bool
+all-other [] = true
+all-other (x ∷ xs) = is-other (spelling x) && all-other xs
 
-others : all_other signs ≡ true
+others : all-other signs ≡ true
 unfolding spelling
 others = refl
 
-other : (xs : List Mark) (m : Mark) → all_other xs ≡ true → IsOneOf xs m → is_other (spelling m) ≡ true
+other : (xs : List Mark) (m : Mark) → all-other xs ≡ true → IsOneOf xs m → is-other (spelling m) ≡ true
 other [] m h i = absurd i
-other (x ∷ xs) m h (inl e) = rw e ((and_parts (is_other (spelling x)) (all_other xs) h).0)
-other (x ∷ xs) m h (inr i) = other xs m ((and_parts (is_other (spelling x)) (all_other xs) h).1) i
+other (x ∷ xs) m h (inl e) = rw e ((and_parts (is-other (spelling x)) (all-other xs) h).0)
+other (x ∷ xs) m h (inr i) = other xs m ((and_parts (is-other (spelling x)) (all-other xs) h).1) i
 
 -- a sign that stands here
 stands : (text : List ℕ) (m : Mark) → sign_at text ≡ Some m → StandsAt text m
@@ -91,10 +91,10 @@ sign-found m rest i longest (Some k) e =
     let q : spelling k ≡ spelling m = p ∙ ap (λ (j : ℕ). take j (spelling m ++ rest)) n ∙ take-front (spelling m) rest in
     e ∙ ap (λ (x : Mark). Some x) (same-mark k m q)
 
-sign-front : (m : Mark) (rest : List ℕ) → is_other (spelling m) ≡ true → sign_at (spelling m ++ rest) ≡ Some m → (l : List ℕ) → spelling m ≡ l → Front (spelling m) rest (token.Plain m)
-sign-front m rest o e [] q = absurd (let k : is_other [] ≡ true = subst (λ (l : List ℕ). is_other l ≡ true) q o in cc)
+sign-front : (m : Mark) (rest : List ℕ) → is-other (spelling m) ≡ true → sign_at (spelling m ++ rest) ≡ Some m → (l : List ℕ) → spelling m ≡ l → Front (spelling m) rest (token.Plain m)
+sign-front m rest o e [] q = absurd (let k : is-other [] ≡ true = subst (λ (l : List ℕ). is-other l ≡ true) q o in cc)
 sign-front m rest o e (b ∷ bs) q =
-    let k : is_other (b ∷ bs) ≡ true = subst (λ (l : List ℕ). is_other l ≡ true) q o in
+    let k : is-other (b ∷ bs) ≡ true = subst (λ (l : List ℕ). is-other l ≡ true) q o in
     let k1 = (and_parts (not (is_letter b)) (not (is_digit b) && (not (is_blank b) && not (b == 35))) k).1 in
     let k2 = (and_parts (not (is_digit b)) (not (is_blank b) && not (b == 35)) k1).1 in
     let l : is_letter b ≡ false = not-true (is_letter b) ((and_parts (not (is_letter b)) (not (is_digit b) && (not (is_blank b) && not (b == 35))) k).0) in

@@ -12,11 +12,11 @@ use Rattle.nest_tokens.specs.Lexing.{is_letter, is_digit, is_name_byte, between,
 use Rattle.nest_tokens.specs.Ahead.{first, past}
 use Rattle.nest_tokens.specs.Placed.{Placed}
 
-pub gap-no_longer : (c : Bool) (bs : List ℕ) → length (gap c bs) ≤ length bs
+pub gap-no-longer : (c : Bool) (bs : List ℕ) → length (gap c bs) ≤ length bs
 unfolding gap
-gap-no_longer c [] = omega arith
-gap-no_longer c (b ∷ bs) = elim (between c b) as (λ o. length (gap_at (λ d. gap d bs) (b ∷ bs) o) ≤ length (b ∷ bs))
-    [ None ↦ omega arith | Some d ↦ (let h : length (gap d bs) ≤ length bs = gap-no_longer d bs in omega arith) ]
+gap-no-longer c [] = omega arith
+gap-no-longer c (b ∷ bs) = elim (between c b) as (λ o. length (gap_at (λ d. gap d bs) (b ∷ bs) o) ≤ length (b ∷ bs))
+    [ None ↦ omega arith | Some d ↦ (let h : length (gap d bs) ≤ length bs = gap-no-longer d bs in omega arith) ]
 
 -- where a token begins, it begins whatever came before
 none-again : (c : Bool) (b : ℕ) → between c b ≡ None → between false b ≡ None
@@ -104,7 +104,7 @@ spots-any (suc n) zero size (b ∷ bs) hn hm = absurd (omega arith)
 spots-any (suc n) (suc m) size bs hn hm = elim (gap false bs) as (λ l. gap false bs ≡ l → spots_at (spots n size) size l ≡ spots_at (spots m size) size l) [
   | [] ↦ λ e. refl
   | c ∷ cs ↦ λ e. (
-      let h : length (gap false bs) ≤ length bs = gap-no_longer false bs in
+      let h : length (gap false bs) ≤ length bs = gap-no-longer false bs in
       let k : length (gap false bs) ≡ suc (length cs) = ap (λ (l : List ℕ). length l) e in
       let w : 0 < (lexed (c ∷ cs)).len = lexed-moves c cs in
       let d : length (drop (lexed (c ∷ cs)).len (c ∷ cs)) ≤ length cs = omega (arith, length-drop (lexed (c ∷ cs)).len (c ∷ cs)) in
@@ -122,7 +122,7 @@ tokens-nil size = spots-nil 0 size
 pub tokens-gap : (size : ℕ) (bs cs : List ℕ) → cs ≡ gap false bs → tokens_from size cs ≡ tokens_from size bs
 unfolding tokens_from
 tokens-gap size bs cs e =
-    let l : length cs ≤ length bs = rw e (gap-no_longer false bs) in
+    let l : length cs ≤ length bs = rw e (gap-no-longer false bs) in
     let g : gap false cs ≡ gap false bs = rw e (gap-same false bs) in
     spots-any (length cs) (suc (length bs)) size cs (omega arith) (omega arith)
     ∙ spots-suc (length bs) size cs ∙ ap (spots_at (spots (length bs) size) size) g ∙ sym (spots-suc (length bs) size bs)

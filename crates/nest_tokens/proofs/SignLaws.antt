@@ -15,26 +15,26 @@ found_len None = 0
 found_len (Some m) = length (spelling m)
 
 -- none of these is longer
-abbrev none_longer : ℕ → List Mark → Bool
-none_longer n [] = true
-none_longer n (x ∷ xs) = nat_le (length (spelling x)) n && none_longer n xs
+abbrev none-longer : ℕ → List Mark → Bool
+none-longer n [] = true
+none-longer n (x ∷ xs) = nat_le (length (spelling x)) n && none-longer n xs
 
 -- none is longer than one before it
 abbrev falls : List Mark → Bool
 falls [] = true
-falls (x ∷ xs) = none_longer (length (spelling x)) xs && falls xs
+falls (x ∷ xs) = none-longer (length (spelling x)) xs && falls xs
 
-no_longer : (n : ℕ) (xs : List Mark) (k : Mark) → none_longer n xs ≡ true → IsOneOf xs k → length (spelling k) ≤ n
-no_longer n [] k h i = absurd i
-no_longer n (x ∷ xs) k h (inl e) = rw e (leb-true (length (spelling x)) n ((and_parts (nat_le (length (spelling x)) n) (none_longer n xs) h).0))
-no_longer n (x ∷ xs) k h (inr i) = no_longer n xs k ((and_parts (nat_le (length (spelling x)) n) (none_longer n xs) h).1) i
+no-longer : (n : ℕ) (xs : List Mark) (k : Mark) → none-longer n xs ≡ true → IsOneOf xs k → length (spelling k) ≤ n
+no-longer n [] k h i = absurd i
+no-longer n (x ∷ xs) k h (inl e) = rw e (leb-true (length (spelling x)) n ((and_parts (nat_le (length (spelling x)) n) (none-longer n xs) h).0))
+no-longer n (x ∷ xs) k h (inr i) = no-longer n xs k ((and_parts (nat_le (length (spelling x)) n) (none-longer n xs) h).1) i
 
 found-longest : (test : Mark → Bool) (xs : List Mark) (k : Mark) → falls xs ≡ true → IsOneOf xs k → test k ≡ true → length (spelling k) ≤ found_len (find test xs)
 found-longest test [] k h i t = absurd i
 found-longest test (x ∷ xs) k h (inl e) t = let s : test x ≡ true = subst (λ (m : Mark). test m ≡ true) e t in rw (s, e) (omega arith)
 found-longest test (x ∷ xs) k h (inr i) t = elim (test x) as (λ b. length (spelling k) ≤ found_len (cond b (Some x) (find test xs))) [
-  | true ↦ no_longer (length (spelling x)) xs k ((and_parts (none_longer (length (spelling x)) xs) (falls xs) h).0) i
-  | false ↦ found-longest test xs k ((and_parts (none_longer (length (spelling x)) xs) (falls xs) h).1) i t
+  | true ↦ no-longer (length (spelling x)) xs k ((and_parts (none-longer (length (spelling x)) xs) (falls xs) h).0) i
+  | false ↦ found-longest test xs k ((and_parts (none-longer (length (spelling x)) xs) (falls xs) h).1) i t
 ]
 
 found-among : (test : Mark → Bool) (xs : List Mark) (m : Mark) → find test xs ≡ Some m → IsOneOf xs m

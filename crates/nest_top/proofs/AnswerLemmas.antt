@@ -1,5 +1,5 @@
 -- Answers: which status has which cause, and that there is one.
-use Rattle.std.proofs.Common.{◌≡◌, refl, ap, ap₂, ◌∙◌, sym, subst, ℕ, ℤ, List, [], ◌++◌, Option, Some, None, Result, Ok, Err, IfOk, ◌≤ℤ◌, arith, pos, inl, inr, true}
+use Rattle.std.proofs.Common.{◌≡◌, refl, ap, ap₂, ◌∙◌, sym, subst, ℕ, ℤ, List, [], ◌++◌, Option, Some, None, Result, Ok, Err, IfOk, ◌≤ℤ◌, arith, pos, inl, inr}
 use Rattle.std.proofs.lemmas.Int.{ints}
 use Rattle.nest_lang.specs.declared.tree.Trap.{Trap}
 use Rattle.nest_lang.specs.declared.budget.Ending.{Ending}
@@ -16,8 +16,8 @@ use Rattle.report.specs.declared.runs.WordRun.{WordRun}
 use Rattle.report.specs.Outcomes.{outcome_lines}
 use Rattle.report.specs.Faults.{refusal_line}
 use Rattle.report.specs.Summaries.{summary}
-use Rattle.report.proofs.RunLemmas.{longest_runs}
-use Rattle.report.proofs.OneList.{same_runs}
+use Rattle.report.proofs.RunLemmas.{longest-runs}
+use Rattle.report.proofs.OneList.{same-runs}
 use Rattle.command_line.specs.declared.invocation.Invocation.{Invocation}
 use Rattle.command_line.specs.declared.invocation.Mode.{Mode}
 use Rattle.command_line.specs.declared.invocation.Mode.TheVariants.{Plain, Run, Check, Deps, Gen}
@@ -31,7 +31,7 @@ use Rattle.command_line.specs.Numbers.{IsNumberIn}
 use Rattle.nest_top.specs.declared.status.Status.{Status}
 use Rattle.nest_top.specs.declared.status.Status.TheVariants.{Ended, Trapped, Limited, Refused, Usage, SourceFault, SinkFault, NoMemory}
 use Rattle.nest_top.specs.Texts.{IsTextOf, text_taken}
-use Rattle.nest_top.specs.Answers.{AnswersFile, AnswersReading, AreInRange, Causes, Finishes, IsAnswer, IsListingOf, IsOutcomeOf, IsReportOf, IsSummaryOf, Prepared, finish_of, has_journey, heading, journey_options, run_of_file, status_of, text_for, text_made}
+use Rattle.nest_top.specs.Answers.{AnswersFile, AnswersReading, AreInRange, Causes, Finishes, IsAnswer, IsListingOf, IsOutcomeOf, IsReportOf, IsSummaryOf, Prepared, finish_of, heading, journey_options, run_of_file, status_of, text_for, text_made}
 use Rattle.nest_top.specs.Answers.IsAnswer.{usage, invoked}
 use Rattle.nest_text.specs.Files.{IsOfText, scalar_names}
 use Rattle.report.specs.Lines.{line_text, listing_text}
@@ -43,6 +43,7 @@ use Rattle.grammar_laws.proofs.Rules.{reading-keeps}
 use Rattle.listing.proofs.OneListing.{one-listing}
 use Rattle.std.specs.List.{flat_map}
 use Rattle.nest_top.specs.Laws.{AreI64s, OneAnswer, SomeAnswer, EachHasItsCause}
+use Rattle.nest_top.proofs.FileNumbers.{are-i64s}
 use Rattle.nest_top.proofs.TrapsOnly.{plain_run-finishes}
 
 -- ---- statuses of endings
@@ -198,14 +199,17 @@ number-within least most text number is =
     (omega (arith, ints, value, from), omega (arith, ints, value, upto))
 
 -- the options of an invocation are in their ranges
-pub options-in_range : (words : List (List ℕ)) (c : Invocation) → IsInvocation words c → AreInRange c.options
-options-in_range words c is =
+pub options-in-range : (words : List (List ℕ)) (c : Invocation) → IsInvocation words c → AreInRange c.options
+options-in-range words c is =
     let given = is.found.options in
     let chunk = number-within 1 1024 given.chunk.text c.options.chunk given.chunk.is in
     let sample = number-within 2 64 given.sample.text c.options.sample given.sample.is in
     let value : c.options.steps ≡ digits_value 10 given.steps.text = same-natural _ _ given.steps.is.value in
     let upto = given.steps.is.upto in
-    record { chunk_from = chunk.0; chunk_to = chunk.1; sample_from = sample.0; sample_to = sample.1; steps = omega (arith, upto, value) }
+    let workers : c.options.workers ≡ digits_value 10 given.workers.text = same-natural _ _ given.workers.is.value in
+    let one = given.workers.is.from in
+    let most = given.workers.is.upto in
+    record { workers_from = omega (arith, one, workers); workers_to = omega (arith, most, workers); chunk_from = chunk.0; chunk_to = chunk.1; sample_from = sample.0; sample_to = sample.1; steps = omega (arith, upto, value) }
 
 -- ---- one answer
 
@@ -216,7 +220,7 @@ one-outcome : (file : File) (steps : ℕ) (bytes bytes' : List ℕ) (status stat
 one-outcome file steps bytes bytes' status status' o p =
     let run = run_of_file file steps in
     let e : o.ending ≡ p.ending = same-ending o.ending p.ending (o.ended ∙ sym p.ended) in
-    let runs : o.written.0 ≡ p.written.0 = same_runs run.store.memory o.written.0 p.written.0 o.written.1 p.written.1 in (
+    let runs : o.written.0 ≡ p.written.0 = same-runs run.store.memory o.written.0 p.written.0 o.written.1 p.written.1 in (
       o.written.2
           ∙ ap (λ (rs : List WordRun). outcome_lines (scalar_names file) run.store.scalars rs o.ending run.steps) runs
           ∙ ap (λ (x : Ending). outcome_lines (scalar_names file) run.store.scalars p.written.0 x run.steps) e
@@ -250,16 +254,16 @@ one-deps options file of bytes bytes' a b =
     let same : a.0 ≡ b.0 = one.2 a.0 a.1 ∙ sym (one.2 b.0 b.1) in
     a.2 ∙ ap (flat_map (listing_text (scalar_names file))) same ∙ sym b.2
 
-one-file_answer : (mode : Mode) (options : Options) (file : File) → IsOfText file → (bytes bytes' : List ℕ) (status status' : Status) → AnswersFile mode options file bytes status → AnswersFile mode options file bytes' status' → Same bytes bytes' status status'
-one-file_answer Plain options file of bytes bytes' status status' a b = one-outcome file options.steps bytes bytes' status status' a b
-one-file_answer Run options file of bytes bytes' status status' a b = one-report options file bytes bytes' status status' a b
-one-file_answer Check options file of bytes bytes' status status' a b = (a.0 ∙ sym b.0, a.1 ∙ sym b.1)
-one-file_answer Deps options file of bytes bytes' status status' a b = (one-deps options file of bytes bytes' a.0 b.0, a.1 ∙ sym b.1)
-one-file_answer (Gen recipe) options file of bytes bytes' status status' a b = one-summary recipe options file bytes bytes' status status' a b
+one-file-answer : (mode : Mode) (options : Options) (file : File) → IsOfText file → (bytes bytes' : List ℕ) (status status' : Status) → AnswersFile mode options file bytes status → AnswersFile mode options file bytes' status' → Same bytes bytes' status status'
+one-file-answer Plain options file of bytes bytes' status status' a b = one-outcome file options.steps bytes bytes' status status' a b
+one-file-answer Run options file of bytes bytes' status status' a b = one-report options file bytes bytes' status status' a b
+one-file-answer Check options file of bytes bytes' status status' a b = (a.0 ∙ sym b.0, a.1 ∙ sym b.1)
+one-file-answer Deps options file of bytes bytes' status status' a b = (one-deps options file of bytes bytes' a.0 b.0, a.1 ∙ sym b.1)
+one-file-answer (Gen recipe) options file of bytes bytes' status status' a b = one-summary recipe options file bytes bytes' status status' a b
 
-one-reading_answer : (mode : Mode) (options : Options) (text : List ℕ) (r : Result File TextFault) → reading text ≡ r → (bytes bytes' : List ℕ) (status status' : Status) → AnswersReading mode options r bytes status → AnswersReading mode options r bytes' status' → Same bytes bytes' status status'
-one-reading_answer mode options text (Ok file) reads bytes bytes' status status' a b = one-file_answer mode options file (text, reads) bytes bytes' status status' a b
-one-reading_answer mode options text (Err fault) reads bytes bytes' status status' a b = (a.0 ∙ sym b.0, a.1 ∙ sym b.1)
+one-reading-answer : (mode : Mode) (options : Options) (text : List ℕ) (r : Result File TextFault) → reading text ≡ r → (bytes bytes' : List ℕ) (status status' : Status) → AnswersReading mode options r bytes status → AnswersReading mode options r bytes' status' → Same bytes bytes' status status'
+one-reading-answer mode options text (Ok file) reads bytes bytes' status status' a b = one-file-answer mode options file (text, reads) bytes bytes' status status' a b
+one-reading-answer mode options text (Err fault) reads bytes bytes' status status' a b = (a.0 ∙ sym b.0, a.1 ∙ sym b.1)
 
 -- words and a text have at most one answer
 pub one-answer : OneAnswer
@@ -268,7 +272,7 @@ one-answer words text bytes bytes' status status' (usage n) (invoked d is b s a)
 one-answer words text bytes bytes' status status' (invoked c is b s a) (usage n) = absurd (n c is)
 one-answer words text bytes bytes' status status' (invoked c is b s a) (invoked d is' b' s' a') =
     let own = text_for c.mode text in
-    one-reading_answer c.mode c.options own (reading own) refl b b' s s' a (subst (λ (x : Invocation). AnswersReading x.mode x.options (reading (text_for x.mode text)) b' s') (sym (one_invocation words c d is is')) a')
+    one-reading-answer c.mode c.options own (reading own) refl b b' s s' a (subst (λ (x : Invocation). AnswersReading x.mode x.options (reading (text_for x.mode text)) b' s') (sym (one_invocation words c d is is')) a')
 
 -- ---- and one at least
 
@@ -276,7 +280,7 @@ some-outcome : (file : File) (steps : ℕ) → (bytes : List ℕ) × (status : S
 some-outcome file steps =
     let run = run_of_file file steps in
     let e = plain_run-finishes (nests_of file) (first_store file) steps in
-    let runs = longest_runs run.store.memory in
+    let runs = longest-runs run.store.memory in
     (outcome_lines (scalar_names file) run.store.scalars runs.0 e.0 run.steps, status_of e.0, record { ending = e.0; ended = e.1; written = (runs.0, runs.1, refl); answered = refl })
 
 -- a file that a text reads as has a journey, where its numbers are i64s and the options are in their ranges
@@ -292,32 +296,31 @@ runnable options file of range i64s =
       steps = range.steps;
     }
 
-some-file_answer : (mode : Mode) (options : Options) (file : File) → IsOfText file → AreInRange options → (has_journey mode ≡ true → AreI64s file) → (bytes : List ℕ) × (status : Status) × AnswersFile mode options file bytes status
-some-file_answer Plain options file of range i64s = some-outcome file options.steps
-some-file_answer Run options file of range i64s =
+some-file-answer : (mode : Mode) (options : Options) (file : File) → IsOfText file → AreInRange options → (bytes : List ℕ) × (status : Status) × AnswersFile mode options file bytes status
+some-file-answer Plain options file of range = some-outcome file options.steps
+some-file-answer Run options file of range =
     let o = some-outcome file options.steps in
-    let j = some-journey (journey_options options) file (runnable options file of range (i64s refl)) in
+    let j = some-journey (journey_options options) file (runnable options file of range (are-i64s file of)) in
     (o.0 ++ flat_map (line_text (scalar_names file)) j.0, o.1, record { outcome = o.0; is = o.2; lines = j.0; end = j.1; journey = j.2; written = refl })
-some-file_answer Check options file of range i64s = (canonical file, Ended, (refl, refl))
-some-file_answer Deps options file of range i64s =
+some-file-answer Check options file of range = (canonical file, Ended, (refl, refl))
+some-file-answer Deps options file of range =
     let one = one-listing (journey_options options) file of in
     (flat_map (listing_text (scalar_names file)) one.0, Ended, ((one.0, one.1, refl), refl))
-some-file_answer (Gen recipe) options file of range i64s =
+some-file-answer (Gen recipe) options file of range =
     let run = run_of_file file options.steps in
     let e = plain_run-finishes (nests_of file) (first_store file) options.steps in
-    let j = some-journey (journey_options options) file (runnable options file of range (i64s refl)) in
+    let j = some-journey (journey_options options) file (runnable options file of range (are-i64s file of)) in
     (heading recipe ++ summary e.0 run.steps j.0 run.store.memory, status_of e.0, record { ending = e.0; ended = e.1; lines = j.0; end = j.1; journey = j.2; written = refl; answered = refl })
 
-some-reading_answer : (mode : Mode) (options : Options) (text : List ℕ) (r : Result File TextFault) → reading text ≡ r → AreInRange options → ((file : File) → has_journey mode ≡ true → r ≡ Ok file → AreI64s file)
-    → (bytes : List ℕ) × (status : Status) × AnswersReading mode options r bytes status
-some-reading_answer mode options text (Ok file) reads range i64s = some-file_answer mode options file (text, reads) range (λ has. i64s file has refl)
-some-reading_answer mode options text (Err fault) reads range i64s = (refusal_line fault, Refused, (refl, refl))
+some-reading-answer : (mode : Mode) (options : Options) (text : List ℕ) (r : Result File TextFault) → reading text ≡ r → AreInRange options → (bytes : List ℕ) × (status : Status) × AnswersReading mode options r bytes status
+some-reading-answer mode options text (Ok file) reads range = some-file-answer mode options file (text, reads) range
+some-reading-answer mode options text (Err fault) reads range = (refusal_line fault, Refused, (refl, refl))
 
 pub some-answer : SomeAnswer
-some-answer words text i64s = elim (invocation_or_none words) [
+some-answer words text = elim (invocation_or_none words) [
   | inl i ↦ (
       let own = text_for i.0.mode text in
-      let a = some-reading_answer i.0.mode i.0.options own (reading own) refl (options-in_range words i.0 i.1) (λ file has reads. i64s i.0 file i.1 has reads) in
+      let a = some-reading-answer i.0.mode i.0.options own (reading own) refl (options-in-range words i.0 i.1) in
       (a.0, a.1, invoked i.0 i.1 a.0 a.1 a.2))
   | inr none ↦ (usage_line, Usage, usage none)
 ]
@@ -345,17 +348,17 @@ of-answer words text bytes status (usage n) = tt
 of-answer words text bytes status (invoked c is b s a) = of-reading c.mode c.options (reading (text_for c.mode text)) b s a
 
 -- no answer has the status of a fault
-pub answer-no_sink_fault : (words : List (List ℕ)) (text bytes : List ℕ) (status : Status) → IsAnswer words text bytes status → status ≡ SinkFault → ⊥
-answer-no_sink_fault words text bytes status a e = subst IsOfAnswer e (of-answer words text bytes status a)
+pub answer-no-sink-fault : (words : List (List ℕ)) (text bytes : List ℕ) (status : Status) → IsAnswer words text bytes status → status ≡ SinkFault → ⊥
+answer-no-sink-fault words text bytes status a e = subst IsOfAnswer e (of-answer words text bytes status a)
 
-pub answer-no_source_fault : (words : List (List ℕ)) (text bytes : List ℕ) (status : Status) → IsAnswer words text bytes status → status ≡ SourceFault → ⊥
-answer-no_source_fault words text bytes status a e = subst IsOfAnswer e (of-answer words text bytes status a)
+pub answer-no-source-fault : (words : List (List ℕ)) (text bytes : List ℕ) (status : Status) → IsAnswer words text bytes status → status ≡ SourceFault → ⊥
+answer-no-source-fault words text bytes status a e = subst IsOfAnswer e (of-answer words text bytes status a)
 
 pub answer-no_memory : (words : List (List ℕ)) (text bytes : List ℕ) (status : Status) → IsAnswer words text bytes status → status ≡ NoMemory → ⊥
 answer-no_memory words text bytes status a e = subst IsOfAnswer e (of-answer words text bytes status a)
 
 -- a text that a source may have given
-text-of : (left : Option (List ℕ)) → (text : List ℕ) × IsTextOf left text
+pub text-of : (left : Option (List ℕ)) → (text : List ℕ) × IsTextOf left text
 text-of None = ([], tt)
 text-of (Some bytes) = (text_taken bytes, refl)
 

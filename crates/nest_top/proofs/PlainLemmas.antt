@@ -9,7 +9,7 @@ use Rattle.nest_lang.specs.declared.budget.Ending.TheVariants as ending
 use Rattle.nest_lang.specs.Stores.{Store}
 use Rattle.nest_lang.specs.Traces.{Finish, Done, cut, cut_of}
 use Rattle.nest_lang.specs.Runs.{finish_of_ending, nest_trace, nests_trace, plain_run, run_of}
-use Rattle.plain_interp.proofs.Several.{rest_of_run, plain_run-rest, rest_of_run-end, rest_of_run-next, rest_of_run-out}
+use Rattle.plain_interp.proofs.Several.{rest_of_run, plain_run-rest, rest-of-run-end, rest-of-run-next, rest-of-run-out}
 
 -- the element at a place, and what is behind it
 same-some : {A : Type 0} (a b : A) → Some a ≡ Some b → a ≡ b
@@ -48,7 +48,7 @@ module _ (nests : List Nest) (number : ℕ) (s t : Store) (left used left' used'
     left-next ended = record {
       rest = λ k more.
           let ran : cut_of u left'' used'' Done ≡ cut (nest_trace k nest.loops t) t left' used' = ap (λ (x : Ending). cut_of u left'' used'' (finish_of_ending x)) (sym ended) ∙ run.ran k (omega (arith, more, before.fewer)) in
-          rest_of_run-next k nest (drop (number + 1) nests) t u left' used' left'' used'' ran
+          rest-of-run-next k nest (drop (number + 1) nests) t u left' used' left'' used'' ran
           ∙ ap (λ (ns : List Nest). cut (nests_trace k ns t) t left' used') (sym (drop-at nests number nest here))
           ∙ before.rest k more;
       fewer = omega (arith, run.fewer, before.fewer);
@@ -59,7 +59,7 @@ module _ (nests : List Nest) (number : ℕ) (s t : Store) (left used left' used'
     pub left-out : (e ≡ ending.Ended → ⊥) → (k : ℕ) → left < k → cut_of u left'' used'' (finish_of_ending e) ≡ cut (nests_trace k nests s) s left used
     unfolding rest_of_run
     left-out out k more =
-        rest_of_run-out k nest (drop (number + 1) nests) t u left' used' left'' used'' (finish_of_ending e) (λ done. out (only-ended e done)) (run.ran k (omega (arith, more, before.fewer)))
+        rest-of-run-out k nest (drop (number + 1) nests) t u left' used' left'' used'' (finish_of_ending e) (λ done. out (only-ended e done)) (run.ran k (omega (arith, more, before.fewer)))
         ∙ ap (λ (ns : List Nest). cut (nests_trace k ns t) t left' used') (sym (drop-at nests number nest here))
         ∙ before.rest k more
       where
@@ -71,7 +71,7 @@ module _ (nests : List Nest) (number : ℕ) (s t : Store) (left used left' used'
   pub left-end : length nests ≤ number → (k : ℕ) → left < k → cut_of t left' used' Done ≡ cut (nests_trace k nests s) s left used
   unfolding rest_of_run
   left-end all k more =
-      rest_of_run-end k t left' used'
+      rest-of-run-end k t left' used'
       ∙ ap (λ (ns : List Nest). cut (nests_trace k ns t) t left' used') (sym (drop_all number nests all))
       ∙ before.rest k more
 

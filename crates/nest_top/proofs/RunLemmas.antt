@@ -1,6 +1,6 @@
 -- Calls that made an answer and put it into the sink, and calls that made none.
-use Rattle.std.proofs.Common.{◌≡◌, ◌∙◌, refl, ap, sym, subst, ℕ, ◌≤◌, List, Option, Some, None, Result, Ok, Err, true, false, inl, inr, ◌⊎◌, arith}
-use Rattle.std.specs.Prelude.{IsErrAnd, IsErrOf, IfSome}
+use Rattle.std.proofs.Common.{◌≡◌, ◌∙◌, refl, ap, sym, subst, ℕ, ◌≤◌, List, Option, Some, Result, Ok, Err, true, false, inl, inr, arith}
+use Rattle.std.specs.Prelude.{IsErrAnd}
 use Rattle.nest_io.specs.Faults.{Rose}
 use Rattle.nest_io.specs.Bytes.{Appends, AppendsFront}
 use Rattle.nest_io.specs.declared.refusals.ReadEnd.{ReadEnd}
@@ -13,13 +13,13 @@ use Rattle.command_line.specs.Invocations.{IsInvocation, IsNoInvocation, usage_l
 use Rattle.command_line.proofs.Found.{one_invocation}
 use Rattle.nest_top.specs.declared.answer.Answer.{Answer}
 use Rattle.nest_top.specs.declared.status.Status.{Status}
-use Rattle.nest_top.specs.declared.status.Status.TheVariants.{SourceFault, SinkFault, NoMemory, Usage}
+use Rattle.nest_top.specs.declared.status.Status.TheVariants.{SinkFault, Usage}
 use Rattle.nest_top.specs.declared.unanswered.Unanswered.{Unanswered}
 use Rattle.nest_top.specs.declared.unanswered.Unanswered.TheVariants as unanswered
 use Rattle.nest_top.specs.Texts.{IsRead}
-use Rattle.nest_top.specs.Answers.{Answered, AsksForJourney, IsAnswer, Prepared, TakesNothing, TakesText, has_journey, status_of_unanswered, text_for, unanswered_by}
+use Rattle.nest_top.specs.Answers.{AsksForJourney, Prepared, TakesText, has_journey, status_of_unanswered, text_for, unanswered_by}
 use Rattle.nest_top.specs.Runs.{IsAnswerMade, IsMade, IsMadeAlone, IsNoneMade, IsPut, IsRun, Over}
-use Rattle.nest_top.proofs.AnswerLemmas.{causes, answer-no_memory, answer-no_sink_fault, answer-no_source_fault, usage-prepared}
+use Rattle.nest_top.proofs.AnswerLemmas.{causes, answer-no_memory, answer-no-sink-fault, answer-no-source-fault, usage-prepared}
 
 -- ---- modes
 
@@ -89,6 +89,9 @@ module _ {S : Type 0} (words : List (List ℕ)) (source : Over S) where
   pub answer-made : (r : Result Answer Unanswered) (a : Answer) → r ≡ Ok a → IsMade words source r → IsAnswerMade words source a.bytes.items a.status
   answer-made r a is made = subst (λ (x : Result Answer Unanswered). IsMade words source x) is made
 
+  pub reason-made : (r : Result Answer Unanswered) (why : Unanswered) → r ≡ Err why → IsMade words source r → IsNoneMade words source why
+  reason-made r why is made = subst (λ (x : Result Answer Unanswered). IsMade words source x) is made
+
   pub answer-alone : (r : Result (Option Answer) Unanswered) (o : Option Answer) (a : Answer) → r ≡ Ok o → o ≡ Some a → IsMadeAlone words source r → IsAnswerMade words source a.bytes.items a.status × (AsksForJourney words → ⊥)
   answer-alone r o a is some made =
       subst (λ (x : Option Answer). IsMadeAlone words source (Ok x)) some (subst (λ (x : Result (Option Answer) Unanswered). IsMadeAlone words source x) is made)
@@ -111,8 +114,8 @@ module _ {S K : Type 0} (words : List (List ℕ)) (source : Over S) (sink : Over
       let a = made.answer in
       record {
         answer = λ answered. (a.text, bytes, a.taken, a.answer, causes words a.text bytes status a.answer, put);
-        source_fault = λ e. absurd (answer-no_source_fault words a.text bytes status a.answer e);
-        sink_fault = λ e. absurd (answer-no_sink_fault words a.text bytes status a.answer e);
+        source_fault = λ e. absurd (answer-no-source-fault words a.text bytes status a.answer e);
+        sink_fault = λ e. absurd (answer-no-sink-fault words a.text bytes status a.answer e);
         no_memory = λ e. absurd (answer-no_memory words a.text bytes status a.answer e);
         unread = made.unread;
         read = λ invocation is takes reads. made.read invocation is takes;

@@ -82,28 +82,28 @@ module _ (at : Occurrence) (values : List ℤ) where
   f = record { at = at; values = values; expects = plain }
 
   module _ (scalars locals memory : List ℤ) where
-    Told_fine : Expr → Type 0
-    Told_fine e = FailsByTraps (told_by f scalars locals (look_load plain memory) e).value
+    Told-fine : Expr → Type 0
+    Told-fine e = FailsByTraps (told_by f scalars locals (look_load plain memory) e).value
 
     rolled : (y : Expr-F Expr) → told_by f scalars locals (look_load plain memory) (roll-Expr y) ≡ expression_level f scalars locals (look_load plain memory) (map-Expr _ _ (told_by f scalars locals (look_load plain memory)) y)
     unfolding told_by
     rolled y = fold-roll-Expr Told (expression_level f scalars locals (look_load plain memory)) y
 
-    level-fine : (y : Expr-F ((e : Expr) × Told_fine e)) → FailsByTraps (expression_level f scalars locals (look_load plain memory) (map-Expr _ _ (told_by f scalars locals (look_load plain memory)) (map-Expr _ _ (λ e. e.0) y))).value
-    unfolding Told_fine
+    level-fine : (y : Expr-F ((e : Expr) × Told-fine e)) → FailsByTraps (expression_level f scalars locals (look_load plain memory) (map-Expr _ _ (told_by f scalars locals (look_load plain memory)) (map-Expr _ _ (λ e. e.0) y))).value
+    unfolding Told-fine
     level-fine (Expr-F.Number n) = tt
     level-fine (Expr-F.Var place) = tt
     level-fine (Expr-F.Load access a) = then_tell-fine _ _ _ a.1 (λ z. look-fine memory access z)
     level-fine (Expr-F.Neg a) = then_tell-fine _ _ _ a.1 (λ z. trapped-fine _)
     level-fine (Expr-F.Two op a b) = then_tell-fine _ _ _ a.1 (λ z. then_tell-fine _ _ _ b.1 (λ v. trapped-fine _))
 
-    tells-fine : (e : Expr) → Told_fine e
-    unfolding Told_fine
-    tells-fine = ind-Expr Told_fine (λ y z is. subst (λ w. Told_fine (roll-Expr w)) is
+    tells-fine : (e : Expr) → Told-fine e
+    unfolding Told-fine
+    tells-fine = ind-Expr Told-fine (λ y z is. subst (λ w. Told-fine (roll-Expr w)) is
         (subst (λ (p : Told). FailsByTraps p.value) (sym (rolled (map-Expr _ _ (λ e. e.0) z))) (level-fine z)))
 
   told-fine : (s : Store) (e : Expr) → FailsByTraps (told f s e).value
-  unfolding Told_fine
+  unfolding Told-fine
   told-fine s e = tells-fine s.scalars s.locals s.memory e
 
   -- statements
@@ -116,47 +116,47 @@ module _ (at : Occurrence) (values : List ℤ) where
   stored-fine seen address v (Ok old) a = (tt, tt)
   stored-fine seen address v (Err halt) a = (a, tt)
 
-  Parts_fine : Stmt-F (Store → Trace) → Type 0
-  Parts_fine (Stmt-F.If e first second) = AllFine first × AllFine second
-  Parts_fine _ = Unit {0}
+  Parts-fine : Stmt-F (Store → Trace) → Type 0
+  Parts-fine (Stmt-F.If e first second) = AllFine first × AllFine second
+  Parts-fine _ = Unit {0}
 
   if-fine : (b : Bool) (xs ys : List (Store → Trace)) → AllFine xs → AllFine ys → AllFine (if b then xs else ys)
   if-fine true xs ys h k = h
   if-fine false xs ys h k = k
 
-  statement_level-fine : (x : Stmt-F (Store → Trace)) (s : Store) → Parts_fine x → FineStep (statement_level f x s)
-  unfolding Parts_fine
+  statement_level-fine : (x : Stmt-F (Store → Trace)) (s : Store) → Parts-fine x → FineStep (statement_level f x s)
+  unfolding Parts-fine
   statement_level-fine (Stmt-F.Let number e) s parts = with_value-fine _ (told f s e).value _ (told-fine s e) (λ z. (tt, tt))
   statement_level-fine (Stmt-F.Set number e) s parts = with_value-fine _ (told f s e).value _ (told-fine s e) (λ z. (tt, tt))
   statement_level-fine (Stmt-F.Store access a e) s parts = with_value-fine _ (told f s a).value _ (told-fine s a) (λ z. with_value-fine _ (told f s e).value _ (told-fine s e) (λ v. stored-fine _ z v _ (look-fine s.memory access z)))
   statement_level-fine (Stmt-F.If e first second) s parts = with_value-fine _ (told f s e).value _ (told-fine s e) (λ z. (tt, if-fine _ second first parts.1 parts.0))
 
-  Runs_fine : Stmt → Type 0
-  Runs_fine st = Fine (statement_trace f st)
+  Runs-fine : Stmt → Type 0
+  Runs-fine st = Fine (statement_trace f st)
 
-  all_mapped : (xs : List ((st : Stmt) × Runs_fine st)) → AllFine (map (statement_trace f) (map (λ e. e.0) xs))
-  unfolding Runs_fine
-  all_mapped [] = tt
-  all_mapped (x ∷ xs) = (x.1, all_mapped xs)
+  all-mapped : (xs : List ((st : Stmt) × Runs-fine st)) → AllFine (map (statement_trace f) (map (λ e. e.0) xs))
+  unfolding Runs-fine
+  all-mapped [] = tt
+  all-mapped (x ∷ xs) = (x.1, all-mapped xs)
 
-  layer-fine : (y : Stmt-F ((st : Stmt) × Runs_fine st)) → Parts_fine (map-Stmt _ _ (statement_trace f) (map-Stmt _ _ (λ e. e.0) y))
-  unfolding Parts_fine
+  layer-fine : (y : Stmt-F ((st : Stmt) × Runs-fine st)) → Parts-fine (map-Stmt _ _ (statement_trace f) (map-Stmt _ _ (λ e. e.0) y))
+  unfolding Parts-fine
   layer-fine (Stmt-F.Let number e) = tt
   layer-fine (Stmt-F.Set number e) = tt
   layer-fine (Stmt-F.Store access a e) = tt
-  layer-fine (Stmt-F.If e first second) = (all_mapped first, all_mapped second)
+  layer-fine (Stmt-F.If e first second) = (all-mapped first, all-mapped second)
 
   rolled-statement : (x : Stmt-F Stmt) → statement_trace f (roll-Stmt x) ≡ (λ s. traced (statement_level f (map-Stmt _ _ (statement_trace f) x) s) s)
   unfolding statement_trace
   rolled-statement x = fold-roll-Stmt (Store → Trace) (λ z s. traced (statement_level f z s) s) x
 
-  statement-fine : (st : Stmt) → Runs_fine st
-  unfolding Runs_fine
-  statement-fine = ind-Stmt Runs_fine (λ x y is. subst (λ z. Runs_fine (roll-Stmt z)) is
+  statement-fine : (st : Stmt) → Runs-fine st
+  unfolding Runs-fine
+  statement-fine = ind-Stmt Runs-fine (λ x y is. subst (λ z. Runs-fine (roll-Stmt z)) is
       (subst Fine (sym (rolled-statement (map-Stmt _ _ (λ e. e.0) y))) (λ s. traced-fine (statement_level f (map-Stmt _ _ (statement_trace f) (map-Stmt _ _ (λ e. e.0) y)) s) s (statement_level-fine _ s (layer-fine y)))))
 
   block-fine : (xs : List Stmt) → AllFine (map (statement_trace f) xs)
-  unfolding Runs_fine
+  unfolding Runs-fine
   block-fine [] = tt
   block-fine (x ∷ xs) = (statement-fine x, block-fine xs)
 

@@ -62,6 +62,8 @@ pub record IsOutcomeOf (file : File) (steps : ℕ) (bytes : List ℕ) (status : 
 
 -- the numbers of options are in their ranges
 pub record AreInRange (options : Options) : Type 0 where
+  pub workers_from : 1 ≤ options.workers
+  pub workers_to : options.workers ≤ 64
   pub chunk_from : pos 1 ≤ℤ options.chunk
   pub chunk_to : options.chunk ≤ℤ pos 1024
   pub sample_from : pos 2 ≤ℤ options.sample

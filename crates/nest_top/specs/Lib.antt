@@ -2,4 +2,5 @@ pub mod Texts
 pub mod Answers
 pub mod Exits
 pub mod Runs
+pub mod HandedOver
 pub mod Laws

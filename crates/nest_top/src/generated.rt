@@ -3,6 +3,7 @@
 ghost use Rattle.std.specs.Prelude.{◌≡◌, ◌≤◌, IfOk, Ok};
 ghost use Rattle.nest_grammar.specs.declared.file.File.{File};
 ghost use Rattle.nest_grammar.specs.Contents.{reading};
+ghost use Rattle.nest_top.specs.HandedOver.{ReadingHanded};
 ghost use Rattle.nest_top.specs.Answers as answers;
 ghost use Rattle.nest_top.specs.Answers.{AreInRange, IsSummaryOf, text_made};
 
@@ -11,23 +12,26 @@ use crate::options::journey_options;
 use crate::plain::status_of;
 use command_line::{Options, Recipe, Shape};
 use controller::journey;
+use crew::Crew;
 use nest_gen::generate;
 use report::summary_text;
 use std::alloc::{AllocError, Global};
 
 /// The summary of the journey of the file that is made by a recipe, with these options.
-pub(crate) fn generated(
+pub(crate) fn generated<C: Crew>(
     alloc: Global,
     options: &Options,
     recipe: Recipe,
+    crew: &mut C,
 ) -> Result<Answer, AllocError>
     requires options { AreInRange options.now }
     requires from { 1 ≤ recipe.size }
     requires to { recipe.size ≤ 256 }
-    ensures { IfOk result (λ answer. (file : File) × (reading (text_made recipe) ≡ Ok file) × IsSummaryOf recipe options.now file answer.bytes.items answer.status) }
+    ensures answer { IfOk result (λ answer. (file : File) × (reading (text_made recipe) ≡ Ok file) × IsSummaryOf recipe options.now file answer.bytes.items answer.status) }
+    ensures handed { ReadingHanded options.now (reading (text_made recipe)) (C.handed crew.old) (C.handed crew.new) result }
 {
     let file = generate(alloc, recipe.seed, shape_of(recipe.shape), recipe.size)?;
-    let journey = journey(alloc, &file, &journey_options(options))?;
+    let journey = journey(alloc, &file, &journey_options(options), crew)?;
     let mut bytes = heading(alloc, recipe)?;
     bytes.extend_from_slice(summary_text(alloc, &journey)?.as_slice())?;
     Ok(Answer {

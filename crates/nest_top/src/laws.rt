@@ -1,13 +1,18 @@
 //! Laws of answers, each the contract of a function that does nothing.
 
-ghost use Rattle.nest_top.specs.Laws.{OneAnswer, SomeAnswer, EachHasItsCause};
+ghost use Rattle.nest_top.specs.Laws.{EachHasItsCause, FilesAreOfI64s, OneAnswer, SomeAnswer};
 
 /// Words and a text have at most one answer: bytes and a status.
 pub fn one_answer()
     ensures { OneAnswer }
 {}
 
-/// Words and a text have an answer; in mode `run` where the numbers of the file are i64s.
+/// The numbers of every file that a text reads as are i64s.
+pub fn files_are_of_i64s()
+    ensures { FilesAreOfI64s }
+{}
+
+/// Words and a text have an answer.
 pub fn some_answer()
     ensures { SomeAnswer }
 {}

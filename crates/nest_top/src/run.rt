@@ -3,6 +3,7 @@
 ghost use Rattle.std.specs.Prelude.{◌≡◌, map, string_bytes};
 ghost use Rattle.nest_top.specs.Answers.{AsksForJourney};
 ghost use Rattle.nest_top.specs.Exits.{exit_code};
+ghost use Rattle.nest_top.specs.HandedOver.{IsHanded, IsHandedMade};
 ghost use Rattle.nest_top.specs.Runs.{IsMade, IsRun};
 
 use crate::alone::nest_alone;
@@ -12,22 +13,25 @@ use crate::speculative::speculative;
 use crate::status::Status;
 use crate::unanswered::Unanswered;
 use command_line::{Mode, invocation_of};
+use crew::Crew;
 use nest_io::{Sink, Source, read_all};
 use nest_text::MOST_BYTES;
 use std::alloc::Global;
 
 /// Does what the words ask for, as `nest_run`, and gives the exit of its status.
-pub fn nest_exit<S: Source, K: Sink>(
+pub fn nest_exit<S: Source, K: Sink, C: Crew>(
     alloc: Global,
     words: &[String],
     source: &mut S,
     sink: &mut K,
+    crew: &mut C,
 ) -> u8
     ensures { (status : Status) × (result ≡ exit_code status) × IsRun (map string_bytes words.now)
         (record { bytes = S.left; faults = S.faults; before = source.old; after = source.new })
-        (record { bytes = K.held; faults = K.faults; before = sink.old; after = sink.new }) status }
+        (record { bytes = K.held; faults = K.faults; before = sink.old; after = sink.new }) status
+        × IsHanded (map string_bytes words.now) (S.left source.old) status (C.handed crew.old) (C.handed crew.new) }
 {
-    nest_run(alloc, words, source, sink).exit()
+    nest_run(alloc, words, source, sink, crew).exit()
 }
 
 /// Reads a text from the source where the words are an invocation that reads one, and puts the answer into the sink
@@ -37,30 +41,40 @@ pub fn nest_exit<S: Source, K: Sink>(
 /// `Usage` and mode `gen` read nothing. `SourceFault` and `SinkFault` come only where that object's count of faults
 /// rose in this call. After `SourceFault` and `NoMemory` the sink got nothing, after `SinkFault` a front
 /// of the answer's bytes; in every other case it got them all, and the status is the answer's.
-pub fn nest_run<S: Source, K: Sink>(
+///
+/// Each phase of each chunk that a journey launches is handed to the crew, which may wait for its workers.
+pub fn nest_run<S: Source, K: Sink, C: Crew>(
     alloc: Global,
     words: &[String],
     source: &mut S,
     sink: &mut K,
+    crew: &mut C,
 ) -> Status
-    ensures { IsRun (map string_bytes words.now)
+    ensures run { IsRun (map string_bytes words.now)
         (record { bytes = S.left; faults = S.faults; before = source.old; after = source.new })
         (record { bytes = K.held; faults = K.faults; before = sink.old; after = sink.new }) result }
+    ensures handed { IsHanded (map string_bytes words.now) (S.left source.old) result (C.handed crew.old) (C.handed crew.new) }
 {
     if let Some(status) = nest_alone(alloc, words, source, sink) {
         return status;
     }
-    match prepare(alloc, words, source) {
+    match prepare(alloc, words, source, crew) {
         Ok(answer) => answer.put(sink),
         Err(why) => why.status(),
     }
 }
 
 /// Makes the answer of words that ask for a journey.
-fn prepare<S: Source>(alloc: Global, words: &[String], source: &mut S) -> Result<Answer, Unanswered>
+fn prepare<S: Source, C: Crew>(
+    alloc: Global,
+    words: &[String],
+    source: &mut S,
+    crew: &mut C,
+) -> Result<Answer, Unanswered>
     requires { AsksForJourney (map string_bytes words.now) }
-    ensures { IsMade (map string_bytes words.now)
+    ensures made { IsMade (map string_bytes words.now)
         (record { bytes = S.left; faults = S.faults; before = source.old; after = source.new }) result }
+    ensures handed { IsHandedMade (map string_bytes words.now) (S.left source.old) (C.handed crew.old) (C.handed crew.new) result }
 {
     let Some(invocation) = invocation_of(alloc, words)? else {
         unreachable!()
@@ -68,9 +82,10 @@ fn prepare<S: Source>(alloc: Global, words: &[String], source: &mut S) -> Result
     match invocation.mode {
         Mode::Run => {
             let taken = read_all(alloc, source, MOST_BYTES)?;
-            Ok(speculative(alloc, &invocation.options, taken.bytes.as_slice())?)
+            let text = taken.bytes.as_slice();
+            Ok(speculative(alloc, &invocation.options, text, crew)?)
         }
-        Mode::Gen(recipe) => Ok(generated(alloc, &invocation.options, recipe)?),
+        Mode::Gen(recipe) => Ok(generated(alloc, &invocation.options, recipe, crew)?),
         Mode::Plain | Mode::Check | Mode::Deps => unreachable!(),
     }
 }

@@ -4,6 +4,7 @@
 ghost use Rattle.std.specs.Prelude.{◌≤◌};
 
 use super::*;
+use crew::{Crew, LineCrew, OpenGate, ThreadCrew};
 use nest_io::{MemSink, MemSource};
 use std::alloc::Global;
 use std::test::Fail;
@@ -24,8 +25,9 @@ struct Ran {
     sink: MemSink,
 }
 
-fn run(
+fn run<C: Crew>(
     alloc: Global,
+    crew: &mut C,
     words: &[&str],
     text: &[u8],
     most: usize,
@@ -48,15 +50,16 @@ fn run(
     }
     let mut source = MemSource::new(text.to_vec(alloc)?, most, reads);
     let mut sink = MemSink::new(alloc, 1000, most, writes)?;
-    let status = nest_run(alloc, owned.as_slice(), &mut source, &mut sink);
+    let status = nest_run(alloc, owned.as_slice(), &mut source, &mut sink, crew);
     Ok(Ran { status, sink })
 }
 
 #[test]
 fn pieces_of_any_size_give_the_same_answer(rt: HostRuntime) -> Result<(), Fail> {
     let alloc = rt.alloc();
+    let mut crew = LineCrew::new(&rt, alloc);
     for most in 1..4 {
-        let run = run(alloc, &["plain"], COPY, most, None, None)?;
+        let run = run(alloc, &mut crew, &["plain"], COPY, most, None, None)?;
         assert_eq!(rt; run.status, Status::Ended, "{most} bytes");
         assert_eq!(rt; run.sink.bytes(), COPIED, "{most} bytes");
     }
@@ -67,12 +70,13 @@ fn pieces_of_any_size_give_the_same_answer(rt: HostRuntime) -> Result<(), Fail> 
 #[test]
 fn a_source_that_fails_at_its_kth_read_leaves_the_sink_empty(rt: HostRuntime) -> Result<(), Fail> {
     let alloc = rt.alloc();
+    let mut crew = LineCrew::new(&rt, alloc);
     for read in 1..11 {
-        let run = run(alloc, &["plain"], COPY, 7, Some(read), None)?;
+        let run = run(alloc, &mut crew, &["plain"], COPY, 7, Some(read), None)?;
         assert_eq!(rt; run.status, Status::SourceFault, "read {read}");
         assert!(rt; run.sink.bytes().is_empty(), "read {read}");
     }
-    let whole = run(alloc, &["plain"], COPY, 7, Some(11), None)?;
+    let whole = run(alloc, &mut crew, &["plain"], COPY, 7, Some(11), None)?;
     assert_eq!(rt; whole.status, Status::Ended);
     Ok(())
 }
@@ -80,17 +84,51 @@ fn a_source_that_fails_at_its_kth_read_leaves_the_sink_empty(rt: HostRuntime) ->
 // The source would fail at its first read.
 #[test]
 fn words_that_are_no_command_read_nothing(rt: HostRuntime) -> Result<(), Fail> {
-    let run = run(rt.alloc(), &["--help"], COPY, 7, Some(1), None)?;
+    let alloc = rt.alloc();
+    let mut crew = LineCrew::new(&rt, alloc);
+    let run = run(alloc, &mut crew, &["--help"], COPY, 7, Some(1), None)?;
     assert_eq!(rt; run.status, Status::Usage);
     assert_eq!(rt; run.sink.bytes(), USAGE);
+    Ok(())
+}
+
+const GENERATED: &[u8] = b"gen 0 copy 2
+ended
+steps 129
+profiles 1 unfits 0 illegals 0 helds 0 commits 4 rollbacks 0 plains 0
+sum 896
+";
+
+// The source would fail at its first read.
+#[test]
+fn a_generated_file_under_two_crews(rt: HostRuntime) -> Result<(), Fail> {
+    let alloc = rt.alloc();
+    let words = ["gen", "0", "copy", "2"];
+    let mut crew = LineCrew::new(&rt, alloc);
+    let in_line = run(alloc, &mut crew, &words, COPY, 7, Some(1), None)?;
+    assert_eq!(rt; in_line.status, Status::Ended);
+    assert_eq!(rt; in_line.sink.bytes(), GENERATED);
+    let mut crew = ThreadCrew::new(&rt, alloc, OpenGate);
+    let beside = run(alloc, &mut crew, &words, COPY, 7, Some(1), None)?;
+    assert_eq!(rt; beside.status, Status::Ended);
+    assert_eq!(rt; beside.sink.bytes(), GENERATED);
     Ok(())
 }
 
 #[test]
 fn a_sink_that_fails_at_its_kth_write_has_a_front(rt: HostRuntime) -> Result<(), Fail> {
     let alloc = rt.alloc();
+    let mut crew = LineCrew::new(&rt, alloc);
     for (index, _) in COPIED.iter().enumerate() {
-        let run = run(alloc, &["plain"], COPY, 1, None, Some(index as u64 + 1))?;
+        let run = run(
+            alloc,
+            &mut crew,
+            &["plain"],
+            COPY,
+            1,
+            None,
+            Some(index as u64 + 1),
+        )?;
         assert_eq!(rt; run.status, Status::SinkFault, "write {index}");
         assert_eq!(rt; run.sink.bytes(), &COPIED[..index], "write {index}");
     }
@@ -100,10 +138,11 @@ fn a_sink_that_fails_at_its_kth_write_has_a_front(rt: HostRuntime) -> Result<(),
 #[test]
 fn a_second_read_and_a_third_write_that_fail(rt: HostRuntime) -> Result<(), Fail> {
     let alloc = rt.alloc();
-    let unread = run(alloc, &["plain"], EMPTY, 40, Some(2), None)?;
+    let mut crew = LineCrew::new(&rt, alloc);
+    let unread = run(alloc, &mut crew, &["plain"], EMPTY, 40, Some(2), None)?;
     assert_eq!(rt; unread.status, Status::SourceFault);
     assert!(rt; unread.sink.bytes().is_empty());
-    let unwritten = run(alloc, &["plain"], EMPTY, 5, None, Some(3))?;
+    let unwritten = run(alloc, &mut crew, &["plain"], EMPTY, 5, None, Some(3))?;
     assert_eq!(rt; unwritten.status, Status::SinkFault);
     assert_eq!(rt; unwritten.sink.bytes(), b"ended\nstep".as_slice());
     Ok(())

@@ -6,13 +6,13 @@ use Rattle.core_steps.specs.declared.view.View.{View}
 use Rattle.core_steps.specs.declared.plan.Plan.{Plan}
 use Rattle.core_steps.specs.Plans.{writes}
 use Rattle.core_steps.specs.Views.{stored_at, overlaid, settled_view}
-use Rattle.core_steps.proofs.StoreLists.{no_option, stored_same, stored_other, length-overlaid}
+use Rattle.core_steps.proofs.StoreLists.{no-option, stored-same, stored-other, length-overlaid}
 use Rattle.orders.specs.Runs.{follow}
 use Rattle.orders.specs.Tiles.{flat}
-use Rattle.orders.proofs.Shares.{named_lawful}
+use Rattle.orders.proofs.Shares.{named-lawful}
 use Rattle.shared_words.specs.Memories.{signed}
 use Rattle.follow.specs.Footprints.{follow_machine}
-use Rattle.follow.proofs.Lawful.{follow-is_lawful}
+use Rattle.follow.proofs.Lawful.{follow-is-lawful}
 use Rattle.follow_chunk.specs.Predicted.{forecast_of}
 use Rattle.follow_chunk.specs.Items.{item_at, scalars_after}
 use Rattle.follow_chunk.specs.Followed.{ClosesSmall}
@@ -20,7 +20,7 @@ use Rattle.phases.specs.Workers.{Fits}
 use Rattle.phases.specs.Laws.{Gathered, EndsRaised, RanTogether, RanAs}
 use Rattle.phases.proofs.Gathering.{phase_law}
 use Rattle.verified_turns.specs.Workers.{TaskState, StaysWithin, instances_of}
-use Rattle.verified_turns.proofs.Turned.{new_fits}
+use Rattle.verified_turns.proofs.Turned.{new-fits}
 use Rattle.phase_run.specs.Postings.{PostingState, IsPostable}
 use Rattle.phase_run.specs.Seats.{OwnsWrites}
 use Rattle.phase_run.specs.Phases.{PhaseRan, OthersKeep}
@@ -30,25 +30,25 @@ module _ {D : ℕ} (k : TaskState) (p : PostingState) (base : List ℕ) (m new :
   here = subst (λ (b : List ℕ). IsPostable D (length b) k p) (sym same_base) may
 
   fits : Fits (instances_of k m) m.plan p.lists
-  fits = new_fits {D = D} p.table k p.lists m here.task here.predicted (subst (λ (q : Plan). StaysWithin k (length m.base) q p.lists) (sym plan) here.within)
+  fits = new-fits {D = D} p.table k p.lists m here.task here.predicted (subst (λ (q : Plan). StaysWithin k (length m.base) q p.lists) (sym plan) here.within)
 
   law : (count steps : ℕ) (raised : Bool) → 0 < count → Gathered (instances_of k m) (ClosesSmall k.pred) p.lists m count steps → EndsRaised m raised new → RanAs (instances_of k m) (ClosesSmall k.pred) p.lists m steps raised
   law count steps raised some gathered told =
       phase_law (instances_of k m) (ClosesSmall k.pred)
-      (named_lawful (item_at k.pred k.loops k.outer) (follow_machine (forecast_of k.pred) (scalars_after k.pred) (length m.base)) (follow-is_lawful (forecast_of k.pred) (scalars_after k.pred) (length m.base)))
+      (named-lawful (item_at k.pred k.loops k.outer) (follow_machine (forecast_of k.pred) (scalars_after k.pred) (length m.base)) (follow-is-lawful (forecast_of k.pred) (scalars_after k.pred) (length m.base)))
       m new p.lists count steps raised refl (here.lists ∙ ap (λ (q : Plan). length q.tiles) (sym plan)) fits some gathered told
 
   -- without the flag the tiles ran together; with it they don't
-  pub ran_together : (count steps : ℕ) (raised : Bool) → raised ≡ false → 0 < count → Gathered (instances_of k m) (ClosesSmall k.pred) p.lists m count steps → EndsRaised m raised new
+  pub ran-together : (count steps : ℕ) (raised : Bool) → raised ≡ false → 0 < count → Gathered (instances_of k m) (ClosesSmall k.pred) p.lists m count steps → EndsRaised m raised new
       → PhaseRan k p.lists base new.base (Some steps)
-  ran_together count steps raised is some gathered told =
+  ran-together count steps raised is some gathered told =
       let ran : RanTogether (instances_of k m) (ClosesSmall k.pred) p.lists (signed m.base) (signed (overlaid m.own m.base)) steps = subst (RanAs (instances_of k m) (ClosesSmall k.pred) p.lists m steps) is (law count steps raised some gathered told) in
       subst (λ (b : List ℕ). PhaseRan k p.lists b new.base (Some steps)) same_base
       (subst (λ (b : List ℕ). PhaseRan k p.lists m.base b (Some steps)) (sym (ap (λ (u : View). u.base) view)) ran)
 
-  pub ran_broken : (count steps : ℕ) (raised : Bool) → raised ≡ true → 0 < count → Gathered (instances_of k m) (ClosesSmall k.pred) p.lists m count steps → EndsRaised m raised new
+  pub ran-broken : (count steps : ℕ) (raised : Bool) → raised ≡ true → 0 < count → Gathered (instances_of k m) (ClosesSmall k.pred) p.lists m count steps → EndsRaised m raised new
       → PhaseRan k p.lists base new.base None
-  ran_broken count steps raised is some gathered told =
+  ran-broken count steps raised is some gathered told =
       let none : follow (instances_of k m) (flat p.lists) (signed m.base) ≡ None = subst (RanAs (instances_of k m) (ClosesSmall k.pred) p.lists m steps) is (law count steps raised some gathered told) in
       subst (λ (b : List ℕ). PhaseRan k p.lists b new.base None) same_base none
 
@@ -62,5 +62,5 @@ module _ {D : ℕ} (k : TaskState) (p : PostingState) (base : List ℕ) (m new :
       untouched : (a : ℕ) (ss : List (ℕ × ℕ)) (b : List ℕ) → stored_at a ss ≡ None → get_or (overlaid ss b) a 0 ≡ get_or b a 0
       untouched a [] b h = refl
       untouched a (s ∷ ss) b h = dite (ℕ_discrete s.0 a)
-          (λ e. absurd (no_option s.1 (stored_at a (s ∷ ss)) h (stored_same a s ss e)))
-          (λ n. get_or-set_other (overlaid ss b) s.0 a s.1 0 (λ e. n (sym e)) ∙ untouched a ss b (sym (stored_other a s ss n) ∙ h))
+          (λ e. absurd (no-option s.1 (stored_at a (s ∷ ss)) h (stored-same a s ss e)))
+          (λ n. get_or-set_other (overlaid ss b) s.0 a s.1 0 (λ e. n (sym e)) ∙ untouched a ss b (sym (stored-other a s ss n) ∙ h))

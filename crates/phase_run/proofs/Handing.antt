@@ -14,10 +14,10 @@ place_of [] x here = absurd here
 place_of (y ∷ ys) x (inl e) = (0, omega arith, sym e)
 place_of (y ∷ ys) x (inr here) = let (i, below, is) = place_of ys x here in (suc i, omega (arith, below), is)
 
-element_at : {X : Type 0} (xs : List X) (i : ℕ) (d : X) → i < length xs → Has xs (get_or xs i d)
-element_at [] i d below = absurd (omega (arith, below))
-element_at (x ∷ xs) zero d below = inl refl
-element_at (x ∷ xs) (suc i) d below = inr (element_at xs i d (omega (arith, below)))
+element-at : {X : Type 0} (xs : List X) (i : ℕ) (d : X) → i < length xs → Has xs (get_or xs i d)
+element-at [] i d below = absurd (omega (arith, below))
+element-at (x ∷ xs) zero d below = inl refl
+element-at (x ∷ xs) (suc i) d below = inr (element-at xs i d (omega (arith, below)))
 
 module _ {D : ℕ} (old new : List (Status D)) (ran : Ran (λ (w : Status D). origin_of w) (λ (w : Status D). w.left) old new) where
   -- each worker has the origin of one that was handed in, and no turn left; and each that was handed in has one
@@ -27,16 +27,16 @@ module _ {D : ℕ} (old new : List (Status D)) (ran : Ran (λ (w : Status D). or
       let same = ran.same_length in
       let inside : i < length old = omega (arith, below, same) in
       let each = ran.each i w inside in
-      (get_or old i w, element_at old i w inside, sym (ap (λ (z : Status D). origin_of z) is) ∙ each.1, sym (ap (λ (z : Status D). z.left) is) ∙ each.0)
+      (get_or old i w, element-at old i w inside, sym (ap (λ (z : Status D). origin_of z) is) ∙ each.1, sym (ap (λ (z : Status D). z.left) is) ∙ each.0)
 
   went : (u : Status D) → Has old u → (w : Status D) × Has new w × (origin_of w ≡ origin_of u)
   went u here =
       let (i, below, is) = place_of old u here in
       let same = ran.same_length in
-      (get_or new i u, element_at new i u (omega (arith, below, same)), (ran.each i u below).1 ∙ ap (λ (z : Status D). origin_of z) is)
+      (get_or new i u, element-at new i u (omega (arith, below, same)), (ran.each i u below).1 ∙ ap (λ (z : Status D). origin_of z) is)
 
-  pub still_of_phase : (k : TaskState) (p : PostingState) (base : List ℕ) → AreOfPhase k p base old → AreOfPhase k p base new
-  still_of_phase k p base all w here =
+  pub still-of-phase : (k : TaskState) (p : PostingState) (base : List ℕ) → AreOfPhase k p base old → AreOfPhase k p base new
+  still-of-phase k p base all w here =
       let (u, there, same, none) = came w here in
       let is = all u there in
       record {
@@ -47,19 +47,19 @@ module _ {D : ℕ} (old new : List (Status D)) (ran : Ran (λ (w : Status D). or
         same_plan = ap (λ (o : Origin). o.plan) same ∙ is.same_plan;
       }
 
-  pub are_done : AreDone new
-  are_done w here = let (u, there, same, none) = came w here in none
+  pub are-done : AreDone new
+  are-done w here = let (u, there, same, none) = came w here in none
 
-  pub still_theirs : (out : List ℕ) → OnlyTheirs out old → OnlyTheirs out new
-  still_theirs out all n has =
+  pub still-theirs : (out : List ℕ) → OnlyTheirs out old → OnlyTheirs out new
+  still-theirs out all n has =
       let (u, there, number) = all n has in
       let (w, here, same) = went u there in
       (w, here, ap (λ (o : Origin). o.seat) same ∙ number)
 
 -- the first of the workers has as many tiles as the phase
-pub tiles_are : {D : ℕ} (ws : List (Status D)) (k : TaskState) (p : PostingState) (base : List ℕ) → 0 < length ws → AreOfPhase k p base ws → tiles_of ws ≡ length p.lists
-tiles_are [] k p base some all = absurd (omega (arith, some))
-tiles_are (w ∷ ws) k p base some all = ap length ((all w (inl refl)).same_lists)
+pub tiles-are : {D : ℕ} (ws : List (Status D)) (k : TaskState) (p : PostingState) (base : List ℕ) → 0 < length ws → AreOfPhase k p base ws → tiles_of ws ≡ length p.lists
+tiles-are [] k p base some all = absurd (omega (arith, some))
+tiles-are (w ∷ ws) k p base some all = ap length ((all w (inl refl)).same_lists)
 
 pub gains : (k : TaskState) (p : PostingState) (result : Option ℕ) (old new : List Handed) (first : ℤ) (phase workers tiles steps : ℕ)
     → new ≡ old ++ record { first = first; phase = phase; workers = workers; tiles = tiles; steps = steps } ∷ []

@@ -25,7 +25,7 @@ use Rattle.block_exec.specs.declared.halt.Halt as code
 use Rattle.block_exec.specs.declared.site.Places.{Places}
 use Rattle.block_exec.specs.Sites.{frame_at, around_at}
 use Rattle.block_exec.specs.Watches.{Chain}
-use Rattle.block_exec.proofs.InstanceLaws.{cut-no_instance, seen-no_instance}
+use Rattle.block_exec.proofs.InstanceLaws.{cut-no-instance, seen-no-instance}
 use Rattle.block_exec.specs.Moments.{Moment, Ran, Evaluated}
 use Rattle.block_exec.specs.Halts.{halt_by, yield_where_left, finish_of}
 use Rattle.plain_interp.specs.declared.loops.Level.{Level}
@@ -37,14 +37,14 @@ use Rattle.plain_interp.proofs.OuterTurns.{ran-while-halts, ran-while-limited}
 use Rattle.plain_interp.proofs.Turns.{for_turns, for-halts, for-limited}
 
 -- the stride of a loop that keeps the rules
-pub stride-not_0 : (h : Head) (lower upper : Expr) (stride : ℤ) → h ≡ For lower upper stride → strides h ≡ true → stride ≡ pos 0 → ⊥
-stride-not_0 h lower upper stride is keeps zero =
+pub stride-not-0 : (h : Head) (lower upper : Expr) (stride : ℤ) → h ≡ For lower upper stride → strides h ≡ true → stride ≡ pos 0 → ⊥
+stride-not-0 h lower upper stride is keeps zero =
     let some : not (same stride (pos 0)) ≡ true = subst (λ (z : Head). strides z ≡ true) is keeps in
     let none : not (same (pos 0) (pos 0)) ≡ true = subst (λ (z : ℤ). not (same z (pos 0)) ≡ true) zero some in
     cc
 
 pub inward-same : (a b : Around) (t : ℕ) (v w : ℤ) → a ≡ b → v ≡ w → inward a t v ≡ inward b t w
-inward-same a b t v w same_around same_value = ap (λ (c : Around). inward c t v) same_around ∙ ap (λ (z : ℤ). inward b t z) same_value
+inward-same a b t v w same_around same-value = ap (λ (c : Around). inward c t v) same_around ∙ ap (λ (z : ℤ). inward b t z) same-value
 
 -- the place of a turn of the outermost loop, by its number and by its value
 pub place-outermost : (depth : ℕ) (p q : Places) (n : ℕ) (next value : ℤ) → depth ≡ 0 → around_at 1 p ≡ inward (around_at 0 q) n value → pos n ≡ next → around_at (depth + 1) p ≡ record { counters = next ∷ []; values = value ∷ [] }
@@ -63,8 +63,8 @@ module _ {W : Type 0} (may : W → Observation → W → Type 0) where
   pub no_block : (f : Frame) (block : List Stmt) (a : Moment W) → length block ≡ 0 → Ran may (instance_trace f block) a a Done
   no_block f [] a none =
       record {
-        cut = sym (cut-no_instance f a.store a.store a.left a.used);
-        shown = subst (λ (os : List Observation). Chain may a.watch os a.watch) (sym (seen-no_instance f a.store a.left)) refl;
+        cut = sym (cut-no-instance f a.store a.store a.left a.used);
+        shown = subst (λ (os : List Observation). Chain may a.watch os a.watch) (sym (seen-no-instance f a.store a.left)) refl;
       }
   no_block f (x ∷ xs) a none = absurd (omega (arith, none))
 
@@ -106,9 +106,9 @@ module _ {W : Type 0} (may : W → Observation → W → Type 0) where
   while-cut frame head turn k t a m yield cut.Limited h Whole more ev leads = while-limited may frame head turn k t a m Whole more ev leads
 
   -- the turns of a `for`, where what is said of them is the same
-  pub for_turns-moved : (x x0 : Expectation) (k level : ℕ) (l : Loop) (ls : List Loop) (a : Around) (stride stride0 from : ℤ) (trip : ℕ) (p q : Moment W) (e : Finish) → x ≡ x0 → stride ≡ stride0
+  pub for-turns-moved : (x x0 : Expectation) (k level : ℕ) (l : Loop) (ls : List Loop) (a : Around) (stride stride0 from : ℤ) (trip : ℕ) (p q : Moment W) (e : Finish) → x ≡ x0 → stride ≡ stride0
       → Ran may (turns_from trip 0 (for_turns x k level l ls a stride from)) p q e → Ran may (turns_from trip 0 (for_turns x0 k level l ls a stride0 from)) p q e
-  for_turns-moved x x0 k level l ls a stride stride0 from trip p q e expects same r =
+  for-turns-moved x x0 k level l ls a stride stride0 from trip p q e expects same r =
       let X : Expectation → Type 0 = λ y. Ran may (turns_from trip 0 (for_turns y k level l ls a stride0 from)) p q e in
       let S : ℤ → Type 0 = λ z. Ran may (turns_from trip 0 (for_turns x k level l ls a z from)) p q e in
       subst X expects (subst S same r)

@@ -42,7 +42,7 @@ cut-loops nest first rest s t k left used left' used' e e' is run ends_so =
 
 -- the words and the scalars that a run leaves are those that were lent to it
 pub words-cut : (m m' scalars scalars' : List ℤ) (e : Finish) (left used : ℕ) (whole : Cut) → m ≡ m' → scalars ≡ scalars' → cut_of (store_of m' scalars' []) left used e ≡ whole → cut_of (store_of m scalars []) left used e ≡ whole
-words-cut m m' scalars scalars' e left used whole same_words same_scalars run = rw (same_words, same_scalars) run
+words-cut m m' scalars scalars' e left used whole same-words same_scalars run = rw (same-words, same_scalars) run
 
 -- the outermost level of a nest that keeps the rules
 pub nest-level : (loops : List Loop) (at : Level) → at.depth ≡ 0 → loops ≡ at.first.now ∷ at.rest.now → loops_keep loops ≡ true → IsLevel at

@@ -171,9 +171,9 @@ finish_of_turned-not turned.Limited other done = cc
 -- turns one after another
 module _ {W : Type 0} (may : W → Observation → W → Type 0) (x : Expectation) (k : ℕ) (loops : List Loop) (o : Outer) (t : ℕ) (next : o.next ≡ pos t) where
   -- no turn yet
-  pub ran-no_turns : (a : Moment W) → Ran may (turns_trace x k loops o 0) a a Done
+  pub ran-no-turns : (a : Moment W) → Ran may (turns_trace x k loops o 0) a a Done
   unfolding turns_trace
-  ran-no_turns a = at loops
+  ran-no-turns a = at loops
     where
       at : (ls : List Loop) → Ran may (turns_trace x k ls o 0) a a Done
       at [] = ran-ends may a

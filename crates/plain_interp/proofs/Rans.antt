@@ -7,7 +7,7 @@ use Rattle.nest_lang.specs.Expressions.{Frame}
 use Rattle.nest_lang.specs.Statements.{announced}
 use Rattle.nest_lang.specs.Heads.{Yield, Tested, head_of, head_step, headed}
 use Rattle.nest_lang.specs.Loops.{turns_from, turn_if, whiles_from}
-use Rattle.nest_lang.proofs.Cuts.{cut-and_then, cut-ends, cut-step, cut-due, resumed, resumed-not, seen-and_then, rest_seen, rest_seen-not, seen-step, seen-due, seen-ends}
+use Rattle.nest_lang.proofs.Cuts.{cut-and_then, cut-ends, cut-step, cut-due, resumed, resumed-not, seen-and_then, rest_seen, rest-seen-not, seen-step, seen-due, seen-ends}
 use Rattle.block_exec.specs.Watches.{Chain}
 use Rattle.block_exec.specs.Moments.{Moment, moment, Ran, Evaluated, where_left, shown_where_left}
 use Rattle.block_exec.proofs.ChainLaws.{chain-append}
@@ -34,11 +34,11 @@ module _ {W : Type 0} (may : W → Observation → W → Type 0) where
   pub ran-out : (f g : Store → Trace) (a b : Moment W) (e : Finish) → Ran may f a b e → (e ≡ Done → ⊥) → Ran may (λ s. and_then s (f s) g) a b e
   ran-out f g a b e first other =
       let here : (cut (f a.store) a.store a.left a.used).ending ≡ e = ap (λ (z : Cut). z.ending) (sym first.cut) in
-      let not_done : (cut (f a.store) a.store a.left a.used).ending ≡ Done → ⊥ = λ h. other (sym here ∙ h) in
+      let not-done : (cut (f a.store) a.store a.left a.used).ending ≡ Done → ⊥ = λ h. other (sym here ∙ h) in
       record {
-        cut = first.cut ∙ sym (resumed-not (cut (f a.store) a.store a.left a.used) g not_done) ∙ sym (cut-and_then (f a.store) g a.store a.left a.used);
+        cut = first.cut ∙ sym (resumed-not (cut (f a.store) a.store a.left a.used) g not-done) ∙ sym (cut-and_then (f a.store) g a.store a.left a.used);
         shown =
-            let none = rest_seen-not (cut (f a.store) a.store a.left a.used).ending (cut (f a.store) a.store a.left a.used).store (cut (f a.store) a.store a.left a.used).left g not_done in
+            let none = rest-seen-not (cut (f a.store) a.store a.left a.used).ending (cut (f a.store) a.store a.left a.used).store (cut (f a.store) a.store a.left a.used).left g not-done in
             let all : seen_in (and_then a.store (f a.store) g) a.left ≡ seen_in (f a.store) a.left =
             seen-and_then (f a.store) g a.store a.left a.used ∙ ap (λ z. seen_in (f a.store) a.left ++ z) none ∙ append-nil (seen_in (f a.store) a.left) in
             subst (λ (os : List Observation). Chain may a.watch os b.watch) (sym all) first.shown;

@@ -125,9 +125,9 @@ module _ {W : Type 0} (may : W → Observation → W → Type 0) where
       subst P expects (subst Q loops r)
 
   -- no loop is inside
-  pub ran-no_loops : (x : Expectation) (k level : ℕ) (ls : List Loop) (a : Around) (p : Moment W) → length ls ≡ 0 → Ran may (loops_trace x k level ls a) p p Done
-  ran-no_loops x k level [] a p none = ran-ends may p
-  ran-no_loops x k level (l ∷ ls) a p none = absurd (omega (arith, none))
+  pub ran-no-loops : (x : Expectation) (k level : ℕ) (ls : List Loop) (a : Around) (p : Moment W) → length ls ≡ 0 → Ran may (loops_trace x k level ls a) p p Done
+  ran-no-loops x k level [] a p none = ran-ends may p
+  ran-no-loops x k level (l ∷ ls) a p none = absurd (omega (arith, none))
 
   -- a whole turn, where the block behind was run in a place and from a moment that are the same
   pub turn-ran-behind : (x x0 : Expectation) (level : ℕ) (l : Loop) (inner : Around → Store → Trace) (a a0 : Around) (block : List Stmt) (p q r r0 t : Moment W) (e : Finish)

@@ -87,8 +87,8 @@ unsigned_abs-mul-le a b m n h k = rw (unsigned_abs-mul a b) (mul-le-mul h k)
 pub FitsSigned-between : (w : Width) (a z b : ℤ) → FitsSigned w a → FitsSigned w b → a ≤ℤ z → z ≤ℤ b → FitsSigned w z
 FitsSigned-between w a z b f g l h = grind (arith, ints)
 
-pub same_pos : (m n : ℕ) → pos m ≡ pos n → m ≡ n
-same_pos m n e = cc
+pub same-pos : (m n : ℕ) → pos m ≡ pos n → m ≡ n
+same-pos m n e = cc
 
 -- ---- tests of order, named as std names those of natural numbers
 

@@ -42,10 +42,10 @@ is_some-slice_get (x ∷ xs) (y ∷ ys) zero size = refl
 is_some-slice_get (x ∷ xs) (y ∷ ys) (suc n) size = is_some-slice_get xs ys n (omega arith)
 
 -- a list of d has d at each place, and past its end
-pub get_or-replicate_default : {A : Type 0} (n k : ℕ) (d : A) → get_or (replicate n d) k d ≡ d
-get_or-replicate_default zero k d = refl
-get_or-replicate_default (suc n) zero d = refl
-get_or-replicate_default (suc n) (suc k) d = get_or-replicate_default n k d
+pub get_or-replicate-default : {A : Type 0} (n k : ℕ) (d : A) → get_or (replicate n d) k d ≡ d
+get_or-replicate-default zero k d = refl
+get_or-replicate-default (suc n) zero d = refl
+get_or-replicate-default (suc n) (suc k) d = get_or-replicate-default n k d
 
 -- what holds of every element holds of the one at k
 pub All-slice_get : {A : Type 0} (P : A → Type 0) (xs : List A) (k : ℕ) (x : A) → All P xs → slice_get xs k ≡ Some x → P x

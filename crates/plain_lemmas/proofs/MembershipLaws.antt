@@ -15,57 +15,57 @@ module _ {X : Type 0} where
   all_has P (y ∷ ys) x all (inl e) = subst P (sym e) all.0
   all_has P (y ∷ ys) x all (inr h) = all_has P ys x all.1 h
 
-  pub all_from : (P : X → Type 0) (xs : List X) → ((x : X) → Has xs x → P x) → AllByRecursion P xs
-  all_from P [] h = tt
-  all_from P (x ∷ xs) h = (h x (inl refl), all_from P xs (λ y k. h y (inr k)))
+  pub all-from : (P : X → Type 0) (xs : List X) → ((x : X) → Has xs x → P x) → AllByRecursion P xs
+  all-from P [] h = tt
+  all-from P (x ∷ xs) h = (h x (inl refl), all-from P xs (λ y k. h y (inr k)))
 
-  pub has_left : (us vs : List X) (x : X) → Has us x → Has (us ++ vs) x
-  has_left [] vs x h = absurd h
-  has_left (u ∷ us) vs x (inl e) = inl e
-  has_left (u ∷ us) vs x (inr h) = inr (has_left us vs x h)
+  pub has-left : (us vs : List X) (x : X) → Has us x → Has (us ++ vs) x
+  has-left [] vs x h = absurd h
+  has-left (u ∷ us) vs x (inl e) = inl e
+  has-left (u ∷ us) vs x (inr h) = inr (has-left us vs x h)
 
-  pub has_right : (us vs : List X) (x : X) → Has vs x → Has (us ++ vs) x
-  has_right [] vs x h = h
-  has_right (u ∷ us) vs x h = inr (has_right us vs x h)
+  pub has-right : (us vs : List X) (x : X) → Has vs x → Has (us ++ vs) x
+  has-right [] vs x h = h
+  has-right (u ∷ us) vs x h = inr (has-right us vs x h)
 
-  pub has_cases : (us vs : List X) (x : X) → Has (us ++ vs) x → Has us x ⊎ Has vs x
-  has_cases [] vs x h = inr h
-  has_cases (u ∷ us) vs x (inl e) = inl (inl e)
-  has_cases (u ∷ us) vs x (inr h) = ⊎_elim (λ k. inl (inr k)) (λ k. inr k) (has_cases us vs x h)
+  pub has-cases : (us vs : List X) (x : X) → Has (us ++ vs) x → Has us x ⊎ Has vs x
+  has-cases [] vs x h = inr h
+  has-cases (u ∷ us) vs x (inl e) = inl (inl e)
+  has-cases (u ∷ us) vs x (inr h) = ⊎_elim (λ k. inl (inr k)) (λ k. inr k) (has-cases us vs x h)
 
-  pub contains_from_has : (xs : List X) (x : X) → Has xs x → Contains xs x
-  contains_from_has [] x h = absurd h
-  contains_from_has (y ∷ ys) x (inl e) = (zero, omega arith, sym e)
-  contains_from_has (y ∷ ys) x (inr h) = let (k, l, is) = contains_from_has ys x h in (suc k, omega arith, is)
+  pub contains-from-has : (xs : List X) (x : X) → Has xs x → Contains xs x
+  contains-from-has [] x h = absurd h
+  contains-from-has (y ∷ ys) x (inl e) = (zero, omega arith, sym e)
+  contains-from-has (y ∷ ys) x (inr h) = let (k, l, is) = contains-from-has ys x h in (suc k, omega arith, is)
 
-  pub has_at : (xs : List X) (k : ℕ) (x : X) → k < length xs → get_or xs k x ≡ x → Has xs x
-  has_at [] k x l is = absurd (omega arith)
-  has_at (z ∷ zs) zero x l is = inl (sym is)
-  has_at (z ∷ zs) (suc k) x l is = inr (has_at zs k x (omega arith) is)
+  pub has-at : (xs : List X) (k : ℕ) (x : X) → k < length xs → get_or xs k x ≡ x → Has xs x
+  has-at [] k x l is = absurd (omega arith)
+  has-at (z ∷ zs) zero x l is = inl (sym is)
+  has-at (z ∷ zs) (suc k) x l is = inr (has-at zs k x (omega arith) is)
 
-  pub has_from_contains : (xs : List X) (x : X) → Contains xs x → Has xs x
-  has_from_contains xs x c = has_at xs c.0 x c.1 c.2
+  pub has-from-contains : (xs : List X) (x : X) → Contains xs x → Has xs x
+  has-from-contains xs x c = has-at xs c.0 x c.1 c.2
 
-  pub has_get_or : (xs : List X) (k : ℕ) (d : X) → k < length xs → Has xs (get_or xs k d)
-  has_get_or xs k d l = has_from_contains xs (get_or xs k d) (Contains-get_or xs k d l)
+  pub has-get-or : (xs : List X) (k : ℕ) (d : X) → k < length xs → Has xs (get_or xs k d)
+  has-get-or xs k d l = has-from-contains xs (get_or xs k d) (Contains-get_or xs k d l)
 
   -- `All`, by the elements
-  pub All_has : (P : X → Type 0) (xs : List X) (x : X) → All P xs → Has xs x → P x
-  All_has P xs x all h = let (k, l, is) = contains_from_has xs x h in subst P is (all k x l)
+  pub All-has : (P : X → Type 0) (xs : List X) (x : X) → All P xs → Has xs x → P x
+  All-has P xs x all h = let (k, l, is) = contains-from-has xs x h in subst P is (all k x l)
 
-  pub All_from : (P : X → Type 0) (xs : List X) → ((x : X) → Has xs x → P x) → All P xs
-  All_from P xs h k d l = h (get_or xs k d) (has_get_or xs k d l)
+  pub All-from : (P : X → Type 0) (xs : List X) → ((x : X) → Has xs x → P x) → All P xs
+  All-from P xs h k d l = h (get_or xs k d) (has-get-or xs k d l)
 
-  pub has_from_any : (P : X → Type 0) (xs : List X) → Any P xs → (x : X) × Has xs x × P x
-  has_from_any P xs (k, x, l, is, p) = (x, has_at xs k x l is, p)
+  pub has-from-any : (P : X → Type 0) (xs : List X) → Any P xs → (x : X) × Has xs x × P x
+  has-from-any P xs (k, x, l, is, p) = (x, has-at xs k x l is, p)
 
-  pub any_from_has : (P : X → Type 0) (xs : List X) (x : X) → Has xs x → P x → Any P xs
-  any_from_has P xs x h p = let (k, l, is) = contains_from_has xs x h in (k, x, l, is, p)
+  pub any-from-has : (P : X → Type 0) (xs : List X) (x : X) → Has xs x → P x → Any P xs
+  any-from-has P xs x h p = let (k, l, is) = contains-from-has xs x h in (k, x, l, is, p)
 
   -- a filter
-  pub has_filter : (p : X → Bool) (xs : List X) (x : X) → Has xs x → p x ≡ true → Has (filter p xs) x
-  has_filter p [] x h is = absurd h
-  has_filter p (y ∷ ys) x h is = at (p y) refl h (λ k. has_filter p ys x k is)
+  pub has-filter : (p : X → Bool) (xs : List X) (x : X) → Has xs x → p x ≡ true → Has (filter p xs) x
+  has-filter p [] x h is = absurd h
+  has-filter p (y ∷ ys) x h is = at (p y) refl h (λ k. has-filter p ys x k is)
     where
       at : (b : Bool) → p y ≡ b → Has (y ∷ ys) x → (Has ys x → Has (filter p ys) x) → Has (filter p (y ∷ ys)) x
       at true e (inl same) more = rw e (inl same)
@@ -73,54 +73,54 @@ module _ {X : Type 0} where
       at false e (inl same) more = absurd (let f = ap p same in cc)
       at false e (inr k) more = rw e (more k)
 
-  pub filter_has : (p : X → Bool) (xs : List X) (x : X) → Has (filter p xs) x → Has xs x × (p x ≡ true)
-  filter_has p [] x h = absurd h
-  filter_has p (y ∷ ys) x h = at (p y) refl h (λ k. filter_has p ys x k)
+  pub filter-has : (p : X → Bool) (xs : List X) (x : X) → Has (filter p xs) x → Has xs x × (p x ≡ true)
+  filter-has p [] x h = absurd h
+  filter-has p (y ∷ ys) x h = at (p y) refl h (λ k. filter-has p ys x k)
     where
       at : (b : Bool) → p y ≡ b → Has (filter p (y ∷ ys)) x → (Has (filter p ys) x → Has ys x × (p x ≡ true)) → Has (y ∷ ys) x × (p x ≡ true)
       at true e k more = ⊎_elim (λ same. (inl same, ap p same ∙ e)) (λ m. let r = more m in (inr r.0, r.1)) (rw e at k)
       at false e k more = let r = more (rw e at k) in (inr r.0, r.1)
 
   -- a test of all, and of some
-  pub list_all_has : (p : X → Bool) (xs : List X) → list_all p xs ≡ true → (x : X) → Has xs x → p x ≡ true
-  list_all_has p [] all x h = absurd h
-  list_all_has p (y ∷ ys) all x (inl e) = rw e (and_parts (p y) (list_all p ys) all).0
-  list_all_has p (y ∷ ys) all x (inr h) = list_all_has p ys (and_parts (p y) (list_all p ys) all).1 x h
+  pub list-all-has : (p : X → Bool) (xs : List X) → list_all p xs ≡ true → (x : X) → Has xs x → p x ≡ true
+  list-all-has p [] all x h = absurd h
+  list-all-has p (y ∷ ys) all x (inl e) = rw e (and_parts (p y) (list_all p ys) all).0
+  list-all-has p (y ∷ ys) all x (inr h) = list-all-has p ys (and_parts (p y) (list_all p ys) all).1 x h
 
-  pub list_all_from : (p : X → Bool) (xs : List X) → ((x : X) → Has xs x → p x ≡ true) → list_all p xs ≡ true
-  list_all_from p [] h = refl
-  list_all_from p (y ∷ ys) h = rw (h y (inl refl)) (list_all_from p ys (λ x k. h x (inr k)))
+  pub list-all-from : (p : X → Bool) (xs : List X) → ((x : X) → Has xs x → p x ≡ true) → list_all p xs ≡ true
+  list-all-from p [] h = refl
+  list-all-from p (y ∷ ys) h = rw (h y (inl refl)) (list-all-from p ys (λ x k. h x (inr k)))
 
-  pub list_any_none : (p : X → Bool) (xs : List X) → list_any p xs ≡ false → (x : X) → Has xs x → p x ≡ false
-  list_any_none p [] none x h = absurd h
-  list_any_none p (y ∷ ys) none x (inl e) = rw e (or_parts (p y) (list_any p ys) none).0
-  list_any_none p (y ∷ ys) none x (inr h) = list_any_none p ys (or_parts (p y) (list_any p ys) none).1 x h
+  pub list-any-none : (p : X → Bool) (xs : List X) → list_any p xs ≡ false → (x : X) → Has xs x → p x ≡ false
+  list-any-none p [] none x h = absurd h
+  list-any-none p (y ∷ ys) none x (inl e) = rw e (or_parts (p y) (list_any p ys) none).0
+  list-any-none p (y ∷ ys) none x (inr h) = list-any-none p ys (or_parts (p y) (list_any p ys) none).1 x h
 
-  pub list_any_has : (p : X → Bool) (xs : List X) → list_any p xs ≡ true → (x : X) × Has xs x × (p x ≡ true)
-  list_any_has p [] some = cc
-  list_any_has p (y ∷ ys) some = at (p y) refl some (λ h. list_any_has p ys h)
+  pub list-any-has : (p : X → Bool) (xs : List X) → list_any p xs ≡ true → (x : X) × Has xs x × (p x ≡ true)
+  list-any-has p [] some = cc
+  list-any-has p (y ∷ ys) some = at (p y) refl some (λ h. list-any-has p ys h)
     where
       at : (b : Bool) → p y ≡ b → (b || list_any p ys) ≡ true → (list_any p ys ≡ true → (x : X) × Has ys x × (p x ≡ true)) → (x : X) × Has (y ∷ ys) x × (p x ≡ true)
       at true e h more = (y, inl refl, e)
       at false e h more = let (x, k, is) = more h in (x, inr k, is)
 
 module _ {X Y : Type 0} where
-  pub has_map : (f : X → Y) (xs : List X) (x : X) → Has xs x → Has (map f xs) (f x)
-  has_map f [] x h = absurd h
-  has_map f (y ∷ ys) x (inl e) = inl (ap f e)
-  has_map f (y ∷ ys) x (inr h) = inr (has_map f ys x h)
+  pub has-map : (f : X → Y) (xs : List X) (x : X) → Has xs x → Has (map f xs) (f x)
+  has-map f [] x h = absurd h
+  has-map f (y ∷ ys) x (inl e) = inl (ap f e)
+  has-map f (y ∷ ys) x (inr h) = inr (has-map f ys x h)
 
-  pub map_has : (f : X → Y) (xs : List X) (z : Y) → Has (map f xs) z → (x : X) × Has xs x × (z ≡ f x)
-  map_has f [] z h = absurd h
-  map_has f (y ∷ ys) z (inl e) = (y, inl refl, e)
-  map_has f (y ∷ ys) z (inr h) = let (x, k, is) = map_has f ys z h in (x, inr k, is)
+  pub map-has : (f : X → Y) (xs : List X) (z : Y) → Has (map f xs) z → (x : X) × Has xs x × (z ≡ f x)
+  map-has f [] z h = absurd h
+  map-has f (y ∷ ys) z (inl e) = (y, inl refl, e)
+  map-has f (y ∷ ys) z (inr h) = let (x, k, is) = map-has f ys z h in (x, inr k, is)
 
-  pub has_flat_map : (f : X → List Y) (xs : List X) (x : X) (z : Y) → Has xs x → Has (f x) z → Has (flat_map f xs) z
-  has_flat_map f [] x z h k = absurd h
-  has_flat_map f (y ∷ ys) x z (inl e) k = has_left (f y) (flat_map f ys) z (subst (λ v. Has (f v) z) e k)
-  has_flat_map f (y ∷ ys) x z (inr h) k = has_right (f y) (flat_map f ys) z (has_flat_map f ys x z h k)
+  pub has-flat-map : (f : X → List Y) (xs : List X) (x : X) (z : Y) → Has xs x → Has (f x) z → Has (flat_map f xs) z
+  has-flat-map f [] x z h k = absurd h
+  has-flat-map f (y ∷ ys) x z (inl e) k = has-left (f y) (flat_map f ys) z (subst (λ v. Has (f v) z) e k)
+  has-flat-map f (y ∷ ys) x z (inr h) k = has-right (f y) (flat_map f ys) z (has-flat-map f ys x z h k)
 
-  pub flat_map_has : (f : X → List Y) (xs : List X) (z : Y) → Has (flat_map f xs) z → (x : X) × Has xs x × Has (f x) z
-  flat_map_has f [] z h = absurd h
-  flat_map_has f (y ∷ ys) z h =
-      ⊎_elim (λ k. (y, inl refl, k)) (λ k. let (x, m, is) = flat_map_has f ys z k in (x, inr m, is)) (has_cases (f y) (flat_map f ys) z h)
+  pub flat-map-has : (f : X → List Y) (xs : List X) (z : Y) → Has (flat_map f xs) z → (x : X) × Has xs x × Has (f x) z
+  flat-map-has f [] z h = absurd h
+  flat-map-has f (y ∷ ys) z h =
+      ⊎_elim (λ k. (y, inl refl, k)) (λ k. let (x, m, is) = flat-map-has f ys z k in (x, inr m, is)) (has-cases (f y) (flat_map f ys) z h)

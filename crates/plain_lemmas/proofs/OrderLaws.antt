@@ -11,8 +11,8 @@ use Rattle.std.proofs.lemmas.Int.{ints}
 pub int_cmp-less : (a b : ℤ) → a <ℤ b → int_cmp a b ≡ Less
 int_cmp-less a b h = sym (int_cmp_is a b Less h)
 
-pub cases_int_cmp : {P : Type 0} (a b : ℤ) → (a <ℤ b → P) → (a ≡ b → P) → (b <ℤ a → P) → P
-cases_int_cmp {P} a b less same greater = at (int_cmp a b) (int_ranks a b)
+pub cases-int-cmp : {P : Type 0} (a b : ℤ) → (a <ℤ b → P) → (a ≡ b → P) → (b <ℤ a → P) → P
+cases-int-cmp {P} a b less same greater = at (int_cmp a b) (int_ranks a b)
   where
     at : (o : Ordering) → MatchOrdering o (a <ℤ b) (a ≡ b) (b <ℤ a) → P
     at Less k = less k
@@ -20,7 +20,7 @@ cases_int_cmp {P} a b less same greater = at (int_cmp a b) (int_ranks a b)
     at Greater k = greater k
 
 pub cases_≤ℤ : (a b : ℤ) → a ≤ℤ b → (a ≡ b) ⊎ (a <ℤ b)
-cases_≤ℤ a b h = cases_int_cmp a b (λ less. inr less) (λ same. inl same) (λ greater. absurd (omega (arith, ints)))
+cases_≤ℤ a b h = cases-int-cmp a b (λ less. inr less) (λ same. inl same) (λ greater. absurd (omega (arith, ints)))
 
 -- ---- one place of two lists
 
@@ -45,16 +45,16 @@ slice_cmp-exact (x ∷ xs) (y ∷ ys) h = at (int_cmp x y) (int_ranks x y) h (sl
     at Greater k e more = cc
 
 -- behind the same beginning the rest decides
-pub slice_cmp-append_same : (front xs ys : List ℤ) → slice_cmp int_cmp (front ++ xs) (front ++ ys) ≡ slice_cmp int_cmp xs ys
-slice_cmp-append_same [] xs ys = refl
-slice_cmp-append_same (x ∷ front) xs ys = rw (tied_itself int_cmp_total x) (slice_cmp-append_same front xs ys)
+pub slice_cmp-append-same : (front xs ys : List ℤ) → slice_cmp int_cmp (front ++ xs) (front ++ ys) ≡ slice_cmp int_cmp xs ys
+slice_cmp-append-same [] xs ys = refl
+slice_cmp-append-same (x ∷ front) xs ys = rw (tied_itself int_cmp_total x) (slice_cmp-append-same front xs ys)
 
 -- where beginnings of one length differ, what is behind them doesn't matter
-pub slice_cmp-append_less : (front other xs ys : List ℤ) → length front ≡ length other → slice_cmp int_cmp front other ≡ Less → slice_cmp int_cmp (front ++ xs) (other ++ ys) ≡ Less
-slice_cmp-append_less [] [] xs ys size h = cc
-slice_cmp-append_less [] (y ∷ other) xs ys size h = absurd (omega arith)
-slice_cmp-append_less (x ∷ front) [] xs ys size h = absurd (omega arith)
-slice_cmp-append_less (x ∷ front) (y ∷ other) xs ys size h = at (int_cmp x y) h (λ k. slice_cmp-append_less front other xs ys (omega arith) k)
+pub slice_cmp-append-less : (front other xs ys : List ℤ) → length front ≡ length other → slice_cmp int_cmp front other ≡ Less → slice_cmp int_cmp (front ++ xs) (other ++ ys) ≡ Less
+slice_cmp-append-less [] [] xs ys size h = cc
+slice_cmp-append-less [] (y ∷ other) xs ys size h = absurd (omega arith)
+slice_cmp-append-less (x ∷ front) [] xs ys size h = absurd (omega arith)
+slice_cmp-append-less (x ∷ front) (y ∷ other) xs ys size h = at (int_cmp x y) h (λ k. slice_cmp-append-less front other xs ys (omega arith) k)
   where
     at : (o : Ordering) → ordering_then o (slice_cmp int_cmp front other) ≡ Less → (slice_cmp int_cmp front other ≡ Less → slice_cmp int_cmp (front ++ xs) (other ++ ys) ≡ Less) → ordering_then o (slice_cmp int_cmp (front ++ xs) (other ++ ys)) ≡ Less
     at Less k more = refl
@@ -62,5 +62,5 @@ slice_cmp-append_less (x ∷ front) (y ∷ other) xs ys size h = at (int_cmp x y
     at Greater k more = cc
 
 -- the same list, and behind it a smaller number
-pub slice_cmp-push_less : (xs : List ℤ) (m n : ℤ) → m <ℤ n → slice_cmp int_cmp (xs ++ m ∷ []) (xs ++ n ∷ []) ≡ Less
-slice_cmp-push_less xs m n l = slice_cmp-append_same xs (m ∷ []) (n ∷ []) ∙ ordering_then-less m n Equal l
+pub slice_cmp-push-less : (xs : List ℤ) (m n : ℤ) → m <ℤ n → slice_cmp int_cmp (xs ++ m ∷ []) (xs ++ n ∷ []) ≡ Less
+slice_cmp-push-less xs m n l = slice_cmp-append-same xs (m ∷ []) (n ∷ []) ∙ ordering_then-less m n Equal l

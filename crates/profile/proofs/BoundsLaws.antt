@@ -19,7 +19,7 @@ use Rattle.nest_lang.specs.Lookups.{plain}
 use Rattle.nest_lang.specs.Rules.{loop_keeps, loops_keep}
 use Rattle.nest_lang.specs.Stores.{Store}
 use Rattle.nest_lang.specs.Traces.{Observation}
-use Rattle.nest_lang.proofs.Ranks.{ranks-are_numbers, present_blocks-have_ranks}
+use Rattle.nest_lang.proofs.Ranks.{ranks-are-numbers, present_blocks-have-ranks}
 use Rattle.line_fit.specs.Samples.{Sample}
 use Rattle.domain.specs.declared.prediction.What.{What}
 use Rattle.domain.specs.declared.prediction.What.TheVariants.{Lower, Trip}
@@ -34,8 +34,8 @@ use Rattle.profile.specs.Reach.{HasI64s, expression_numbers, head_numbers}
 use Rattle.profile.specs.TurnLaws.{FitsAreTables, LowersComeWithTrips, observed_in}
 use Rattle.profile.proofs.NumberLaws.{I64}
 use Rattle.profile.proofs.ReachLaws.{all-each, each-right}
-use Rattle.profile.proofs.TripLaws.{trips-stay_within_reach}
-use Rattle.profile.proofs.FormReach.{forms-stay_within_reach, in-or-past, kind-at, nth, past-none}
+use Rattle.profile.proofs.TripLaws.{trips-stay-within-reach}
+use Rattle.profile.proofs.FormReach.{forms-stay-within-reach, in-or-past, kind-at, nth, past-none}
 use Rattle.profile.proofs.OneFitLaws.{deep, has-lower, has-trip, inner-head, own}
 use Rattle.profile.proofs.ShownBounds.{lowers-come}
 
@@ -69,8 +69,8 @@ module _ (D scalars k c left : ℕ) (loops : List Loop) (o : Outer) (s : Store) 
   inner-lower : (j : ℕ) → suc j < length loops → (l : Loop) → slice_get loops (suc j) ≡ Some l → (stride : ℤ) → (level_at t (suc j)).kind ≡ For stride → (level_at t (suc j)).lower ≡ None → (level_at t (suc j)).trip ≡ None
   inner-lower j within l found stride is none =
       let block = block_ref Head (suc (suc j)) in
-      let r = (present_blocks-have_ranks loops block).0 (l, found, inner-head l.head (suc (suc j)) (omega arith)) in
-      let at = (ranks-are_numbers loops block r.0).0 r.1 in
+      let r = (present_blocks-have-ranks loops block).0 (l, found, inner-head l.head (suc (suc j)) (omega arith)) in
+      let at = (ranks-are-numbers loops block r.0).0 r.1 in
       let all = fit.fits r.0 block at in
       let mine = own D scalars loops observations t t fit fit j within r.0 at t fit in
       let lower = subst (λ (x : Option Level). HasFitAt D observations block Lower (tube_about (option_and_then (λ (l : Level). l.lower) x) (pos 0) (pos 0))) mine
@@ -85,9 +85,9 @@ module _ (D scalars k c left : ℕ) (loops : List Loop) (o : Outer) (s : Store) 
       one : (i : ℕ) (m : Loop) → slice_get loops i ≡ Some m → 1 + i ≡ suc (suc j) → l ≡ m
       one i m here e = let same : i ≡ suc j = omega (arith, e) in let both : Some l ≡ Some m = sym found ∙ ap (slice_get loops) (sym same) ∙ here in cc
 
-pub lowers-come_with_trips : LowersComeWithTrips
-lowers-come_with_trips D scalars k c left loops o s t fit zero stride is none = fit.outermost.1
-lowers-come_with_trips D scalars k c left loops o s t fit (suc j) stride is none = elim (in-or-past (suc j) (length loops)) [
+pub lowers-come-with-trips : LowersComeWithTrips
+lowers-come-with-trips D scalars k c left loops o s t fit zero stride is none = fit.outermost.1
+lowers-come-with-trips D scalars k c left loops o s t fit (suc j) stride is none = elim (in-or-past (suc j) (length loops)) [
   | inr past ↦
       let size = deep D scalars loops (observed_in k loops o c s left) t t fit fit t fit in
       let e : While ≡ For stride = ap (λ (x : Level). x.kind) (sym (past-none t.levels (suc j) (omega (arith, past, size)))) ∙ is in
@@ -113,11 +113,11 @@ few-loops (l ∷ ls) h = let five : nat_le (length ls) 5 ≡ true = (and_parts (
 abbrev IsSmall : Level → Type 0
 IsSmall x = stride_size x.kind ≤ 2 ^ 63
 
-pub fits-are_tables : FitsAreTables
-fits-are_tables scalars k c left n loops o s t some few keeps numbers store position next near fit =
+pub fits-are-tables : FitsAreTables
+fits-are-tables scalars k c left n loops o s t some few keeps numbers store position next near fit =
     table_of_nest scalars loops t few keeps fit.shape strides
-    (forms-stay_within_reach (length loops) scalars loops (observed_in k loops o c s left) t (few-loops loops keeps.loops_keep)
-    (trips-stay_within_reach (length loops) k left c n loops o s some keeps.loops_keep numbers store position next near) fit)
+    (forms-stay-within-reach (length loops) scalars loops (observed_in k loops o c s left) t (few-loops loops keeps.loops_keep)
+    (trips-stay-within-reach (length loops) k left c n loops o s some keeps.loops_keep numbers store position next near) fit)
   where
     strides : (j : ℕ) → IsSmall (level_at t j)
     strides j = elim (in-or-past j (length loops)) [

@@ -28,10 +28,10 @@ slice_get-left [] ys k x e = absurd (cc)
 slice_get-left (z ∷ xs) ys zero x e = e
 slice_get-left (z ∷ xs) ys (suc k) x e = slice_get-left xs ys k x e
 
-slice_get-left_back : {X : Type 0} (xs ys : List X) (k : ℕ) (x : X) → k < length xs → slice_get (xs ++ ys) k ≡ Some x → slice_get xs k ≡ Some x
-slice_get-left_back [] ys k x h e = absurd (omega arith)
-slice_get-left_back (z ∷ xs) ys zero x h e = e
-slice_get-left_back (z ∷ xs) ys (suc k) x h e = slice_get-left_back xs ys k x (omega arith) e
+slice_get-left-back : {X : Type 0} (xs ys : List X) (k : ℕ) (x : X) → k < length xs → slice_get (xs ++ ys) k ≡ Some x → slice_get xs k ≡ Some x
+slice_get-left-back [] ys k x h e = absurd (omega arith)
+slice_get-left-back (z ∷ xs) ys zero x h e = e
+slice_get-left-back (z ∷ xs) ys (suc k) x h e = slice_get-left-back xs ys k x (omega arith) e
 
 pub slice_get-right : {X : Type 0} (xs ys : List X) (k : ℕ) (x : X) → slice_get ys k ≡ Some x → slice_get (xs ++ ys) (length xs + k) ≡ Some x
 slice_get-right [] ys k x e = let s : 0 + k ≡ k = omega arith in rw s e
@@ -70,7 +70,7 @@ module _ (D : ℕ) (observations : List Observation) (rank : ℕ) (block : Block
         place = h.place;
         datum = slice_get-left xs ys h.place unfit.what h.datum;
         why = h.why;
-        before = λ k w l e. h.before k w l (slice_get-left_back xs ys k w (omega arith) e);
+        before = λ k w l e. h.before k w l (slice_get-left-back xs ys k w (omega arith) e);
       }
 
   pub right-end : (xs ys : List What) (e : FitEnd D) → AreFitIn D observations block xs → IsEndIn D observations rank block ys e → IsEndIn D observations rank block (xs ++ ys) e
@@ -130,6 +130,6 @@ module _ (D : ℕ) (observations : List Observation) (rank : ℕ) (block : Block
       subst (λ (s : Seen). IsUnfit D (widest what) (samples_of D block s observations) given) is (subst (λ (n : ℕ). IsUnfit D n (samples_of D block seen observations) given) wide h)
 
 -- an error that `?` hands on
-pub handed_on : {D : ℕ} {T : Type 0} (r : Result T (FitEnd D)) (P : T → Type 0) (Q : FitEnd D → Type 0) (e : FitEnd D) → IsErr r × IsErrAnd r (λ x. x ≡ e) → Q e → MatchResult r P Q
-handed_on (Ok x) P Q e (err, is) q = absurd (cc)
-handed_on (Err x) P Q e (err, is) q = subst Q (sym is) q
+pub handed-on : {D : ℕ} {T : Type 0} (r : Result T (FitEnd D)) (P : T → Type 0) (Q : FitEnd D → Type 0) (e : FitEnd D) → IsErr r × IsErrAnd r (λ x. x ≡ e) → Q e → MatchResult r P Q
+handed-on (Ok x) P Q e (err, is) q = absurd (cc)
+handed-on (Err x) P Q e (err, is) q = subst Q (sym is) q

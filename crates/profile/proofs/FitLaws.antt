@@ -14,7 +14,7 @@ use Rattle.nest_lang.specs.declared.tree.Loop.{Loop}
 use Rattle.nest_lang.specs.Traces.{Observation}
 use Rattle.line_fit.specs.Samples.{Sample}
 use Rattle.line_fit.specs.Lines.{Tube}
-use Rattle.line_fit.proofs.LineLaws.{lie_in_tube, only-affine, fit-or-unfit}
+use Rattle.line_fit.proofs.LineLaws.{lie-in-tube, only-affine, fit-or-unfit}
 use Rattle.domain.specs.declared.prediction.What.{What}
 use Rattle.domain.specs.Tables.{Table, block_at}
 use Rattle.profile.specs.declared.unfit.UnfitWhy.{UnfitWhy}
@@ -42,8 +42,8 @@ module _ (D scalars : ℕ) (loops : List Loop) (observations : List Observation)
       subst (λ (o : Option Tube). HasFitAt D observations block what o) form.form
       (All-contains (λ w. HasFitAt D observations block w (tube_in t (block_at t form.rank) w)) (data_of scalars loops block) what (fit.fits form.rank block form.present) form.datum)
 
-pub samples-lie_in_tubes : SamplesLieInTubes
-samples-lie_in_tubes D scalars loops observations t block what tube fit form = lie_in_tube D (widest what) (samples_at D observations block what) tube (has-fit D scalars loops observations t block what tube fit form).1
+pub samples-lie-in-tubes : SamplesLieInTubes
+samples-lie-in-tubes D scalars loops observations t block what tube fit form = lie-in-tube D (widest what) (samples_at D observations block what) tube (has-fit D scalars loops observations t block what tube fit form).1
 
 -- samples of a datum have D counters
 module _ (D : ℕ) where
@@ -72,7 +72,7 @@ module _ (D : ℕ) where
   samples-sized block what [] = All-nil Sized
   samples-sized block what (o ∷ os) = All-append Sized (given_by D block what o) (samples_of D block what os) (if-sized (is_of block what o) (sample_of D o) (ended_by D block what o) (padded-sized o.at.counters) (ended-sized block what o)) (samples-sized block what os)
 
-pub form-is_only_affine : FormIsOnlyAffine
-form-is_only_affine D scalars loops observations t block what tube fit form low high pairs =
+pub form-is-only-affine : FormIsOnlyAffine
+form-is-only-affine D scalars loops observations t block what tube fit form low high pairs =
     let h = has-fit D scalars loops observations t block what tube fit form in
     only-affine D (widest what) (samples_at D observations block what) tube h.0 (λ place l. samples-sized D block (shown_as what) observations place _ l) h.1 low high pairs

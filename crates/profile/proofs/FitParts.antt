@@ -16,7 +16,7 @@ use Rattle.nest_lang.specs.Accesses.{accesses_of}
 use Rattle.nest_lang.specs.Traces.{Observation}
 use Rattle.line_fit.specs.Samples.{Sample}
 use Rattle.line_fit.specs.Lines.{Tube, IsFit}
-use Rattle.line_fit.proofs.FitLaws.{tube-holds_zero}
+use Rattle.line_fit.proofs.FitLaws.{tube-holds-zero}
 use Rattle.domain.specs.declared.prediction.What.{What}
 use Rattle.domain.specs.declared.prediction.What.TheVariants.{Scalar, Address, Lower, Trip}
 use Rattle.domain.specs.Tables.{Access, Block}
@@ -33,7 +33,7 @@ between low high a b c = (omega (arith, ints), omega (arith, ints))
 -- a datum that lies on its line has the tube (0, 0)
 pub narrow-fit : (D : ℕ) (most : ℕ) (samples : List Sample) (t : Tube) → most ≡ 0 → HasFit D most samples (Some t) → HasFit D most samples (tube_about (Some t.line) (pos 0) (pos 0))
 narrow-fit D most samples t none (some, fit) =
-    let about = tube-holds_zero D samples t.line t.low t.high some fit.line fit.spread in
+    let about = tube-holds-zero D samples t.line t.low t.high some fit.line fit.spread in
     let ends = between t.low t.high about.0 about.1 (subst (λ (n : ℕ). (t.high -ℤ t.low) ≤ℤ pos n) none fit.narrow) in
     (some, subst (λ (z : ℤ). IsFit D most samples (record { line = t.line; low = pos 0; high = z })) ends.1 (subst (λ (z : ℤ). IsFit D most samples (record { line = t.line; low = z; high = t.high })) ends.0 fit))
 
@@ -41,7 +41,7 @@ narrow-fit D most samples t none (some, fit) =
 pub fit-tube : (D : ℕ) (samples : List Sample) (fit : Option Tube) → HasFit D 64 samples fit → HasTube fit
 fit-tube D samples None h = tt
 fit-tube D samples (Some t) (some, fit) =
-    let about = tube-holds_zero D samples t.line t.low t.high some fit.line fit.spread in
+    let about = tube-holds-zero D samples t.line t.low t.high some fit.line fit.spread in
     record { below = about.0; above = about.1; width = fit.narrow }
 
 -- one more access
@@ -79,8 +79,8 @@ module _ (D : ℕ) (observations : List Observation) (block : BlockRef) (all : L
 
 -- ---- the data of a block
 module _ (D : ℕ) (observations : List Observation) (block : BlockRef) where
-  no_access : Access
-  no_access = record { stores = false; line = None; low = pos 0; high = pos 0 }
+  no-access : Access
+  no-access = record { stores = false; line = None; low = pos 0; high = pos 0 }
 
   pub scalars-fit : (n : ℕ) (forms : List (Option Affine)) → AreScalarFits D observations block n forms → AreFitIn D observations block (map (λ k. Scalar k) (range_with_len 0 n))
   scalars-fit n forms fits = ranged-fit D observations 0 block (λ (k : ℕ). Scalar k) 0 n (λ k l. (
@@ -92,9 +92,9 @@ module _ (D : ℕ) (observations : List Observation) (block : BlockRef) where
   accesses-count all forms fits = sym (length-map forms (λ (x : Access). x.stores)) ∙ ap (λ (xs : List Bool). length xs) fits.kinds ∙ length-map all (λ (x : NestAccess). is_store x.kind)
 
   pub accesses-fit : (all : List NestAccess) (forms : List Access) → AreAccessFits D observations block all forms → AreFitIn D observations block (map (λ k. Address k) (range_with_len 1 (length all)))
-  accesses-fit all forms fits = ranged-fit D observations 0 block (λ (k : ℕ). Address k) 1 (length all) (λ k l. let a = get_or forms k no_access in let size = accesses-count all forms fits in (
+  accesses-fit all forms fits = ranged-fit D observations 0 block (λ (k : ℕ). Address k) 1 (length all) (λ k l. let a = get_or forms k no-access in let size = accesses-count all forms fits in (
     tube_about a.line a.low a.high,
-    subst (λ (j : ℕ). HasFitAt D observations block (Address j) (tube_about a.line a.low a.high)) (omega arith) (fits.each k a (slice_get-get_or forms k no_access (omega (arith, size, l)))).0,
+    subst (λ (j : ℕ). HasFitAt D observations block (Address j) (tube_about a.line a.low a.high)) (omega arith) (fits.each k a (slice_get-get_or forms k no-access (omega (arith, size, l)))).0,
   ))
 
   pub bounds-two : block.part ≡ Head → 2 ≤ block.level → bounds_of block.part block.level ≡ Lower ∷ Trip ∷ []

@@ -17,7 +17,7 @@ use Rattle.domain.specs.Shapes.{kind_of}
 use Rattle.nest_lang.specs.declared.tree.Loop.{Loop}
 use Rattle.nest_lang.specs.declared.tree.Part.TheVariants.{Head}
 use Rattle.nest_lang.specs.Blocks.{block_ref}
-use Rattle.nest_lang.proofs.Ranks.{ranks-are_numbers, present_blocks-have_ranks}
+use Rattle.nest_lang.proofs.Ranks.{ranks-are-numbers, present_blocks-have-ranks}
 use Rattle.std.specs.Prelude.{option_and_then}
 use Rattle.profile.specs.Data.{data_of, samples_at, tube_about, tube_in}
 use Rattle.profile.specs.Fits.{HasFit, HasFitAt}
@@ -113,16 +113,16 @@ in-or-past k n = grind arith
 abbrev ReachesAt : Level → Type 0
 ReachesAt x = Reaches (stride_size x.kind) x.trip
 
-pub forms-stay_within_reach : FormsStayWithinReach
-forms-stay_within_reach D scalars loops observations t few within fit zero = subst (λ (o : Option Affine). Reaches (stride_size (level_at t 0).kind) o) (sym fit.outermost.1) tt
-forms-stay_within_reach D scalars loops observations t few within fit (suc j) = elim (in-or-past (suc j) (length loops)) [
+pub forms-stay-within-reach : FormsStayWithinReach
+forms-stay-within-reach D scalars loops observations t few within fit zero = subst (λ (o : Option Affine). Reaches (stride_size (level_at t 0).kind) o) (sym fit.outermost.1) tt
+forms-stay-within-reach D scalars loops observations t few within fit (suc j) = elim (in-or-past (suc j) (length loops)) [
   | inr past ↦
       let size = deep D scalars loops observations t t fit fit t fit in
       subst ReachesAt (sym (past-none t.levels (suc j) (omega (arith, past, size)))) tt
   | inl less ↦
       let loop = nth loops (suc j) less in
-      let r = (present_blocks-have_ranks loops (block_ref Head (suc (suc j)))).0 (loop.0, loop.1, inner-head loop.0.head (suc (suc j)) (omega arith)) in
-      let at = (ranks-are_numbers loops (block_ref Head (suc (suc j))) r.0).0 r.1 in
+      let r = (present_blocks-have-ranks loops (block_ref Head (suc (suc j)))).0 (loop.0, loop.1, inner-head loop.0.head (suc (suc j)) (omega arith)) in
+      let at = (ranks-are-numbers loops (block_ref Head (suc (suc j))) r.0).0 r.1 in
       let has = All-contains (λ (w : What). HasFitAt D observations (block_ref Head (suc (suc j))) w (tube_in t (block_at t r.0) w)) (data_of scalars loops (block_ref Head (suc (suc j)))) Trip
       (fit.fits r.0 (block_ref Head (suc (suc j))) at) (has-trip D scalars loops observations t t fit fit j less r.0 at) in
       let mine = subst (λ (o : Option Level). HasFitAt D observations (block_ref Head (suc (suc j))) Trip (tube_about (option_and_then (λ (l : Level). l.trip) o) (pos 0) (pos 0))) (own D scalars loops observations t t fit fit j less r.0 at t fit) has in

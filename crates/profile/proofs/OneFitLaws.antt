@@ -18,7 +18,7 @@ use Rattle.nest_lang.specs.Accesses.{accesses_of}
 use Rattle.nest_lang.specs.Blocks.{block_ref, present_blocks}
 use Rattle.nest_lang.specs.BlockLaws.{IsPresentHead}
 use Rattle.nest_lang.specs.Traces.{Observation}
-use Rattle.nest_lang.proofs.Ranks.{ranks-are_numbers, present_blocks-have_ranks}
+use Rattle.nest_lang.proofs.Ranks.{ranks-are-numbers, present_blocks-have-ranks}
 use Rattle.line_fit.specs.Samples.{Sample}
 use Rattle.line_fit.specs.Lines.{Tube}
 use Rattle.line_fit.proofs.LineLaws.{fit-one}
@@ -57,17 +57,17 @@ form-back (Some line) low high = refl
 forms-same : (a b : Option Affine) → tube_about a (pos 0) (pos 0) ≡ tube_about b (pos 0) (pos 0) → a ≡ b
 forms-same a b e = sym (form-back a (pos 0) (pos 0)) ∙ ap (option_map (λ (t : Tube). t.line)) e ∙ form-back b (pos 0) (pos 0)
 
-abbrev tube_at : Affine → ℤ → ℤ → Tube
-tube_at line low high = record { line = line; low = low; high = high }
+abbrev tube-at : Affine → ℤ → ℤ → Tube
+tube-at line low high = record { line = line; low = low; high = high }
 
-abbrev block_with : Part → ℕ → List (Option Affine) → List Access → Block
-block_with part level forms accesses = record { part = part; level = level; scalars = forms; accesses = accesses }
+abbrev block-with : Part → ℕ → List (Option Affine) → List Access → Block
+block-with part level forms accesses = record { part = part; level = level; scalars = forms; accesses = accesses }
 
-abbrev level_of : LoopKind → Option Affine → Option Affine → Level
-level_of kind lower trip = record { kind = kind; lower = lower; trip = trip }
+abbrev level-of : LoopKind → Option Affine → Option Affine → Level
+level-of kind lower trip = record { kind = kind; lower = lower; trip = trip }
 
-abbrev table_of : List Level → List Block → Table
-table_of levels blocks = record { levels = levels; blocks = blocks }
+abbrev table-of : List Level → List Block → Table
+table-of levels blocks = record { levels = levels; blocks = blocks }
 
 abbrev access : Bool → Option Affine → ℤ → ℤ → Access
 access stores line low high = record { stores = stores; line = line; low = low; high = high }
@@ -77,7 +77,7 @@ accesses-same s r None None low high less more same e f g = let a = f refl in le
 accesses-same s r None (Some y) low high less more same e f g = absurd (cc)
 accesses-same s r (Some x) None low high less more same e f g = absurd (cc)
 accesses-same s r (Some x) (Some y) low high less more same e f g =
-    let tubes : tube_at x low high ≡ tube_at y less more = cc in
+    let tubes : tube-at x low high ≡ tube-at y less more = cc in
     let lines : x ≡ y = ap (λ (t : Tube). t.line) tubes in
     let lows : low ≡ less = ap (λ (t : Tube). t.low) tubes in
     let highs : high ≡ more = ap (λ (t : Tube). t.high) tubes in
@@ -101,11 +101,11 @@ has-ranged f from n k j within is =
     subst (λ (w : What). Contains (map f (range_with_len from n)) w) (get_or-map-range_with_len f from n k j (f j) within is) (Contains-get_or (map f (range_with_len from n)) k (f j) (omega (arith, size, within)))
 
 module _ (D scalars : ℕ) (loops : List Loop) (observations : List Observation) (t u : Table) (f : IsFitOf D scalars loops observations t) (g : IsFitOf D scalars loops observations u) where
-  abbrev no_ref : BlockRef
-  no_ref = block_ref Head 0
+  abbrev no-ref : BlockRef
+  no-ref = block_ref Head 0
 
-  no_access : Access
-  no_access = record { stores = false; line = None; low = pos 0; high = pos 0 }
+  no-access : Access
+  no-access = record { stores = false; line = None; low = pos 0; high = pos 0 }
 
   module _ (rank : ℕ) (block : BlockRef) (e : slice_get (present_blocks loops) rank ≡ Some block) where
     abbrev a : Block
@@ -141,24 +141,24 @@ module _ (D scalars : ℕ) (loops : List Loop) (observations : List Observation)
     count x of = sym (length-map x.accesses (λ (y : Access). y.stores)) ∙ ap (λ (xs : List Bool). length xs) of.accesses ∙ length-map (accesses_of loops block) (λ (y : NestAccess). is_store y.kind)
 
     access-forms : a.accesses ≡ b.accesses
-    access-forms = same-list a.accesses b.accesses no_access (count a one ∙ sym (count b two)) each
+    access-forms = same-list a.accesses b.accesses no-access (count a one ∙ sym (count b two)) each
       where
-        each : (k : ℕ) → k < length a.accesses → get_or a.accesses k no_access ≡ get_or b.accesses k no_access
+        each : (k : ℕ) → k < length a.accesses → get_or a.accesses k no-access ≡ get_or b.accesses k no-access
         each k h =
             let within : k < length (accesses_of loops block) = (let c = count a one in omega (arith, c, h)) in
-            let x = get_or a.accesses k no_access in
-            let y = get_or b.accesses k no_access in
-            let at : slice_get a.accesses k ≡ Some x = slice_get-get_or a.accesses k no_access h in
-            let bt : slice_get b.accesses k ≡ Some y = slice_get-get_or b.accesses k no_access (let c = count b two in omega (arith, c, within)) in
+            let x = get_or a.accesses k no-access in
+            let y = get_or b.accesses k no-access in
+            let at : slice_get a.accesses k ≡ Some x = slice_get-get_or a.accesses k no-access h in
+            let bt : slice_get b.accesses k ≡ Some y = slice_get-get_or b.accesses k no-access (let c = count b two in omega (arith, c, within)) in
             let tubes = tubes-same (Address (suc k)) (Contains-append_left (first ++ second) (bounds_of block.part block.level) (Address (suc k))
             (Contains-append_right first second (Address (suc k)) (has-ranged (λ (n : ℕ). Address n) 1 (length (accesses_of loops block)) k (suc k) within (omega arith)))) in
-            accesses-same x.stores y.stores x.line y.line x.low x.high y.low y.high (mapped (λ (z : Access). z.stores) a.accesses b.accesses no_access k (one.accesses ∙ sym two.accesses) h)
+            accesses-same x.stores y.stores x.line y.line x.low x.high y.low y.high (mapped (λ (z : Access). z.stores) a.accesses b.accesses no-access k (one.accesses ∙ sym two.accesses) h)
             (sym (ap tube_of_access at) ∙ tubes ∙ ap tube_of_access bt) (f.unseen rank (suc k) x at) (g.unseen rank (suc k) y bt)
 
     blocks-same : a ≡ b
     blocks-same = let parts = one.part ∙ sym two.part in let levels = one.level ∙ sym two.level in
-        ap (λ (z : Part). block_with z a.level a.scalars a.accesses) parts ∙ ap (λ (n : ℕ). block_with b.part n a.scalars a.accesses) levels
-        ∙ ap (λ (zs : List (Option Affine)). block_with b.part b.level zs a.accesses) scalar-forms ∙ ap (λ (zs : List Access). block_with b.part b.level b.scalars zs) access-forms
+        ap (λ (z : Part). block-with z a.level a.scalars a.accesses) parts ∙ ap (λ (n : ℕ). block-with b.part n a.scalars a.accesses) levels
+        ∙ ap (λ (zs : List (Option Affine)). block-with b.part b.level zs a.accesses) scalar-forms ∙ ap (λ (zs : List Access). block-with b.part b.level b.scalars zs) access-forms
 
   -- ---- loops
   pub deep : (x : Table) → IsFitOf D scalars loops observations x → length x.levels ≡ length loops
@@ -198,7 +198,7 @@ module _ (D scalars : ℕ) (loops : List Loop) (observations : List Observation)
         ∙ ap (option_and_then (λ (l : Level). l.trip)) (own u g)
 
   level-made : (x y : Level) → x.kind ≡ y.kind → x.lower ≡ y.lower → x.trip ≡ y.trip → x ≡ y
-  level-made x y kind lower trip = ap (λ (z : LoopKind). level_of z x.lower x.trip) kind ∙ ap (λ (z : Option Affine). level_of y.kind z x.trip) lower ∙ ap (level_of y.kind y.lower) trip
+  level-made x y kind lower trip = ap (λ (z : LoopKind). level-of z x.lower x.trip) kind ∙ ap (λ (z : Option Affine). level-of y.kind z x.trip) lower ∙ ap (level-of y.kind y.lower) trip
 
   levels-same : (k : ℕ) → k < length loops → level_at t k ≡ level_at u k
   levels-same k h = level-made (level_at t k) (level_at u k) (mapped (λ (x : Level). x.kind) t.levels u.levels no_level k (f.shape.levels ∙ sym g.shape.levels) (let c = deep t f in omega (arith, c, h))) (ends k h).0 (ends k h).1
@@ -214,19 +214,19 @@ module _ (D scalars : ℕ) (loops : List Loop) (observations : List Observation)
 
           head : (l : Loop) × (slice_get loops (suc j) ≡ Some l) → ((level_at t (suc j)).lower ≡ (level_at u (suc j)).lower) × ((level_at t (suc j)).trip ≡ (level_at u (suc j)).trip)
           head (l, e) =
-              let r = (present_blocks-have_ranks loops (block_ref Head (suc (suc j)))).0 (l, e, inner-head l.head (suc (suc j)) (omega arith)) in
-              let at = (ranks-are_numbers loops (block_ref Head (suc (suc j))) r.0).0 r.1 in
+              let r = (present_blocks-have-ranks loops (block_ref Head (suc (suc j)))).0 (l, e, inner-head l.head (suc (suc j)) (omega arith)) in
+              let at = (ranks-are-numbers loops (block_ref Head (suc (suc j))) r.0).0 r.1 in
               (lowers j h r.0 at, trips j h r.0 at)
 
   tables-same : t ≡ u
-  tables-same = ap (λ (zs : List Level). table_of zs t.blocks) levels ∙ ap (table_of u.levels) blocks
+  tables-same = ap (λ (zs : List Level). table-of zs t.blocks) levels ∙ ap (table-of u.levels) blocks
     where
       levels : t.levels ≡ u.levels
       levels = same-list t.levels u.levels no_level (deep t f ∙ sym (deep u g)) (λ k h. levels-same k (let c = deep t f in omega (arith, c, h)))
 
       blocks : t.blocks ≡ u.blocks
       blocks = same-list t.blocks u.blocks no_block (f.shape.count ∙ sym g.shape.count) (λ k h.
-          blocks-same k (get_or (present_blocks loops) k no_ref) (slice_get-get_or (present_blocks loops) k no_ref (let c = f.shape.count in omega (arith, c, h))))
+          blocks-same k (get_or (present_blocks loops) k no-ref) (slice_get-get_or (present_blocks loops) k no-ref (let c = f.shape.count in omega (arith, c, h))))
 
 pub one-fit : OneFit
 one-fit D scalars loops observations t u f g = tables-same D scalars loops observations t u f g

@@ -34,8 +34,8 @@ module _ (D scalars : ℕ) (loops : List Loop) (observations : List Observation)
   unfit-not : (rank : ℕ) (block : BlockRef) (u : Unfit D) → IsUnfitIn D observations rank block (data_of scalars loops block) u → ((fit : Option Tube) × HasFitAt D observations block u.what fit) → ⊥
   unfit-not rank block u is (fit, has) = not-both D rank (widest u.what) (samples_at D observations block u.what) fit u.why has is.why
 
-  abbrev unfit_of : ℕ → What → UnfitWhy D → Unfit D
-  unfit_of block what reason = record { block = block; what = what; why = reason }
+  abbrev unfit-of : ℕ → What → UnfitWhy D → Unfit D
+  unfit-of block what reason = record { block = block; what = what; why = reason }
 
   in-block : (block : BlockRef) (u v : Unfit D) → u.block ≡ v.block → IsUnfitIn D observations u.block block (data_of scalars loops block) u → IsUnfitIn D observations v.block block (data_of scalars loops block) v → u ≡ v
   in-block block u v same one two = elim (compared one.place two.place) [
@@ -46,7 +46,7 @@ module _ (D scalars : ℕ) (loops : List Loop) (observations : List Observation)
           let other : IsUnfitBy D u.block (widest u.what) (samples_at D observations block u.what) v.why =
           subst (λ (r : ℕ). IsUnfitBy D r (widest u.what) (samples_at D observations block u.what) v.why) (sym same) (subst (λ (w : What). IsUnfitBy D v.block (widest w) (samples_at D observations block w) v.why) (sym what) two.why) in
           let reason = reasons-same D u.block (widest u.what) (samples_at D observations block u.what) u.why v.why one.why other in
-          ap (λ (r : ℕ). unfit_of r u.what u.why) same ∙ ap (λ (w : What). unfit_of v.block w u.why) what ∙ ap (λ (z : UnfitWhy D). unfit_of v.block v.what z) reason
+          ap (λ (r : ℕ). unfit-of r u.what u.why) same ∙ ap (λ (w : What). unfit-of v.block w u.why) what ∙ ap (λ (z : UnfitWhy D). unfit-of v.block v.what z) reason
       | inr more ↦ absurd (unfit-not v.block block v two (one.before two.place v.what more two.datum))
     ]
   ]
@@ -62,5 +62,5 @@ module _ (D scalars : ℕ) (loops : List Loop) (observations : List Observation)
     ]
   ]
 
-pub one-first_unfit : OneFirstUnfit
-one-first_unfit = unfit-same
+pub one-first-unfit : OneFirstUnfit
+one-first-unfit = unfit-same

@@ -392,8 +392,8 @@ module _ (B : ℕ) (small : B ≤ 2 ^ 33) (loops : List Loop) where
     fit = All-append I64 a.values (v ∷ []) h.fit (All-cons I64 v [] f (All-nil I64));
   }
 
-  turn-fits_small : (t : ℕ) → t ≤ B → I64 (pos t)
-  turn-fits_small t h = pos-fits t (let b = small in omega (arith, h, b))
+  turn-fits-small : (t : ℕ) → t ≤ B → I64 (pos t)
+  turn-fits-small t h = pos-fits t (let b = small in omega (arith, h, b))
 
   -- a turn
   turn-fine : (n level : ℕ) (l : Loop) (inner : Around → Store → Trace) (a : Around) → HasI64s l → AroundFine a → FineTo n (inner a) → FineTo n (turn_trace plain level l inner a)
@@ -417,7 +417,7 @@ module _ (B : ℕ) (small : B ≤ 2 ^ 33) (loops : List Loop) where
       → (k t j : ℕ) → t + j ≤ B → (u : Store) → IsOfI64s u → Sound j (whiles_from k t (λ t. frame_of plain part.Head level (inward a t (pos t))) (While condition) turn u).entries
   whiles-sound l level a turn found numbers condition is h fine zero t j few u f = tt
   whiles-sound l level a turn found numbers condition is h fine (suc k) t j few u f =
-      let place = inward-fine a t (pos t) h (omega (arith, few)) (turn-fits_small t (omega (arith, few))) in
+      let place = inward-fine a t (pos t) h (omega (arith, few)) (turn-fits-small t (omega (arith, few))) in
       let at : Occurrence = record { block = record { part = part.Head; level = level }; counters = a.counters ++ pos t ∷ [] } in
       let all : Each I64 (head_numbers (While condition)) = subst (λ (z : Head). Each I64 (head_numbers z)) is (all-each I64 (head_numbers l.head) numbers.head) in
       headed-sound at (a.values ++ pos t ∷ []) place.near place.fit j (While condition) _ u (head-fine at (a.values ++ pos t ∷ []) place.near place.fit l found (While condition) is all refl u f) f
@@ -493,7 +493,7 @@ module _ (B : ℕ) (small : B ≤ 2 ^ 33) (loops : List Loop) where
         )
     loop-fine (While condition) l level turn found is numbers turns fine takes a place j less u f =
         whiles-sound l level a (λ t. turn (inward a t (pos t))) found numbers condition is place
-        (λ i d near_d v fv. fine (inward a i (pos i)) (inward-fine a i (pos i) place (omega (arith, near_d)) (turn-fits_small i (omega (arith, near_d)))) d (omega (arith, near_d)) v fv) k 0 j (omega (arith, less)) u f
+        (λ i d near_d v fv. fine (inward a i (pos i)) (inward-fine a i (pos i) place (omega (arith, near_d)) (turn-fits-small i (omega (arith, near_d)))) d (omega (arith, near_d)) v fv) k 0 j (omega (arith, less)) u f
 
     pub loops-fine : (ls : List Loop) (level : ℕ) → AreFrom level ls → Keeps ls → Each HasI64s ls → (a : Around) → AroundFine a → FineTo B (loops_trace plain k level ls a)
     loops-fine [] level from keeps numbers a place = λ j less u f. tt
@@ -516,7 +516,7 @@ module _ (B : ℕ) (small : B ≤ 2 ^ 33) (loops : List Loop) where
         → (c t j : ℕ) → t + j ≤ B → (u : Store) → IsOfI64s u → Sound j (tested_turns c t (λ t. frame_of plain part.Head 1 (inward outside t (pos t))) (While condition) turn u).entries
     tested-sound l turn found numbers condition is h fine zero t j few u f = tt
     tested-sound l turn found numbers condition is h fine (suc c) t j few u f =
-        let place = inward-fine outside t (pos t) h (omega (arith, few)) (turn-fits_small t (omega (arith, few))) in
+        let place = inward-fine outside t (pos t) h (omega (arith, few)) (turn-fits-small t (omega (arith, few))) in
         let at : Occurrence = record { block = record { part = part.Head; level = 1 }; counters = [] ++ pos t ∷ [] } in
         let all : Each I64 (head_numbers (While condition)) = subst (λ (z : Head). Each I64 (head_numbers z)) is (all-each I64 (head_numbers l.head) numbers.head) in
         headed-sound at ([] ++ pos t ∷ []) place.near place.fit j (While condition) _ u (head-fine at ([] ++ pos t ∷ []) place.near place.fit l found (While condition) is all refl u f) f
@@ -551,7 +551,7 @@ module _ (B : ℕ) (small : B ≤ 2 ^ 33) (loops : List Loop) where
     turns-by-sound (While condition) l turn found is numbers fine takes o position t next c j few u f =
         subst (λ (m : ℕ). Sound j (tested_turns c m (λ i. frame_of plain part.Head 1 (inward outside i (pos i))) (While condition) (λ i. turn (inward outside i (pos i))) u).entries) (sym (ap unsigned_abs next))
         (tested-sound l (λ i. turn (inward outside i (pos i))) found numbers condition is outside-fine
-        (λ i d near_d v fv. fine (inward outside i (pos i)) (inward-fine outside i (pos i) outside-fine (omega (arith, near_d)) (turn-fits_small i (omega (arith, near_d)))) d (omega (arith, near_d)) v fv) c t j few u f)
+        (λ i d near_d v fv. fine (inward outside i (pos i)) (inward-fine outside i (pos i) outside-fine (omega (arith, near_d)) (turn-fits-small i (omega (arith, near_d)))) d (omega (arith, near_d)) v fv) c t j few u f)
 
     pub nest-sound : (l : Loop) (ls : List Loop) → AreFrom 1 (l ∷ ls) → loop_keeps l ls ≡ true → Each HasI64s (l ∷ ls) → (o : Outer) → IsPosition l.head o → (t : ℕ) → o.next ≡ pos t → (c j : ℕ) → t + j ≤ B → (u : Store) → IsOfI64s u
         → Sound j (turns_trace plain k (l ∷ ls) o c u).entries

@@ -154,24 +154,24 @@ module _ (D level : ℕ) where
   then_tell-comes os (Err halt) go h each = h
 
   module _ (f : Frame) (scalars locals : List ℤ) (find : ℕ → ℤ → Result ℤ Stop) where
-    Told_comes : Expr → Type 0
-    Told_comes e = Comes (told_by f scalars locals find e).seen
+    Told-comes : Expr → Type 0
+    Told-comes e = Comes (told_by f scalars locals find e).seen
 
-    level-comes : (y : Expr-F ((e : Expr) × Told_comes e)) → Comes (expression_level f scalars locals find (map-Expr _ _ (told_by f scalars locals find) (map-Expr _ _ (λ e. e.0) y))).seen
-    unfolding Told_comes
+    level-comes : (y : Expr-F ((e : Expr) × Told-comes e)) → Comes (expression_level f scalars locals find (map-Expr _ _ (told_by f scalars locals find) (map-Expr _ _ (λ e. e.0) y))).seen
+    unfolding Told-comes
     level-comes (Expr-F.Number n) = none-comes
     level-comes (Expr-F.Var place) = none-comes
     level-comes (Expr-F.Load access a) = then_tell-comes _ _ _ a.1 (λ z. plain-comes f (seen.Address access) z [] tt none-comes)
     level-comes (Expr-F.Neg a) = then_tell-comes _ _ _ a.1 (λ z. none-comes)
     level-comes (Expr-F.Two op a b) = then_tell-comes _ _ _ a.1 (λ z. then_tell-comes _ _ _ b.1 (λ v. none-comes))
 
-    tells : (e : Expr) → Told_comes e
-    unfolding Told_comes
-    tells = ind-Expr Told_comes (λ y z is. subst (λ w. Told_comes (roll-Expr w)) is
+    tells : (e : Expr) → Told-comes e
+    unfolding Told-comes
+    tells = ind-Expr Told-comes (λ y z is. subst (λ w. Told-comes (roll-Expr w)) is
         (subst (λ (p : Told). Comes p.seen) (sym (told-rolled f scalars locals find (map-Expr _ _ (λ e. e.0) z))) (level-comes z)))
 
   told-comes : (f : Frame) (s : Store) (e : Expr) → Comes (told f s e).seen
-  unfolding Told_comes
+  unfolding Told-comes
   told-comes f s e = tells f s.scalars s.locals (look_load f.expects s.memory) e
 
   -- ---- statements

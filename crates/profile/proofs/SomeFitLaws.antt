@@ -15,7 +15,7 @@ use Rattle.nest_lang.specs.Blocks.{block_ref, present_blocks}
 use Rattle.nest_lang.specs.Traces.{Observation}
 use Rattle.line_fit.specs.Samples.{Sample}
 use Rattle.line_fit.specs.Lines.{Tube, Miss, IsFit, IsLarge, IsTooWide}
-use Rattle.line_fit.proofs.SomeFit.{fit-or_reason}
+use Rattle.line_fit.proofs.SomeFit.{fit-or-reason}
 use Rattle.domain.specs.declared.prediction.What.{What}
 use Rattle.domain.specs.declared.prediction.What.TheVariants.{Scalar, Address, Lower, Trip}
 use Rattle.domain.specs.Tables.{Table, Block, Access, Level}
@@ -60,7 +60,7 @@ module _ (D : ℕ) (observations : List Observation) (rank : ℕ) (block : Block
     where
       of : (samples : List Sample) → samples_at D observations block what ≡ samples → Fitted what ⊎ EndsIn (what ∷ [])
       of [] e = inl (None, e)
-      of (s ∷ ss) e = by-reason what (s ∷ ss) e (omega arith) (fit-or_reason D (widest what) (s ∷ ss) (omega arith))
+      of (s ∷ ss) e = by-reason what (s ∷ ss) e (omega arith) (fit-or-reason D (widest what) (s ∷ ss) (omega arith))
 
   abbrev Lined : What → Type 0
   Lined what = (form : Option Affine) × HasFitAt D observations block what (tube_about form (pos 0) (pos 0))
@@ -129,8 +129,8 @@ module _ (D : ℕ) (observations : List Observation) (rank : ℕ) (block : Block
     abbrev AccessesTo : ℕ → Type 0
     AccessesTo n = (forms : List Access) × AreAccessFits D observations block (take n all) forms
 
-    no_nest_access : NestAccess
-    no_nest_access = record { number = 0; kind = Load }
+    no-nest-access : NestAccess
+    no-nest-access = record { number = 0; kind = Load }
 
     unseen : Access
     unseen = record { stores = false; line = None; low = pos 0; high = pos 0 }
@@ -154,12 +154,12 @@ module _ (D : ℕ) (observations : List Observation) (rank : ℕ) (block : Block
 
         next : (forms : List Access) → AreAccessFits D observations block (take n all) forms → Fitted (Address (n + 1)) ⊎ EndsIn (Address (n + 1) ∷ []) → AccessesTo (suc n) ⊎ EndsIn Addresses
         next forms fits (inl (fit, is)) =
-            let stores = is_store (get_or all n no_nest_access).kind in
+            let stores = is_store (get_or all n no-nest-access).kind in
             let a = access_of stores fit in
             inl (
               forms ++ a ∷ [],
               subst (λ (m : ℕ). AreAccessFits D observations block (take m all) (forms ++ a ∷ [])) one
-                  (more-access D observations block all n no_nest_access forms (forms ++ a ∷ []) a within fits refl (access_of-stores stores fit)
+                  (more-access D observations block all n no-nest-access forms (forms ++ a ∷ []) a within fits refl (access_of-stores stores fit)
                   (subst (λ (t : Option Tube). HasFitAt D observations block (Address (n + 1)) t) (access_of-fit stores fit) is) (access_of-narrow stores fit)),
             )
         next forms fits (inr (unfit, at)) =
@@ -291,5 +291,5 @@ module _ (D scalars : ℕ) (loops : List Loop) (observations : List Observation)
           inl (record { levels = levels.0; blocks = blocks }, made D scalars loops observations blocks bounds levels.0 fits levels.1)
       of (inr e) = inr e
 
-pub fit-or_first_unfit : FitOrFirstUnfit
-fit-or_first_unfit = some-table
+pub fit-or-first-unfit : FitOrFirstUnfit
+fit-or-first-unfit = some-table

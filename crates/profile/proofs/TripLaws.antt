@@ -103,10 +103,10 @@ module _ (loops : List Loop) where
     if-reached false sample rest h more = more
 
     given : (o : Observation) → Fine o → All Reached (given_by D block seen.Trip o)
-    given o h = if-reached (is_of block seen.Trip o) (sample_of D o) (ended_by D block seen.Trip o) seen_trip (if-reached (is_end_of block o) (trip_of D o.at.counters) [] ended (All-nil Reached))
+    given o h = if-reached (is_of block seen.Trip o) (sample_of D o) (ended_by D block seen.Trip o) seen-trip (if-reached (is_end_of block o) (trip_of D o.at.counters) [] ended (All-nil Reached))
       where
-        seen_trip : is_of block seen.Trip o ≡ true → Reached (sample_of D o)
-        seen_trip e = record {
+        seen-trip : is_of block seen.Trip o ≡ true → Reached (sample_of D o)
+        seen-trip e = record {
           counters = padded-near D o.at.counters h.0;
           trip = of-block o seen.Trip h e (is-trip o.what (and_parts (same_block o.at.block block) (same_seen o.what seen.Trip) e).1);
         }
@@ -128,10 +128,10 @@ module _ (loops : List Loop) where
 numbers-from : (l : Loop) (ls : List Loop) (j : ℕ) → loop_at (l ∷ ls) (1 + j) ≡ slice_get (l ∷ ls) j
 numbers-from l ls j = let e : 1 + j ≡ suc j = omega arith in ap (loop_at (l ∷ ls)) e
 
-pub trips-stay_within_reach : TripsStayWithinReach
+pub trips-stay-within-reach : TripsStayWithinReach
 unfolding loops_keep seen_in
-trips-stay_within_reach D k left c t [] o s some keeps numbers fits position next few = absurd position
-trips-stay_within_reach D k left c t (l ∷ ls) o s some keeps numbers fits position next few =
+trips-stay-within-reach D k left c t [] o s some keeps numbers fits position next few = absurd position
+trips-stay-within-reach D k left c t (l ∷ ls) o s some keeps numbers fits position next few =
     let inner = (and_parts (nat_le (length ls) 5) (loop_keeps l ls) keeps).1 in
     let sound = nest-sound (2 ^ 33) (omega arith) (l ∷ ls) k some l ls (numbers-from l ls) inner (all-each HasI64s (l ∷ ls) numbers) o position t next c left few s fits in
     let good = sound-seen (2 ^ 33) (omega arith) (l ∷ ls) left (turns_trace plain k (l ∷ ls) o c s).entries sound in

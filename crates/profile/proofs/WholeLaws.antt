@@ -15,7 +15,7 @@ use Rattle.nest_lang.specs.declared.tree.Part.TheVariants.{Head}
 use Rattle.nest_lang.specs.Accesses.{accesses_of}
 use Rattle.nest_lang.specs.Blocks.{block_ref, present_blocks, rank_of}
 use Rattle.nest_lang.specs.Traces.{Observation}
-use Rattle.nest_lang.proofs.Ranks.{ranks-are_numbers, present_blocks-have_ranks}
+use Rattle.nest_lang.proofs.Ranks.{ranks-are-numbers, present_blocks-have-ranks}
 use Rattle.line_fit.specs.Lines.{Tube}
 use Rattle.domain.specs.declared.prediction.What.{What}
 use Rattle.domain.specs.declared.prediction.What.TheVariants.{Scalar, Address, Lower, Trip}
@@ -101,8 +101,8 @@ module _ (loops : List Loop) where
 
 pub more-reach : (levels grown : List Level) (x : Level) → StayWithinReach levels → stride_size x.kind ≤ 2 ^ 63 → Reaches (stride_size x.kind) x.trip → grown ≡ levels ++ x ∷ [] → StayWithinReach grown
 more-reach levels grown x so_far stride reaches is = record {
-  strides = of_each (λ z. stride_size z.kind ≤ 2 ^ 63) so_far.strides stride;
-  reach = of_each (λ z. Reaches (stride_size z.kind) z.trip) so_far.reach reaches;
+  strides = of-each (λ z. stride_size z.kind ≤ 2 ^ 63) so_far.strides stride;
+  reach = of-each (λ z. Reaches (stride_size z.kind) z.trip) so_far.reach reaches;
 }
   where
     either : (P : Level → Type 0) → ((k : ℕ) (y : Level) → slice_get levels k ≡ Some y → P y) → P x → (k : ℕ) (y : Level) → (slice_get levels k ≡ Some y) ⊎ ((j : ℕ) × (k ≡ length levels + j) × (slice_get (x ∷ []) j ≡ Some y)) → P y
@@ -110,8 +110,8 @@ more-reach levels grown x so_far stride reaches is = record {
     either P before here k y (inr (zero, s, e)) = let same : x ≡ y = cc in subst P same here
     either P before here k y (inr (suc j, s, e)) = absurd (cc)
 
-    of_each : (P : Level → Type 0) → ((k : ℕ) (y : Level) → slice_get levels k ≡ Some y → P y) → P x → (k : ℕ) (y : Level) → slice_get grown k ≡ Some y → P y
-    of_each P before here k y e = either P before here k y (slice_get-either levels (x ∷ []) k y (subst (λ (xs : List Level). slice_get xs k ≡ Some y) is e))
+    of-each : (P : Level → Type 0) → ((k : ℕ) (y : Level) → slice_get levels k ≡ Some y → P y) → P x → (k : ℕ) (y : Level) → slice_get grown k ≡ Some y → P y
+    of-each P before here k y e = either P before here k y (slice_get-either levels (x ∷ []) k y (subst (λ (xs : List Level). slice_get xs k ≡ Some y) is e))
 
 -- ---- the whole
 kind-with : (kind : LoopKind) (own : Option LoopBounds) → (level_with kind own).kind ≡ kind
@@ -137,7 +137,7 @@ module _ (D scalars : ℕ) (loops : List Loop) (observations : List Observation)
   -- the bounds of the loop of which a present block is the head
   own-is : (level rank : ℕ) → slice_get (present_blocks loops) rank ≡ Some (block_ref Head level) → own_bounds loops bounds level ≡ Some (get_or bounds rank no_bounds)
   own-is level rank e =
-      let ranked = (ranks-are_numbers loops (block_ref Head level) rank).1 e in
+      let ranked = (ranks-are-numbers loops (block_ref Head level) rank).1 e in
       let within = slice_get_within (present_blocks loops) rank (block_ref Head level) e in
       ap (option_and_then (λ (r : ℕ). slice_get bounds r)) ranked ∙ slice_get-get_or bounds rank no_bounds (let c = fits.count_bounds in omega (arith, c, within))
 
@@ -150,7 +150,7 @@ module _ (D scalars : ℕ) (loops : List Loop) (observations : List Observation)
       let none : own_bounds loops bounds 1 ≡ None = ap (option_and_then (λ (r : ℕ). slice_get bounds r)) q in
       (ap (λ (o : Option LoopBounds). (level_with kind o).lower) none, ap (λ (o : Option LoopBounds). (level_with kind o).trip) none)
   no-own (Some rank) q kind =
-      let e = (ranks-are_numbers loops (block_ref Head 1) rank).0 q in
+      let e = (ranks-are-numbers loops (block_ref Head 1) rank).0 q in
       let own = own-is 1 rank e in
       let within = slice_get_within (present_blocks loops) rank (block_ref Head 1) e in
       let b = (fits.each rank (block_ref Head 1) within e).bounds_fit.other refl in
@@ -173,10 +173,10 @@ module _ (D scalars : ℕ) (loops : List Loop) (observations : List Observation)
   head-is : (rank : ℕ) (part : Part) (level : ℕ) → slice_get (present_blocks loops) rank ≡ Some (block_ref part level) → part ≡ Head
       → (kind : LoopKind) × (loop_of t level ≡ Some (level_with kind (Some (get_or bounds rank no_bounds))))
   head-is rank part zero e is =
-      let p = (present_blocks-have_ranks loops (block_ref part 0)).1 (rank, (ranks-are_numbers loops (block_ref part 0) rank).1 e) in
+      let p = (present_blocks-have-ranks loops (block_ref part 0)).1 (rank, (ranks-are-numbers loops (block_ref part 0) rank).1 e) in
       absurd (let f = p.1 in cc)
   head-is rank part (suc k) e is =
-      let p = (present_blocks-have_ranks loops (block_ref part (suc k))).1 (rank, (ranks-are_numbers loops (block_ref part (suc k)) rank).1 e) in
+      let p = (present_blocks-have-ranks loops (block_ref part (suc k))).1 (rank, (ranks-are-numbers loops (block_ref part (suc k)) rank).1 e) in
       let one : k + 1 ≡ suc k = omega arith in
       let own = own-is (suc k) rank (e ∙ ap (λ (z : Part). Some (block_ref z (suc k))) is) in
       (kind_of p.0.head, level-is k p.0 p.1 ∙ ap (λ (j : ℕ). Some (level_with (kind_of p.0.head) (own_bounds loops bounds j))) one ∙ ap (λ (o : Option LoopBounds). Some (level_with (kind_of p.0.head) o)) own)

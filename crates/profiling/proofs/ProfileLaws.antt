@@ -19,10 +19,10 @@ use Rattle.profiling.specs.FirstProfiles.{entered, turns_from, has_turn, goes_on
 -- ---- the number of whole turns
 
 -- where all turns are done, all are whole
-pub all_whole : (turns : ℕ → Store → Trace) (s : Store) (left c j : ℕ) → AreWhole turns s left c j → (cut (turns c s) s left 0).ending ≡ Done → j ≡ c
-all_whole turns s left c j whole done = elim (cases_lt j c) [
+pub all-whole : (turns : ℕ → Store → Trace) (s : Store) (left c j : ℕ) → AreWhole turns s left c j → (cut (turns c s) s left 0).ending ≡ Done → j ≡ c
+all-whole turns s left c j whole done = elim (cases_lt j c) [
   | inl less ↦ absurd (whole.most c less (omega arith) done)
-  | inr not_less ↦ let within = whole.within in omega arith
+  | inr not-less ↦ let within = whole.within in omega arith
 ]
 
 -- ---- how turns end
@@ -31,22 +31,22 @@ abbrev is_done : Finish → Bool
 is_done Done = true
 is_done finish = false
 
-done_went : (end : Turned) → finish_of_turned end ≡ Done → end ≡ turned.Went
-done_went turned.Went is = refl
-done_went turned.Ended is = absurd (false≢true (ap is_done is))
-done_went (turned.Trapped trap) is = absurd (false≢true (ap is_done is))
-done_went turned.Limited is = absurd (false≢true (ap is_done is))
+done-went : (end : Turned) → finish_of_turned end ≡ Done → end ≡ turned.Went
+done-went turned.Went is = refl
+done-went turned.Ended is = absurd (false≢true (ap is_done is))
+done-went (turned.Trapped trap) is = absurd (false≢true (ap is_done is))
+done-went turned.Limited is = absurd (false≢true (ap is_done is))
 
-went_on : (end : Turned) (left : Option ℕ) → goes_on end left ≡ true → (end ≡ turned.Went) × (has_turn left ≡ true)
-went_on turned.Went left is = (refl, is)
-went_on turned.Ended left is = absurd (false≢true is)
-went_on (turned.Trapped trap) left is = absurd (false≢true is)
-went_on turned.Limited left is = absurd (false≢true is)
+went-on : (end : Turned) (left : Option ℕ) → goes_on end left ≡ true → (end ≡ turned.Went) × (has_turn left ≡ true)
+went-on turned.Went left is = (refl, is)
+went-on turned.Ended left is = absurd (false≢true is)
+went-on (turned.Trapped trap) left is = absurd (false≢true is)
+went-on turned.Limited left is = absurd (false≢true is)
 
 -- the ending of a cut doesn't depend on the steps that were used before
-ending_alone : (t : Trace) (s : Store) (left used : ℕ) → (cut t s left used).ending ≡ (cut t s left 0).ending
+ending-alone : (t : Trace) (s : Store) (left used : ℕ) → (cut t s left used).ending ≡ (cut t s left 0).ending
 unfolding cut
-ending_alone t s left used = refl
+ending-alone t s left used = refl
 
 -- a run of turns, as `run_turns` says it
 pub record IsRunOf (loops : List Loop) (c : ℕ) (s : Store) (left : ℕ) (o o' : Outer) (end : Turned) : Type 0 where
@@ -59,78 +59,78 @@ pub run_of : (loops : List Loop) (c : ℕ) (s t : Store) (left used left' used' 
     → cut_of t left' used' (finish_of_turned end) ≡ cut (turns_from loops left o c s) s left used → o' ≡ turns_later o done → AreWhole (turns_from loops left o) s left c done
     → IsRunOf loops c s left o o' end
 run_of loops c s t left used left' used' o o' end done ran later whole = record {
-  finish = ap (λ (run : Cut). run.ending) ran ∙ ending_alone (turns_from loops left o c s) s left used;
+  finish = ap (λ (run : Cut). run.ending) ran ∙ ending-alone (turns_from loops left o c s) s left used;
   done = done;
   later = later;
   whole = whole;
 }
 
 -- turns that went, with a further one, go through
-pub goes_through : (loops : List Loop) (c : ℕ) (s : Store) (left : ℕ) (o o' : Outer) (end : Turned) → IsRunOf loops c s left o o' end → goes_on end o'.left ≡ true → GoThrough loops c s left o
-goes_through loops c s left o o' end run on =
-    let is = went_on end o'.left on in
+pub goes-through : (loops : List Loop) (c : ℕ) (s : Store) (left : ℕ) (o o' : Outer) (end : Turned) → IsRunOf loops c s left o o' end → goes_on end o'.left ≡ true → GoThrough loops c s left o
+goes-through loops c s left o o' end run on =
+    let is = went-on end o'.left on in
     let done : (cut (turns_from loops left o c s) s left 0).ending ≡ Done = sym run.finish ∙ ap finish_of_turned is.0 in
-    let same : run.done ≡ c = all_whole (turns_from loops left o) s left c run.done run.whole done in
+    let same : run.done ≡ c = all-whole (turns_from loops left o) s left c run.done run.whole done in
     record {
       done = done;
       more = subst (λ (n : ℕ). has_turn (turns_later o n).left ≡ true) same (ap (λ (p : Outer). has_turn p.left) (sym run.later) ∙ is.1);
     }
 
 -- other turns don't
-pub falls_short : (loops : List Loop) (c : ℕ) (s : Store) (left : ℕ) (o o' : Outer) (end : Turned) → IsRunOf loops c s left o o' end → goes_on end o'.left ≡ false → GoThrough loops c s left o → ⊥
-falls_short loops c s left o o' end run off through =
-    let went : end ≡ turned.Went = done_went end (run.finish ∙ through.done) in
-    let same : run.done ≡ c = all_whole (turns_from loops left o) s left c run.done run.whole through.done in
+pub falls-short : (loops : List Loop) (c : ℕ) (s : Store) (left : ℕ) (o o' : Outer) (end : Turned) → IsRunOf loops c s left o o' end → goes_on end o'.left ≡ false → GoThrough loops c s left o → ⊥
+falls-short loops c s left o o' end run off through =
+    let went : end ≡ turned.Went = done-went end (run.finish ∙ through.done) in
+    let same : run.done ≡ c = all-whole (turns_from loops left o) s left c run.done run.whole through.done in
     let none : has_turn o'.left ≡ false = subst (λ (t : Turned). goes_on t o'.left ≡ false) went off in
     let some : has_turn o'.left ≡ true = ap (λ (p : Outer). has_turn p.left) run.later ∙ subst (λ (n : ℕ). has_turn (turns_later o n).left ≡ true) (sym same) through.more in
     false≢true (sym none ∙ some)
 
 -- ---- the answers of a profile
 
-from_zero : (n : ℕ) → pos 0 +ℤ pos n ≡ pos n
-from_zero n = let same : 0 + n ≡ n = omega arith in ap pos same
+from-zero : (n : ℕ) → pos 0 +ℤ pos n ≡ pos n
+from-zero n = let same : 0 + n ≡ n = omega arith in ap pos same
 
-pub short_profile : (loops : List Loop) (c : ℕ) (s : Store) (left : ℕ) (o o' : Outer) (end : Turned) → o.next ≡ pos 0 → IsRunOf loops c s left o o' end → goes_on end o'.left ≡ false → IsProfileFrom loops c s left o (Short o'.next)
-short_profile loops c s left o o' end first run off = (
-  falls_short loops c s left o o' end run off,
-  (run.done, ap (λ (p : Outer). p.next) run.later ∙ ap (λ (n : ℤ). n +ℤ pos run.done) first ∙ from_zero run.done, run.whole),
+pub short-profile : (loops : List Loop) (c : ℕ) (s : Store) (left : ℕ) (o o' : Outer) (end : Turned) → o.next ≡ pos 0 → IsRunOf loops c s left o o' end → goes_on end o'.left ≡ false → IsProfileFrom loops c s left o (Short o'.next)
+short-profile loops c s left o o' end first run off = (
+  falls-short loops c s left o o' end run off,
+  (run.done, ap (λ (p : Outer). p.next) run.later ∙ ap (λ (n : ℤ). n +ℤ pos run.done) first ∙ from-zero run.done, run.whole),
 )
 
-abbrev or_none : Option (List Observation) → List Observation
-or_none None = []
-or_none (Some xs) = xs
+abbrev or-none : Option (List Observation) → List Observation
+or-none None = []
+or-none (Some xs) = xs
 
-some_same : (xs ys : List Observation) → Some xs ≡ Some ys → xs ≡ ys
-some_same xs ys is = ap (λ (o : Option (List Observation)). or_none o) is
+some-same : (xs ys : List Observation) → Some xs ≡ Some ys → xs ≡ ys
+some-same xs ys is = ap (λ (o : Option (List Observation)). or-none o) is
 
 -- what a new sampler kept is what it was shown
-pub kept_all : (shown kept : List Observation) → Chain MayKeep (Some []) shown (Some kept) → kept ≡ observations_in shown
-kept_all shown kept chain = elim (sampler-keeps [] shown (Some kept) chain) [
+pub kept-all : (shown kept : List Observation) → Chain MayKeep (Some []) shown (Some kept) → kept ≡ observations_in shown
+kept-all shown kept chain = elim (sampler-keeps [] shown (Some kept) chain) [
   | inl none ↦ absurd (none-some kept (sym none))
-  | inr some ↦ some_same kept (observations_in shown) some
+  | inr some ↦ some-same kept (observations_in shown) some
 ]
 
-pub whole_profile : (loops : List Loop) (c : ℕ) (s : Store) (left : ℕ) (o o' : Outer) (end : Turned) (kept : List Observation) → IsRunOf loops c s left o o' end → goes_on end o'.left ≡ true
+pub whole-profile : (loops : List Loop) (c : ℕ) (s : Store) (left : ℕ) (o o' : Outer) (end : Turned) (kept : List Observation) → IsRunOf loops c s left o o' end → goes_on end o'.left ≡ true
     → Chain MayKeep (Some []) (seen_in (turns_from loops left o c s) left) (Some kept) → IsProfileFrom loops c s left o (Whole kept)
-whole_profile loops c s left o o' end kept run on chain = (goes_through loops c s left o o' end run on, kept_all (seen_in (turns_from loops left o c s) left) kept chain)
+whole-profile loops c s left o o' end kept run on chain = (goes-through loops c s left o o' end run on, kept-all (seen_in (turns_from loops left o c s) left) kept chain)
 
 -- ---- the first profile
 
-pub missing_none : (loops : List Loop) (c : ℕ) (s : Store) (left : ℕ) → None ≡ entered loops s left → IsFirstProfile loops c s left Missing
-missing_none loops c s left none = λ o at. absurd (none-some o (none ∙ at))
+pub missing-none : (loops : List Loop) (c : ℕ) (s : Store) (left : ℕ) → None ≡ entered loops s left → IsFirstProfile loops c s left Missing
+missing-none loops c s left none = λ o at. absurd (none-some o (none ∙ at))
 
-abbrev outer_or : Outer → Option Outer → Outer
-outer_or o None = o
-outer_or o (Some p) = p
+abbrev outer-or : Outer → Option Outer → Outer
+outer-or o None = o
+outer-or o (Some p) = p
 
-pub outer_same : (o p : Outer) → Some o ≡ Some p → o ≡ p
-outer_same o p is = ap (λ (x : Option Outer). outer_or o x) is
+pub outer-same : (o p : Outer) → Some o ≡ Some p → o ≡ p
+outer-same o p is = ap (λ (x : Option Outer). outer-or o x) is
 
-pub missing_over : (loops : List Loop) (c : ℕ) (s : Store) (left : ℕ) (p : Outer) → Some p ≡ entered loops s left → has_turn p.left ≡ false → IsFirstProfile loops c s left Missing
-missing_over loops c s left p is over = λ o at. ap (λ (x : Outer). has_turn x.left) (sym (outer_same p o (is ∙ at))) ∙ over
+pub missing-over : (loops : List Loop) (c : ℕ) (s : Store) (left : ℕ) (p : Outer) → Some p ≡ entered loops s left → has_turn p.left ≡ false → IsFirstProfile loops c s left Missing
+missing-over loops c s left p is over = λ o at. ap (λ (x : Outer). has_turn x.left) (sym (outer-same p o (is ∙ at))) ∙ over
 
-pub first_from : (loops : List Loop) (c : ℕ) (s : Store) (left left' : ℕ) (p : Outer) → Some p ≡ entered loops s left → has_turn p.left ≡ true → left' ≡ left - entry_steps loops
+pub first-from : (loops : List Loop) (c : ℕ) (s : Store) (left left' : ℕ) (p : Outer) → Some p ≡ entered loops s left → has_turn p.left ≡ true → left' ≡ left - entry_steps loops
     → (found : FirstProfile) → IsProfileFrom loops c s left' p found → IsFirstProfile loops c s left found
-first_from loops c s left left' p is turn steps Missing from = absurd from
-first_from loops c s left left' p is turn steps (Short turns) from = (p, sym is, turn, subst (λ (n : ℕ). IsProfileFrom loops c s n p (Short turns)) steps from)
-first_from loops c s left left' p is turn steps (Whole observations) from = (p, sym is, turn, subst (λ (n : ℕ). IsProfileFrom loops c s n p (Whole observations)) steps from)
+first-from loops c s left left' p is turn steps Missing from = absurd from
+first-from loops c s left left' p is turn steps (Short turns) from = (p, sym is, turn, subst (λ (n : ℕ). IsProfileFrom loops c s n p (Short turns)) steps from)
+first-from loops c s left left' p is turn steps (Whole observations) from = (p, sym is, turn, subst (λ (n : ℕ). IsProfileFrom loops c s n p (Whole observations)) steps from)

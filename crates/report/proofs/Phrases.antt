@@ -14,8 +14,8 @@ joined-first byte word [] = sym (append-nil word)
 joined-first byte word (next ∷ words) = ap (λ (rest : List ℕ). word ++ byte ∷ rest) (joined-first byte next words)
 
 -- numbers with a comma between each two, from the first of them and the others
-pub joined_numbers : (numbers rest : List ℤ) (first : ℤ) (old text new : List ℕ) → numbers ≡ first ∷ rest → text ≡ old ++ signed_decimal first → new ≡ text ++ flat_map (λ n. 44 ∷ signed_decimal n) rest → new ≡ old ++ join_with_byte 44 (map signed_decimal numbers)
-joined_numbers numbers rest first old text new split begun so =
+pub joined-numbers : (numbers rest : List ℤ) (first : ℤ) (old text new : List ℕ) → numbers ≡ first ∷ rest → text ≡ old ++ signed_decimal first → new ≡ text ++ flat_map (λ n. 44 ∷ signed_decimal n) rest → new ≡ old ++ join_with_byte 44 (map signed_decimal numbers)
+joined-numbers numbers rest first old text new split begun so =
     let whole : join_with_byte 44 (map signed_decimal numbers) ≡ signed_decimal first ++ flat_map (λ n. 44 ∷ signed_decimal n) rest =
     ap (λ (ns : List ℤ). join_with_byte 44 (map signed_decimal ns)) split
     ∙ joined-first 44 (signed_decimal first) (map signed_decimal rest)
@@ -26,14 +26,14 @@ joined_numbers numbers rest first old text new split begun so =
     ∙ ap (λ (l : List ℕ). old ++ l) (sym whole)
 
 -- a phrase of three words and more
-pub phrase_three : (one two three : List ℕ) (words : List (List ℕ)) → phrase (one ∷ two ∷ three ∷ words) ≡ one ++ 32 ∷ (two ++ 32 ∷ (three ++ flat_map next_word words))
-phrase_three one two three words = ap (λ (l : List ℕ). one ++ 32 ∷ (two ++ 32 ∷ l)) (joined-first 32 three words)
+pub phrase-three : (one two three : List ℕ) (words : List (List ℕ)) → phrase (one ∷ two ∷ three ∷ words) ≡ one ++ 32 ∷ (two ++ 32 ∷ (three ++ flat_map next_word words))
+phrase-three one two three words = ap (λ (l : List ℕ). one ++ 32 ∷ (two ++ 32 ∷ l)) (joined-first 32 three words)
 
 -- the words of numbers, of a last one and of others
-pub number_words : (numbers : List ℤ) (last : ℤ) (others : List (List ℕ)) → flat_map next_word (map signed_decimal (numbers ++ last ∷ []) ++ others) ≡ flat_map (λ n. 32 ∷ signed_decimal n) numbers ++ ((32 ∷ signed_decimal last) ++ flat_map next_word others)
-number_words [] last others = refl
-number_words (n ∷ ns) last others =
-    ap (λ (l : List ℕ). (32 ∷ signed_decimal n) ++ l) (number_words ns last others)
+pub number-words : (numbers : List ℤ) (last : ℤ) (others : List (List ℕ)) → flat_map next_word (map signed_decimal (numbers ++ last ∷ []) ++ others) ≡ flat_map (λ n. 32 ∷ signed_decimal n) numbers ++ ((32 ∷ signed_decimal last) ++ flat_map next_word others)
+number-words [] last others = refl
+number-words (n ∷ ns) last others =
+    ap (λ (l : List ℕ). (32 ∷ signed_decimal n) ++ l) (number-words ns last others)
     ∙ sym (append_assoc (32 ∷ signed_decimal n) (flat_map (λ m. 32 ∷ signed_decimal m) ns) ((32 ∷ signed_decimal last) ++ flat_map next_word others))
 
 -- a text that grew twice
@@ -41,17 +41,17 @@ grown : (old x text y new : List ℕ) → text ≡ old ++ x → new ≡ text ++ 
 grown old x text y new begun so = so ∙ ap (λ (l : List ℕ). l ++ y) begun ∙ append_assoc old x y
 
 -- the numbers of a form, and what stands behind them
-pub form_words : (numbers : List ℤ) (last : ℤ) (others : List (List ℕ)) (old one two new : List ℕ) → one ≡ old ++ flat_map (λ n. 32 ∷ signed_decimal n) numbers → two ≡ one ++ (32 ∷ signed_decimal last) → new ≡ two ++ flat_map next_word others → new ≡ old ++ flat_map next_word (map signed_decimal (numbers ++ last ∷ []) ++ others)
-form_words numbers last others old one two new is_one is_two is_new =
+pub form-words : (numbers : List ℤ) (last : ℤ) (others : List (List ℕ)) (old one two new : List ℕ) → one ≡ old ++ flat_map (λ n. 32 ∷ signed_decimal n) numbers → two ≡ one ++ (32 ∷ signed_decimal last) → new ≡ two ++ flat_map next_word others → new ≡ old ++ flat_map next_word (map signed_decimal (numbers ++ last ∷ []) ++ others)
+form-words numbers last others old one two new is_one is_two is_new =
     let spaced : List ℕ = flat_map (λ n. 32 ∷ signed_decimal n) numbers in
     let number : List ℕ = 32 ∷ signed_decimal last in
     let more : List ℕ = flat_map next_word others in
     grown old (spaced ++ number) two more new (grown old spaced one number two is_one is_two) is_new
-    ∙ ap (λ (l : List ℕ). old ++ l) (append_assoc spaced number more ∙ sym (number_words numbers last others))
+    ∙ ap (λ (l : List ℕ). old ++ l) (append_assoc spaced number more ∙ sym (number-words numbers last others))
 
 -- the line of a form
-pub form_phrase : (word block datum : List ℕ) (words : List (List ℕ)) (old one two three four new : List ℕ) → one ≡ old ++ (word ++ 32 ∷ []) → two ≡ one ++ block → three ≡ two ++ 32 ∷ [] → four ≡ three ++ datum → new ≡ four ++ flat_map next_word words → new ≡ old ++ phrase (word ∷ block ∷ datum ∷ words)
-form_phrase word block datum words old one two three four new is_one is_two is_three is_four is_new =
+pub form-phrase : (word block datum : List ℕ) (words : List (List ℕ)) (old one two three four new : List ℕ) → one ≡ old ++ (word ++ 32 ∷ []) → two ≡ one ++ block → three ≡ two ++ 32 ∷ [] → four ≡ three ++ datum → new ≡ four ++ flat_map next_word words → new ≡ old ++ phrase (word ∷ block ∷ datum ∷ words)
+form-phrase word block datum words old one two three four new is_one is_two is_three is_four is_new =
     let space : List ℕ = 32 ∷ [] in
     let more : List ℕ = flat_map next_word words in
     grown old ((((word ++ space) ++ block) ++ space) ++ datum) four more new
@@ -63,11 +63,11 @@ form_phrase word block datum words old one two three four new is_one is_two is_t
     ∙ append_assoc ((word ++ space) ++ block) space (datum ++ more)
     ∙ append_assoc (word ++ space) block (space ++ (datum ++ more))
     ∙ append_assoc word space (block ++ (space ++ (datum ++ more)))
-    ∙ sym (phrase_three word block datum words))
+    ∙ sym (phrase-three word block datum words))
 
 -- the line of a committed chunk
-pub commit_text : (word turns label number counts old one two new : List ℕ) → one ≡ old ++ (word ++ 32 ∷ turns) → two ≡ one ++ (32 ∷ (label ++ 32 ∷ (number ++ 32 ∷ []))) → new ≡ two ++ counts → new ≡ old ++ phrase (word ∷ turns ∷ label ∷ number ∷ counts ∷ [])
-commit_text word turns label number counts old one two new is_one is_two is_new =
+pub commit-text : (word turns label number counts old one two new : List ℕ) → one ≡ old ++ (word ++ 32 ∷ turns) → two ≡ one ++ (32 ∷ (label ++ 32 ∷ (number ++ 32 ∷ []))) → new ≡ two ++ counts → new ≡ old ++ phrase (word ∷ turns ∷ label ∷ number ∷ counts ∷ [])
+commit-text word turns label number counts old one two new is_one is_two is_new =
     let said : List ℕ = word ++ 32 ∷ turns in
     let labelled : List ℕ = 32 ∷ (label ++ 32 ∷ (number ++ 32 ∷ [])) in
     grown old (said ++ labelled) two counts new (grown old said one labelled two is_one is_two) is_new

@@ -32,8 +32,8 @@ pub record IsPiece (memory : List ℤ) (n len : ℕ) (word : ℤ) : Type 0 where
   pub after : slice_get memory (n + len) ≢ Some word
 
 -- a word stands once at an address
-pub same_word : (memory : List ℤ) (a : ℕ) (one other : ℤ) → slice_get memory a ≡ Some one → slice_get memory a ≡ Some other → one ≡ other
-same_word memory a one other at at' = ap (λ (found : Option ℤ). unwrap_or found one) (sym at ∙ at')
+pub same-word : (memory : List ℤ) (a : ℕ) (one other : ℤ) → slice_get memory a ≡ Some one → slice_get memory a ≡ Some other → one ≡ other
+same-word memory a one other at at' = ap (λ (found : Option ℤ). unwrap_or found one) (sym at ∙ at')
 
 pub LongestBelow-start : (memory : List ℤ) → LongestBelow memory 0 []
 LongestBelow-start memory = record {
@@ -56,7 +56,7 @@ LongestRuns-below memory n runs end so = record {
 uncut-piece : (memory : List ℤ) (n len : ℕ) (word : ℤ) → IsPiece memory n len word → (a : ℕ) (other : ℤ) → a + 1 ≡ n + len → slice_get memory a ≡ Some other → slice_get memory (n + len) ≢ Some other
 uncut-piece memory n len word piece a other next at at' =
     let some = piece.not_empty in
-    let same : other ≡ word = same_word memory a other word at (piece.equal a (omega arith) (omega arith)) in
+    let same : other ≡ word = same-word memory a other word at (piece.equal a (omega arith) (omega arith)) in
     piece.after (at' ∙ ap Some same)
 
 -- a piece of zeros has no run
@@ -67,7 +67,7 @@ LongestBelow-zeros memory n len runs piece so = record {
   below = All-weaker (λ run. run.last < n) (λ run. run.last < n + len) (λ run less. omega arith) runs so.below;
   complete = λ a word less at nonzero. elim (cases_lt a n) [
     | inl before ↦ so.complete a word before at nonzero
-    | inr within ↦ absurd (nonzero (same_word memory a word (pos 0) at (piece.equal a within less)))
+    | inr within ↦ absurd (nonzero (same-word memory a word (pos 0) at (piece.equal a within less)))
   ];
   uncut = uncut-piece memory n len (pos 0) piece;
 }
@@ -126,16 +126,16 @@ IsPiece-drop memory n len word some most equal other =
     }
 
 -- adjacent words that are equal are all equal to the first
-equal_to_first : (words : List ℤ) (len : ℕ) (d : ℤ) → AllAdjacentBelow (λ one next. int_eq one next ≡ true) words len → (i : ℕ) → i < len → get_or words i d ≡ get_or words 0 d
-equal_to_first words len d adjacent zero less = refl
-equal_to_first words len d adjacent (suc i) less =
+equal-to-first : (words : List ℤ) (len : ℕ) (d : ℤ) → AllAdjacentBelow (λ one next. int_eq one next ≡ true) words len → (i : ℕ) → i < len → get_or words i d ≡ get_or words 0 d
+equal-to-first words len d adjacent zero less = refl
+equal-to-first words len d adjacent (suc i) less =
     let step : get_or words i d ≡ get_or words (i + 1) d = (Decides-int_eq (get_or words i d) (get_or words (i + 1) d)).0 (adjacent i d (omega arith)) in
     let next : i + 1 ≡ suc i = omega arith in
-    ap (λ (k : ℕ). get_or words k d) (sym next) ∙ (sym step ∙ equal_to_first words len d adjacent i (omega arith))
+    ap (λ (k : ℕ). get_or words k d) (sym next) ∙ (sym step ∙ equal-to-first words len d adjacent i (omega arith))
 
 -- words that `==` tells apart differ
-told_apart : (one other : ℤ) → int_eq one other ≡ false → one ≢ other
-told_apart one other test same = let equal : int_eq one other ≡ true = (Decides-int_eq one other).1 same in grind arith
+told-apart : (one other : ℤ) → int_eq one other ≡ false → one ≢ other
+told-apart one other test same = let equal : int_eq one other ≡ true = (Decides-int_eq one other).1 same in grind arith
 
 -- an element within a list is the same whatever stands for none
 get_or_default : (words : List ℤ) (n : ℕ) (d e : ℤ) → n < length words → get_or words n d ≡ get_or words n e
@@ -161,9 +161,9 @@ IsPiece-chunk memory rest xs ys n left parts some chunk =
     let front : get_or (drop n memory) 0 word ≡ word = ap (λ (words : List ℤ). get_or words 0 word) (sym left ∙ parts) ∙ (get_or_append_left xs ys word 0 some ∙ get_or_default xs 0 word (pos 0) some) in
     let whole : IsChunkByPrefix int_eq (drop n memory) (length xs) = subst (λ (words : List ℤ). IsChunkByPrefix int_eq words (length xs)) left chunk in
     let len : length (drop n memory) ≡ length xs + length ys = ap length (sym left ∙ parts) ∙ length-append xs ys in
-    let equal : (i : ℕ) → i < length xs → get_or (drop n memory) i word ≡ word = λ i less. equal_to_first (drop n memory) (length xs) word whole.0 i less ∙ front in
+    let equal : (i : ℕ) → i < length xs → get_or (drop n memory) i word ≡ word = λ i less. equal-to-first (drop n memory) (length xs) word whole.0 i less ∙ front in
     IsPiece-drop memory n (length xs) word some (omega arith) equal
-    (λ more same. told_apart (get_or (drop n memory) (length xs - 1) word) (get_or (drop n memory) (length xs) word) (whole.1 more word) (equal (length xs - 1) (omega arith) ∙ sym same))
+    (λ more same. told-apart (get_or (drop n memory) (length xs - 1) word) (get_or (drop n memory) (length xs) word) (whole.1 more word) (equal (length xs - 1) (omega arith) ∙ sym same))
 
 -- what is left behind a chunk
 pub rest-chunk : (memory rest xs ys : List ℤ) (n : ℕ) → rest ≡ drop n memory → rest ≡ xs ++ ys → ys ≡ drop (n + length xs) memory
@@ -176,8 +176,8 @@ lines-push start before now runs run so written =
     written ∙ (ap (λ (text : List ℕ). text ++ words_line run) so ∙ (append_assoc start (flat_map words_line runs) (words_line run) ∙ ap (λ (text : List ℕ). start ++ text) (sym (flat_map-append words_line runs (run ∷ []) ∙ ap (λ (text : List ℕ). flat_map words_line runs ++ text) (append-nil (words_line run))))))
 
 -- at each address within the memory stands a piece
-pub some_piece : (memory : List ℤ) (n : ℕ) → n < length memory → (len : ℕ) × (word : ℤ) × IsPiece memory n len word
-some_piece memory n inside =
+pub some-piece : (memory : List ℤ) (n : ℕ) → n < length memory → (len : ℕ) × (word : ℤ) × IsPiece memory n len word
+some-piece memory n inside =
     let word = get_or memory n (pos 0) in
     let is_word : ℤ → Bool = λ other. int_eq word other in
     let left = drop n memory in
@@ -188,25 +188,25 @@ some_piece memory n inside =
       prefix_len is_word left,
       word,
       IsPiece-drop memory n (prefix_len is_word left) word some (prefix_len-le-length is_word left) equal
-          (λ more same. told_apart word (get_or left (prefix_len is_word left) word) (prefix_len_stops is_word left word more) (sym same)),
+          (λ more same. told-apart word (get_or left (prefix_len is_word left) word) (prefix_len_stops is_word left word more) (sym same)),
     )
 
 -- from the longest runs below an address on, piece by piece
-longest_from : (k n : ℕ) (memory : List ℤ) (runs : List WordRun) → length memory ≤ n + k → LongestBelow memory n runs → (all : List WordRun) × LongestRuns memory all
-longest_from zero n memory runs end so = (runs, LongestRuns-below memory n runs (omega arith) so)
-longest_from (suc k) n memory runs end so = elim (cases_lt n (length memory)) [
+longest-from : (k n : ℕ) (memory : List ℤ) (runs : List WordRun) → length memory ≤ n + k → LongestBelow memory n runs → (all : List WordRun) × LongestRuns memory all
+longest-from zero n memory runs end so = (runs, LongestRuns-below memory n runs (omega arith) so)
+longest-from (suc k) n memory runs end so = elim (cases_lt n (length memory)) [
   | inl inside ↦
-      let found = some_piece memory n inside in
+      let found = some-piece memory n inside in
       let some = found.2.not_empty in
       elim (cases_Bool (int_eq found.1 (pos 0))) [
-        | inl test ↦ longest_from k (n + found.0) memory runs (omega arith)
+        | inl test ↦ longest-from k (n + found.0) memory runs (omega arith)
             (LongestBelow-zeros memory n found.0 runs (subst (λ (word : ℤ). IsPiece memory n found.0 word) ((Decides-int_eq found.1 (pos 0)).0 test) found.2) so)
-        | inr test ↦ longest_from k (n + found.0) memory (runs ++ run_of n found.0 found.1 ∷ []) (omega arith)
-            (LongestBelow-push memory n found.0 found.1 runs found.2 (told_apart found.1 (pos 0) test) so)
+        | inr test ↦ longest-from k (n + found.0) memory (runs ++ run_of n found.0 found.1 ∷ []) (omega arith)
+            (LongestBelow-push memory n found.0 found.1 runs found.2 (told-apart found.1 (pos 0) test) so)
       ]
   | inr all ↦ (runs, LongestRuns-below memory n runs all so)
 ]
 
 -- each memory has a list of its longest runs
-pub longest_runs : (memory : List ℤ) → (runs : List WordRun) × LongestRuns memory runs
-longest_runs memory = longest_from (length memory) 0 memory [] (omega arith) (LongestBelow-start memory)
+pub longest-runs : (memory : List ℤ) → (runs : List WordRun) × LongestRuns memory runs
+longest-runs memory = longest-from (length memory) 0 memory [] (omega arith) (LongestBelow-start memory)

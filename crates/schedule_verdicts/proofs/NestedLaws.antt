@@ -7,7 +7,7 @@ use Rattle.std.proofs.lemmas.Bool.Decides.{nat_tests}
 use Rattle.std.proofs.lemmas.List.{get_or_append_left}
 use Rattle.std.proofs.lemmas.List.FromFn.{get_or-map-range_with_len, length-map-range_with_len, map-range_with_len_more}
 use Rattle.affine.specs.Forms.{Affine}
-use Rattle.plain_lemmas.proofs.MembershipLaws.{Has, All_has}
+use Rattle.plain_lemmas.proofs.MembershipLaws.{Has, All-has}
 use Rattle.nest_lang.specs.declared.tree.Part.TheVariants.{Head, Pre}
 use Rattle.domain.specs.declared.table.LoopKind.{LoopKind}
 use Rattle.domain.specs.Tables.{Access, Block, IsBlock, IsTable, Level, Reaches, Table, block_at, is_block, level_at, no_block, is_while, no_level, rank_of, repeats, stride_size, text_place}
@@ -28,17 +28,17 @@ counted-reach l c = subst (λ (kind : LoopKind). Reaches (stride_size kind) l.tr
 
 first-counts : (levels : List Level) → 1 ≤ length levels → All IsCounted levels → repeats (record { levels = levels; blocks = [] }) 0 ≡ false
 first-counts [] some all = absurd (omega arith)
-first-counts (l ∷ levels) some all = ap is_while (All_has IsCounted (l ∷ levels) l all (inl refl)).kind
+first-counts (l ∷ levels) some all = ap is_while (All-has IsCounted (l ∷ levels) l all (inl refl)).kind
 
 module _ (D : ℕ) (levels : List Level) (accesses : List Access) where
   abbrev t : Table
   t = nested D levels accesses
 
   strides : All IsCounted levels → (k : ℕ) → stride_size (level_at t k).kind ≤ 1
-  strides all k = ⊎_elim (λ e. subst (λ (l : Level). stride_size l.kind ≤ 1) (sym e) (lit≤ tt)) (λ h. counted-stride (level_at t k) (All_has IsCounted levels (level_at t k) all h)) (level-cases levels k)
+  strides all k = ⊎_elim (λ e. subst (λ (l : Level). stride_size l.kind ≤ 1) (sym e) (lit≤ tt)) (λ h. counted-stride (level_at t k) (All-has IsCounted levels (level_at t k) all h)) (level-cases levels k)
 
   reach : All IsCounted levels → (k : ℕ) → Reaches (stride_size (level_at t k).kind) (level_at t k).trip
-  reach all k = ⊎_elim (λ e. subst (λ (l : Level). Reaches (stride_size l.kind) l.trip) (sym e) tt) (λ h. counted-reach (level_at t k) (All_has IsCounted levels (level_at t k) all h)) (level-cases levels k)
+  reach all k = ⊎_elim (λ e. subst (λ (l : Level). Reaches (stride_size l.kind) l.trip) (sym e) tt) (λ h. counted-reach (level_at t k) (All-has IsCounted levels (level_at t k) all h)) (level-cases levels k)
 
   -- ---- blocks
 
@@ -65,13 +65,13 @@ module _ (D : ℕ) (levels : List Level) (accesses : List Access) where
     block-cases rank l = grind arith
 
     blocks : length accesses ≤ 64 → (rank : ℕ) → rank < length t.blocks → IsBlock D (block_at t rank)
-    blocks short rank l = ⊎_elim at_head at_last (block-cases rank (let c = count in omega arith))
+    blocks short rank l = ⊎_elim at-head at-last (block-cases rank (let c = count in omega arith))
       where
-        at_head : rank + 1 < D → IsBlock D (block_at t rank)
-        at_head m = subst (IsBlock D) (sym (head-at rank m)) (record { from = omega arith; to = omega arith; scalars = lit≤ tt; accesses = lit≤ tt; outer = λ e. absurd (cc) })
+        at-head : rank + 1 < D → IsBlock D (block_at t rank)
+        at-head m = subst (IsBlock D) (sym (head-at rank m)) (record { from = omega arith; to = omega arith; scalars = lit≤ tt; accesses = lit≤ tt; outer = λ e. absurd (cc) })
 
-        at_last : rank + 1 ≡ D → IsBlock D (block_at t rank)
-        at_last m = subst (IsBlock D) (sym (last-at rank m)) (record { from = some; to = omega arith; scalars = lit≤ tt; accesses = short; outer = λ e. absurd (cc) })
+        at-last : rank + 1 ≡ D → IsBlock D (block_at t rank)
+        at-last m = subst (IsBlock D) (sym (last-at rank m)) (record { from = some; to = omega arith; scalars = lit≤ tt; accesses = short; outer = λ e. absurd (cc) })
 
     place-head : (rank : ℕ) → rank + 1 < D → text_place D (block_at t rank) ≡ rank + 2 + (rank + 2)
     place-head rank m = ap (text_place D) (head-at rank m)

@@ -1,5 +1,5 @@
-// What the seats do when they run: a phase of one worker, a claim that loses, a seat that isn't taken back, and
-// claims from two threads at once.
+//! What the seats do when they run: a phase of one worker, a claim that loses, a seat that isn't taken back, and
+//! claims from two threads at once.
 ghost use Rattle.std.specs.Prelude.{◌≡◌, ◌<◌, ◌≤◌, ◌^◌, true, false, [], ◌∷◌, length, IsTrue, IfOk};
 ghost use Rattle.core_steps.specs.Examples.{one_tile};
 ghost use Rattle.core_steps.specs.Plans.{IsSeparate, IsInside};

@@ -14,7 +14,7 @@ use Rattle.domain.specs.Instances.{Instance, instance, block_of, counter, place,
 use Rattle.domain.proofs.PlaceLaws.{place-counter, place-turns, place-rest, place-zero}
 use Rattle.domain.proofs.PointLaws.{length-cut, cut-before, cut-after, trip-cut}
 use Rattle.domain.proofs.WithinLaws.{trip-same, turns-trip, counters-of, turning-of, head-least}
-use Rattle.domain.proofs.RankLaws.{Stands, stands, has_rank, Kind, AtHead, AtPre, AtPost, kind, outermost-repeats}
+use Rattle.domain.proofs.RankLaws.{Stands, stands, has-rank, Kind, AtHead, AtPre, AtPost, kind, outermost-repeats}
 use Rattle.domain.proofs.LaunchedLaws.{launched_trips}
 use Rattle.skeletons.specs.Blocks.{IsPointOf}
 use Rattle.skeletons.specs.Cells.{IsLaunch}
@@ -22,22 +22,22 @@ use Rattle.skeletons.specs.Places.{Lies, greatest, is_turns, least}
 
 -- ---- lists by their numbers
 
-pub get_or-map_range : (f : ℕ → ℤ) (n first k : ℕ) → k < n → get_or (map f (range_with_len first n)) k (pos 0) ≡ f (first + k)
-get_or-map_range f zero first k h = absurd (omega arith)
-get_or-map_range f (suc n) first zero h = let e : first ≡ first + 0 = omega arith in ap f e
-get_or-map_range f (suc n) first (suc k) h = get_or-map_range f n (first + 1) k (omega arith) ∙ (let e : first + 1 + k ≡ first + suc k = omega arith in ap f e)
+pub get_or-map-range : (f : ℕ → ℤ) (n first k : ℕ) → k < n → get_or (map f (range_with_len first n)) k (pos 0) ≡ f (first + k)
+get_or-map-range f zero first k h = absurd (omega arith)
+get_or-map-range f (suc n) first zero h = let e : first ≡ first + 0 = omega arith in ap f e
+get_or-map-range f (suc n) first (suc k) h = get_or-map-range f n (first + 1) k (omega arith) ∙ (let e : first + 1 + k ≡ first + suc k = omega arith in ap f e)
 
-pub length-map_range : (f : ℕ → ℤ) (n first : ℕ) → length (map f (range_with_len first n)) ≡ n
-length-map_range f zero first = refl
-length-map_range f (suc n) first = ap suc (length-map_range f n (first + 1))
+pub length-map-range : (f : ℕ → ℤ) (n first : ℕ) → length (map f (range_with_len first n)) ≡ n
+length-map-range f zero first = refl
+length-map-range f (suc n) first = ap suc (length-map-range f n (first + 1))
 
 pub padded-at : (t : Table) (x : Instance) (k : ℕ) → k < depth t → counter (padded t x) k ≡ place t (block_of t x) x.at k
 unfolding padded
-padded-at t x k h = get_or-map_range (place t (block_of t x) x.at) (depth t) 0 k h ∙ (let e : 0 + k ≡ k = omega arith in ap (place t (block_of t x) x.at) e)
+padded-at t x k h = get_or-map-range (place t (block_of t x) x.at) (depth t) 0 k h ∙ (let e : 0 + k ≡ k = omega arith in ap (place t (block_of t x) x.at) e)
 
 pub length-padded : (t : Table) (x : Instance) → length (padded t x) ≡ depth t
 unfolding padded
-length-padded t x = length-map_range (place t (block_of t x) x.at) (depth t) 0
+length-padded t x = length-map-range (place t (block_of t x) x.at) (depth t) 0
 
 pub same_numbers : (xs ys : List ℤ) → length xs ≡ length ys → ((k : ℕ) → k < length xs → get_or xs k (pos 0) ≡ get_or ys k (pos 0)) → xs ≡ ys
 same_numbers [] [] size h = refl
@@ -64,21 +64,21 @@ head-level D (suc zero) n c false first from to e f = absurd (let w = first refl
 head-level D (suc (suc level)) n c false first from to e f = (omega arith, omega arith, omega arith, omega arith, λ l. (omega arith, omega arith))
 
 module _ (D : ℕ) (t : Table) (is : IsTable D t) where
-  pub level_of : (rank : ℕ) → rank < length t.blocks → IsLevel D t (block_at t rank)
-  level_of rank inside = by (kind D t is rank inside)
+  pub level-of : (rank : ℕ) → rank < length t.blocks → IsLevel D t (block_at t rank)
+  level-of rank inside = by (kind D t is rank inside)
     where
       by : Kind D t is rank → IsLevel D t (block_at t rank)
       by (AtHead level from to here text) =
           let first : level ≡ 1 → repeats t (level - 1) ≡ true = λ e. head-first e here in
           let all = head-level D level (turning (block_at t rank)) (counters t (block_at t rank)) (repeats t (level - 1)) first from to (counters-of t Head level rank here) (turning-of t Head level rank here) in
-          let e = here.level_is in
+          let e = here.level-is in
           record {
             some = all.0;
             turns = all.1;
             next = all.2;
             inside = all.3;
-            behind = λ p. absurd (let f = here.part_is in cc);
-            test = λ l. let more = all.4 l in let a = more.0 in let b = more.1 in (here.part_is, omega arith, omega arith);
+            behind = λ p. absurd (let f = here.part-is in cc);
+            test = λ l. let more = all.4 l in let a = more.0 in let b = more.1 in (here.part-is, omega arith, omega arith);
           }
         where
           head-first : {level : ℕ} → level ≡ 1 → Stands t Head level rank → repeats t (level - 1) ≡ true
@@ -90,11 +90,11 @@ module _ (D : ℕ) (t : Table) (is : IsTable D t) where
             turns = omega arith;
             next = omega arith;
             inside = omega arith;
-            behind = λ p. absurd (let f = here.part_is in cc);
+            behind = λ p. absurd (let f = here.part-is in cc);
             test = λ l. absurd (omega arith);
           }
       by (AtPost level from to here text) =
-          let c = counters-of t Post level rank here in let n = turning-of t Post level rank here in let e = here.level_is in
+          let c = counters-of t Post level rank here in let n = turning-of t Post level rank here in let e = here.level-is in
           record {
             some = omega arith;
             turns = omega arith;
@@ -156,20 +156,20 @@ module _ (D : ℕ) (t : Table) (is : IsTable D t) (chunk : Chunk) (launch : IsLa
   -- the loop before a block behind it has a trip that isn't negative
   post-up : (x : Instance) → Predicted t chunk x → (block_of t x).part ≡ Post → pos 0 ≤ℤ trip t (counters t (block_of t x)) x.at
   post-up x p post =
-      subst (λ (n : ℕ). pos 0 ≤ℤ trip t n x.at) (let e = at.0 in let f = head.level_is in omega arith)
-      (launched_trips D t launch.words chunk launch.instances is launch.launched y predicted head.part_is (let e = head.level_is in let f = at.3 in omega arith) here)
+      subst (λ (n : ℕ). pos 0 ≤ℤ trip t n x.at) (let e = at.0 in let f = head.level-is in omega arith)
+      (launched_trips D t launch.words chunk launch.instances is launch.launched y predicted head.part-is (let e = head.level-is in let f = at.3 in omega arith) here)
     where
       b : Block
       b = block_of t x
 
       lvl : IsLevel D t b
-      lvl = level_of D t is x.block p.is.block
+      lvl = level-of D t is x.block p.is.block
 
       at : (counters t b ≡ b.level) × (turning b ≡ b.level) × (b.level < D) × (1 ≤ b.level)
       at = lvl.behind post
 
       ranked : (rank : ℕ) × (rank_of t Head (b.level + 1) ≡ Some rank)
-      ranked = has_rank t Head (b.level + 1) (is.heads (b.level + 1) (let f = at.3 in omega arith) (let l = at.2 in omega arith))
+      ranked = has-rank t Head (b.level + 1) (is.heads (b.level + 1) (let f = at.3 in omega arith) (let l = at.2 in omega arith))
 
       head : Stands t Head (b.level + 1) ranked.0
       head = stands t Head (b.level + 1) ranked.0 ranked.1
@@ -187,7 +187,7 @@ module _ (D : ℕ) (t : Table) (is : IsTable D t) (chunk : Chunk) (launch : IsLa
       counts = let e = counters-of t Head (b.level + 1) ranked.0 head in let l = head-least (repeats t (b.level + 1 - 1)) (b.level + 1) in omega arith
 
       here : counter x.at ((block_of t y).level - 1) ≡ pos 0
-      here = rest ((block_of t y).level - 1) (let e = head.level_is in omega arith)
+      here = rest ((block_of t y).level - 1) (let e = head.level-is in omega arith)
 
       predicted : Predicted t chunk y
       predicted = record {
@@ -200,21 +200,21 @@ module _ (D : ℕ) (t : Table) (is : IsTable D t) (chunk : Chunk) (launch : IsLa
   trip-padded : (x : Instance) → Predicted t chunk x → (k : ℕ) → k ≤ counters t (block_of t x) → trip t k (padded t x) ≡ trip t k x.at
   trip-padded x p k l =
       trip-same t k (padded t x) x.at (length-padded t x ∙ sym p.is.size) (λ j m.
-      padded-at t x j (let i = (level_of D t is x.block p.is.block).inside in let d = is.deep in omega arith)
+      padded-at t x j (let i = (level-of D t is x.block p.is.block).inside in let d = is.deep in omega arith)
       ∙ place-counter t (block_of t x) x.at j (omega arith))
 
-  pub points_lie : (x : Instance) → Predicted t chunk x → Lies t chunk (block_of t x) (padded t x)
-  points_lie x p k inside = ⊎_elim zero-case (λ some. ⊎_elim (turn-case some) (λ l. ⊎_elim (test-case some l) (λ m. past-case some l m) (cases_lt k (counters t b))) (cases_lt k (turning b))) (cases_one k)
+  pub points-lie : (x : Instance) → Predicted t chunk x → Lies t chunk (block_of t x) (padded t x)
+  points-lie x p k inside = ⊎_elim zero-case (λ some. ⊎_elim (turn-case some) (λ l. ⊎_elim (test-case some l) (λ m. past-case some l m) (cases_lt k (counters t b))) (cases_lt k (turning b))) (cases-one k)
     where
       b : Block
       b = block_of t x
 
       lvl : IsLevel D t b
-      lvl = level_of D t is x.block p.is.block
+      lvl = level-of D t is x.block p.is.block
 
-      cases_one : (k : ℕ) → (k ≡ 0) ⊎ (1 ≤ k)
-      cases_one zero = inl refl
-      cases_one (suc k) = inr (omega arith)
+      cases-one : (k : ℕ) → (k ≡ 0) ⊎ (1 ≤ k)
+      cases-one zero = inl refl
+      cases-one (suc k) = inr (omega arith)
 
       at : counter (padded t x) k ≡ place t b x.at k
       at = padded-at t x k inside
@@ -297,14 +297,14 @@ module _ (D : ℕ) (t : Table) (is : IsTable D t) (chunk : Chunk) (launch : IsLa
               past (inr no_post) = place-zero t b x.at k no_post m
 
   -- and a point that lies so is one of the block
-  pub lie_points : (rank : ℕ) (p : List ℤ) → rank < length t.blocks → length p ≡ D → Lies t chunk (block_at t rank) p → IsPointOf t chunk rank p
-  lie_points rank p inside size lies = record { at = x; predicted = predicted; block = refl; there = same }
+  pub lie-points : (rank : ℕ) (p : List ℤ) → rank < length t.blocks → length p ≡ D → Lies t chunk (block_at t rank) p → IsPointOf t chunk rank p
+  lie-points rank p inside size lies = record { at = x; predicted = predicted; block = refl; there = same }
     where
       b : Block
       b = block_at t rank
 
       lvl : IsLevel D t b
-      lvl = level_of D t is rank inside
+      lvl = level-of D t is rank inside
 
       x : Instance
       x = instance rank (cut (counters t b) p)

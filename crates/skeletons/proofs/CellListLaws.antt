@@ -14,11 +14,11 @@ use Rattle.std.proofs.lemmas.Bool.Decides.{nat_tests}
 use Rattle.std.proofs.lemmas.List.{get_or-replicate, length-replicate, length-take-le}
 use Rattle.std.proofs.Math.ListN.{length-map}
 use Rattle.plain_lemmas.proofs.IntegerLaws.{*ℤ-+ℤ, *ℤ-≤ℤ, unsigned_abs-add}
-use Rattle.plain_lemmas.proofs.OrderLaws.{cases_int_cmp, slice_cmp-exact}
+use Rattle.plain_lemmas.proofs.OrderLaws.{cases-int-cmp, slice_cmp-exact}
 use Rattle.affine.proofs.FloorLemmas.{abs-floor}
 use Rattle.affine.proofs.PlaceLaws.{quotient_is_interval}
 use Rattle.orders.specs.Orders.{Has, Ordered}
-use Rattle.orders.proofs.Lists.{has_cases, has_left, has_right}
+use Rattle.orders.proofs.Lists.{has-cases, has-left, has-right}
 use Rattle.domain.specs.Instances.{Instance, Predicted, counter, padded}
 use Rattle.transform.specs.Schedules.{IsSchedule, Line, Schedule, along, band, leading, line_at, place, tile_along, wave, wave_of, wide_lead, wide_tile}
 use Rattle.transform.proofs.LineLaws.{get_or-place}
@@ -45,7 +45,7 @@ next-tile d q = *ℤ-+ℤ d q (pos 1) ∙ ap (λ (x : ℤ). d *ℤ q +ℤ x) (le
 
 -- a tile that begins before a number, and isn't before its tile, is its tile
 tile-before : (z t d : ℤ) → pos 0 <ℤ d → int_div_euclid z d ≤ℤ t → (d *ℤ t) <ℤ z → int_div_euclid z d ≡ t
-tile-before z t d some from before = cases_int_cmp (int_div_euclid z d) t
+tile-before z t d some from before = cases-int-cmp (int_div_euclid z d) t
     (λ l.
     let above = *ℤ-≤ℤ d (int_div_euclid z d +ℤ pos 1) t (omega (arith, ints, some)) (omega (arith, ints, l)) in
     let law = ((quotient_is_interval z d (int_div_euclid z d) some).0 refl).1 in
@@ -70,7 +70,7 @@ first-in s t d some to low = record { from = low; to = tile-below s.high t d som
 
 -- the tiles of numbers in order are in order
 pub tiles-rise : (y z d : ℤ) → pos 0 <ℤ d → y ≤ℤ z → int_div_euclid y d ≤ℤ int_div_euclid z d
-tiles-rise y z d some h = cases_int_cmp (int_div_euclid z d) (int_div_euclid y d)
+tiles-rise y z d some h = cases-int-cmp (int_div_euclid z d) (int_div_euclid y d)
     (λ l.
     let above = *ℤ-≤ℤ d (int_div_euclid z d +ℤ pos 1) (int_div_euclid y d) (omega (arith, ints, some)) (omega (arith, ints, l)) in
     let low = ((quotient_is_interval y d (int_div_euclid y d) some).0 refl).0 in
@@ -108,8 +108,8 @@ below k n h = grind (arith, nat_tests)
 above : (k n : ℕ) → n ≤ k → nat_lt k n ≡ false
 above k n h = grind (arith, nat_tests)
 
-abbrev no_line : Line
-no_line = record { row = []; size = 0; parallel = false }
+abbrev no-line : Line
+no-line = record { row = []; size = 0; parallel = false }
 
 waves-small : (p : List ℤ) (ls : List Line) → AllByRecursion (λ (l : Line). unsigned_abs (tile_along p l) ≤ 2 ^ 59) ls → unsigned_abs (wave_of p ls) ≤ length ls * 2 ^ 59
 waves-small p [] all = omega arith
@@ -123,7 +123,7 @@ waves-small p (l ∷ ls) all =
     part true = omega arith
     part false = all.0
 
-all-lines : (P : Line → Type 0) (ls : List Line) → ((k : ℕ) → k < length ls → P (get_or ls k no_line)) → AllByRecursion P ls
+all-lines : (P : Line → Type 0) (ls : List Line) → ((k : ℕ) → k < length ls → P (get_or ls k no-line)) → AllByRecursion P ls
 all-lines P [] h = tt
 all-lines P (l ∷ ls) h = (h 0 (omega arith), all-lines P ls (λ k i. h (suc k) (omega arith)))
 
@@ -187,7 +187,7 @@ pub record IsBefore (n : ℕ) (e : Extent) (inverse : List (List ℤ)) (s : Stre
 
 module _ (n : ℕ) (e : Extent) (inverse : List (List ℤ)) (blocks : List BlockScan) (is : IsFrame n e inverse blocks) where
   size-some : (k : ℕ) → k < n → 0 < (line_at e.schedule k).size
-  size-some k h = let l = is.schedule.long in is.schedule.sizes k no_line (omega (arith, h, l))
+  size-some k h = let l = is.schedule.long in is.schedule.sizes k no-line (omega (arith, h, l))
 
   module _ (x : Instance) (predicted : Predicted e.table e.chunk x) where
     abbrev p : List ℤ
@@ -327,12 +327,12 @@ module _ (n : ℕ) (e : Extent) (inverse : List (List ℤ)) (blocks : List Block
     λ h. ⊎_elim
         (λ k. ⊎_elim (λ l. inl l) (λ l. inr (record { of = l.of; before = let b = l.before in omega (arith, ints, b) })) ((gains cell).0 k))
         (λ k. inr (only k))
-        (has_cases old (cell_at e inverse (point_at s v) ∷ []) cell (subst (λ (cs : List Cell). Has cs cell) more h)),
+        (has-cases old (cell_at e inverse (point_at s v) ∷ []) cell (subst (λ (cs : List Cell). Has cs cell) more h)),
     λ h. subst (λ (cs : List Cell). Has cs cell) (sym more) (⊎_elim
-        (λ k. has_left old (cell_at e inverse (point_at s v) ∷ []) cell ((gains cell).1 (inl k)))
-        (λ k. cases_int_cmp (int_div_euclid k.of.value (pos (last_size n e.schedule))) to
-        (λ l. has_left old (cell_at e inverse (point_at s v) ∷ []) cell ((gains cell).1 (inr (record { of = k.of; before = l }))))
-        (λ f. has_right old (cell_at e inverse (point_at s v) ∷ []) cell (inl (k.of.is ∙ alike k.of f)))
+        (λ k. has-left old (cell_at e inverse (point_at s v) ∷ []) cell ((gains cell).1 (inl k)))
+        (λ k. cases-int-cmp (int_div_euclid k.of.value (pos (last_size n e.schedule))) to
+        (λ l. has-left old (cell_at e inverse (point_at s v) ∷ []) cell ((gains cell).1 (inr (record { of = k.of; before = l }))))
+        (λ f. has-right old (cell_at e inverse (point_at s v) ∷ []) cell (inl (k.of.is ∙ alike k.of f)))
         (λ l. absurd (let b = k.before in omega (arith, ints, l, b))))
         h),
   )
@@ -361,15 +361,15 @@ module _ (n : ℕ) (e : Extent) (inverse : List (List ℤ)) (blocks : List Block
   pub one-stretch : (done : List Stretch) (s : Stretch) (first old new : List Cell) → Gains (IsCellAmong e inverse done) first old → Gains (IsCellOf e inverse s) old new → Gains (IsCellAmong e inverse (done ++ s ∷ [])) first new
   one-stretch done s first old new gains more cell = (
     λ h. ⊎_elim
-        (λ k. ⊎_elim (λ l. inl l) (λ l. inr (record { stretch = l.stretch; there = has_left done (s ∷ []) l.stretch l.there; is = l.is })) ((gains cell).0 k))
-        (λ k. inr (record { stretch = s; there = has_right done (s ∷ []) s (inl refl); is = k }))
+        (λ k. ⊎_elim (λ l. inl l) (λ l. inr (record { stretch = l.stretch; there = has-left done (s ∷ []) l.stretch l.there; is = l.is })) ((gains cell).0 k))
+        (λ k. inr (record { stretch = s; there = has-right done (s ∷ []) s (inl refl); is = k }))
         ((more cell).0 h),
     λ h. (more cell).1 (⊎_elim
         (λ k. inl ((gains cell).1 (inl k)))
         (λ k. ⊎_elim
         (λ l. inl ((gains cell).1 (inr (record { stretch = k.stretch; there = l; is = k.is }))))
         (λ l. inr (only k.stretch k.is l))
-        (has_cases done (s ∷ []) k.stretch k.there))
+        (has-cases done (s ∷ []) k.stretch k.there))
         h),
   )
     where

@@ -4,9 +4,9 @@ use Rattle.std.specs.List.{AllByRecursion, range_with_len}
 use Rattle.std.proofs.lemmas.Int.{ints}
 use Rattle.std.proofs.lemmas.Bool.{cases_lt}
 use Rattle.std.proofs.lemmas.List.{take_all}
-use Rattle.plain_lemmas.proofs.MembershipLaws.{All_from, All_has, map_has}
+use Rattle.plain_lemmas.proofs.MembershipLaws.{All-from, All-has, map-has}
 use Rattle.plain_lemmas.proofs.IntegerLaws.{one-*ℤ}
-use Rattle.plain_lemmas.proofs.ListLaws.{get_or-replicate_default}
+use Rattle.plain_lemmas.proofs.ListLaws.{get_or-replicate-default}
 use Rattle.affine.specs.Forms.{AllWithinSize}
 use Rattle.affine.specs.Inverses.{across, IsSquare}
 use Rattle.affine.specs.Matrices.{HasSmallEntries, product}
@@ -23,11 +23,11 @@ use Rattle.skeletons.proofs.BlockLaws.{same_numbers}
 
 transposed-small : (n : ℕ) (columns : List (List ℤ)) → IsSquare n columns → HasSmallEntries columns → HasSmallEntries (transposed n columns)
 transposed-small n columns square small =
-    All_from (AllWithinSize (2 ^ 20)) (transposed n columns) (λ row has.
-    let (k, there, is) = map_has (entries columns) (range_with_len 0 n) row has in
-    subst (AllWithinSize (2 ^ 20)) (sym is) (All_from (λ v. unsigned_abs v ≤ 2 ^ 20) (entries columns k) (λ v at.
-    let (column, in_columns, e) = map_has (λ column. counter column k) columns v at in
-    let c = All_has (AllWithinSize (2 ^ 20)) columns column small in_columns in
+    All-from (AllWithinSize (2 ^ 20)) (transposed n columns) (λ row has.
+    let (k, there, is) = map-has (entries columns) (range_with_len 0 n) row has in
+    subst (AllWithinSize (2 ^ 20)) (sym is) (All-from (λ v. unsigned_abs v ≤ 2 ^ 20) (entries columns k) (λ v at.
+    let (column, in_columns, e) = map-has (λ column. counter column k) columns v at in
+    let c = All-has (AllWithinSize (2 ^ 20)) columns column small in_columns in
     subst (λ (z : ℤ). unsigned_abs z ≤ 2 ^ 20) (sym e) (by column k c (cases_lt k (length column))))))
   where
     past : (xs : List ℤ) (k : ℕ) → length xs ≤ k → get_or xs k (pos 0) ≡ pos 0
@@ -39,23 +39,23 @@ transposed-small n columns square small =
     by column k c (inl l) = c k (pos 0) l
     by column k c (inr l) = subst (λ (z : ℤ). unsigned_abs z ≤ 2 ^ 20) (sym (past column k l)) (omega arith)
 
-pub transposed-small_from : (n : ℕ) (columns rows : List (List ℤ)) → IsSquare n columns → HasSmallEntries columns → length rows ≡ n → take n rows ≡ transposed n columns → HasSmallEntries rows
-transposed-small_from n columns rows square small long e = subst HasSmallEntries (sym e ∙ take_all n rows (omega (arith, long))) (transposed-small n columns square small)
+pub transposed-small-from : (n : ℕ) (columns rows : List (List ℤ)) → IsSquare n columns → HasSmallEntries columns → length rows ≡ n → take n rows ≡ transposed n columns → HasSmallEntries rows
+transposed-small-from n columns rows square small long e = subst HasSmallEntries (sym e ∙ take_all n rows (omega (arith, long))) (transposed-small n columns square small)
 
 across-at : (n : ℕ) (columns : List (List ℤ)) (z : List ℤ) (k : ℕ) → k < n → AllByRecursion (λ column. length column ≡ n) columns → length z ≡ length columns → counter (across n columns z) k ≡ dot (entries columns k) z
 across-at n [] z k h all long = zeros n k
   where
     zeros : (n k : ℕ) → get_or (replicate n (pos 0)) k (pos 0) ≡ pos 0
-    zeros n k = get_or-replicate_default n k (pos 0)
+    zeros n k = get_or-replicate-default n k (pos 0)
 across-at n (column ∷ columns) [] k h all long = absurd (omega arith)
 across-at n (column ∷ columns) (number ∷ z) k h all long =
     let l = all.0 in
     let m = length-across n columns z all.1 in
     get_or-weighted number column (pos 1) (across n columns z) k (omega (arith, l, h)) (omega (arith, m, h))
-    ∙ ap₂ (λ (a b : ℤ). a +ℤ b) (swap_factors number (counter column k)) (one-*ℤ (counter (across n columns z) k) ∙ across-at n columns z k h all.1 (omega arith))
+    ∙ ap₂ (λ (a b : ℤ). a +ℤ b) (swap-factors number (counter column k)) (one-*ℤ (counter (across n columns z) k) ∙ across-at n columns z k h all.1 (omega arith))
   where
-    swap_factors : (a b : ℤ) → a *ℤ b ≡ b *ℤ a
-    swap_factors a b = grind (arith, ints)
+    swap-factors : (a b : ℤ) → a *ℤ b ≡ b *ℤ a
+    swap-factors a b = grind (arith, ints)
 
 pub product-transposed : (n : ℕ) (columns : List (List ℤ)) (z : List ℤ) → IsSquare n columns → length z ≡ n → product (transposed n columns) z ≡ across n columns z
 product-transposed n columns z square long =

@@ -14,14 +14,14 @@ use Rattle.std.specs.Ordering.{is_eq}
 use Rattle.std.proofs.lemmas.Cmp.{int_cmp_total, lists_total, tied_itself}
 use Rattle.std.proofs.lemmas.List.{get_or-replicate, length-replicate}
 use Rattle.std.proofs.lemmas.List.Elements.{All-nil, All-cons}
-use Rattle.plain_lemmas.proofs.MembershipLaws.{Has as PHas, All_has, all_has as p_all_has, has_get_or, has_map as p_has_map}
-use Rattle.orders.proofs.Sorts.{ordering_unique}
+use Rattle.plain_lemmas.proofs.MembershipLaws.{Has as PHas, All-has, all_has as p_all_has, has-get-or, has-map as p_has_map}
+use Rattle.orders.proofs.Sorts.{ordering-unique}
 use Rattle.std.proofs.lemmas.List.{get_or-map}
 use Rattle.domain.proofs.OriginalLaws.{not-back}
 use Rattle.domain.proofs.CounterLaws.{launched_places}
 use Rattle.transform.proofs.LineLaws.{get_or-place}
-use Rattle.orders.proofs.Lists.{all_from, all_has, has_left, has_right, has_cases}
-use Rattle.plain_lemmas.proofs.OrderLaws.{slice_cmp-append_less, slice_cmp-append_same, slice_cmp-exact, ordering_then-less}
+use Rattle.orders.proofs.Lists.{all-from, all_has, has-left, has-right, has-cases}
+use Rattle.plain_lemmas.proofs.OrderLaws.{slice_cmp-append-less, slice_cmp-append-same, slice_cmp-exact, ordering_then-less}
 use Rattle.affine.specs.Forms.{AllWithinSize}
 use Rattle.affine.specs.Matrices.{product}
 use Rattle.affine.proofs.SumLemmas.{abs-dot}
@@ -39,38 +39,38 @@ use Rattle.level_walk.specs.Listings.{listed_in}
 use Rattle.level_walk.specs.Merges.{Comes as BestComes, merged, tag, tagged}
 use Rattle.level_walk.specs.Spaces.{IsWithin, ListsPoints, points}
 use Rattle.level_walk.specs.Walks.{IsBlock, IsBox, all_points, points_in, space_of}
-use Rattle.level_walk.proofs.Lattices.{meets_from, meets_to}
-use Rattle.level_walk.proofs.ListedLemmas.{left_from, left_to}
-use Rattle.level_walk.proofs.MergeLemmas.{blocks_merged}
-use Rattle.level_walk.proofs.Points.{lists_points}
-use Rattle.level_walk.proofs.WalkLemmas.{ordered_in}
+use Rattle.level_walk.proofs.Lattices.{meets-from, meets-to}
+use Rattle.level_walk.proofs.ListedLemmas.{left-from, left-to}
+use Rattle.level_walk.proofs.MergeLemmas.{blocks-merged}
+use Rattle.level_walk.proofs.Points.{lists-points}
+use Rattle.level_walk.proofs.WalkLemmas.{ordered-in}
 use Rattle.skeletons.specs.Boxes.{IsBoxOf}
 use Rattle.skeletons.specs.Cells.{AreListsOf, Cell, Comes, Extent, IsLaunch, IsListOf, cell_of, place_key}
 use Rattle.skeletons.specs.Frames.{AllFind, Finds, IsFrame, IsPlaceOf, all_in, chosen, instance_at, is_cell, list_in, list_of, lists_of}
 use Rattle.skeletons.specs.Scans.{IsNear}
 use Rattle.skeletons.proofs.BlockLaws.{length-padded, padded-at, same_numbers}
-use Rattle.skeletons.proofs.BoxLaws.{in_box-at, in_box-from, length-place, within_all}
+use Rattle.skeletons.proofs.BoxLaws.{in_box-at, in_box-from, length-place, within-all}
 
 -- ---- lists
 
 both : (a b : Bool) → a ≡ true → b ≡ true → (a && b) ≡ true
 both a b e f = rw (e, f) refl
 
-pub has_map : {X Y : Type 0} (f : X → Y) (xs : List X) (x : X) → Has xs x → Has (map f xs) (f x)
-has_map f [] x h = absurd h
-has_map f (y ∷ ys) x (inl e) = inl (ap f e)
-has_map f (y ∷ ys) x (inr h) = inr (has_map f ys x h)
+pub has-map : {X Y : Type 0} (f : X → Y) (xs : List X) (x : X) → Has xs x → Has (map f xs) (f x)
+has-map f [] x h = absurd h
+has-map f (y ∷ ys) x (inl e) = inl (ap f e)
+has-map f (y ∷ ys) x (inr h) = inr (has-map f ys x h)
 
-pub map_has : {X Y : Type 0} (f : X → Y) (xs : List X) (z : Y) → Has (map f xs) z → (x : X) × Has xs x × (z ≡ f x)
-map_has f [] z h = absurd h
-map_has f (y ∷ ys) z (inl e) = (y, inl refl, e)
-map_has f (y ∷ ys) z (inr h) = let (x, k, e) = map_has f ys z h in (x, inr k, e)
+pub map-has : {X Y : Type 0} (f : X → Y) (xs : List X) (z : Y) → Has (map f xs) z → (x : X) × Has xs x × (z ≡ f x)
+map-has f [] z h = absurd h
+map-has f (y ∷ ys) z (inl e) = (y, inl refl, e)
+map-has f (y ∷ ys) z (inr h) = let (x, k, e) = map-has f ys z h in (x, inr k, e)
 
-pub ordered_map : {X Y : Type 0} (f : X → Y) (R : X → X → Type 0) (S : Y → Y → Type 0) (xs : List X) → ((a b : X) → Has xs a → Has xs b → R a b → S (f a) (f b)) → Ordered R xs → Ordered S (map f xs)
-ordered_map f R S [] h o = tt
-ordered_map {X} {Y} f R S (x ∷ xs) h o = (
-  all_from (S (f x)) (map f xs) (λ z k. let (y, there, e) = map_has f xs z k in subst (S (f x)) (sym e) (h x y (inl refl) (inr there) (all_has (R x) xs y o.0 there))),
-  ordered_map f R S xs (λ a b k l. h a b (inr k) (inr l)) o.1,
+pub ordered-map : {X Y : Type 0} (f : X → Y) (R : X → X → Type 0) (S : Y → Y → Type 0) (xs : List X) → ((a b : X) → Has xs a → Has xs b → R a b → S (f a) (f b)) → Ordered R xs → Ordered S (map f xs)
+ordered-map f R S [] h o = tt
+ordered-map {X} {Y} f R S (x ∷ xs) h o = (
+  all-from (S (f x)) (map f xs) (λ z k. let (y, there, e) = map-has f xs z k in subst (S (f x)) (sym e) (h x y (inl refl) (inr there) (all_has (R x) xs y o.0 there))),
+  ordered-map f R S xs (λ a b k l. h a b (inr k) (inr l)) o.1,
 )
 
 pub chosen-has : (p : Instance → Bool) (xs : List Instance) (x : Instance) → Has (chosen p xs) x → Has xs x × (p x ≡ true)
@@ -97,7 +97,7 @@ chosen-ordered p R [] o = tt
 chosen-ordered p R (x ∷ xs) o = by (p x) (chosen-ordered p R xs o.1)
   where
     by : (b : Bool) → Ordered R (chosen p xs) → Ordered R (if b then x ∷ chosen p xs else chosen p xs)
-    by true more = (all_from (R x) (chosen p xs) (λ y h. all_has (R x) xs y o.0 (chosen-has p xs y h).0), more)
+    by true more = (all-from (R x) (chosen p xs) (λ y h. all_has (R x) xs y o.0 (chosen-has p xs y h).0), more)
     by false more = more
 
 equal-is : (o : Ordering) → is_eq o ≡ true → o ≡ Equal
@@ -153,18 +153,18 @@ module _ (n : ℕ) (e : Extent) (inverse : List (List ℤ)) (blocks : List Block
     λ h.
         let point = (lists.same z).0 h in
         let a = and_parts (meets_all b.rows.items z) (in_box lows highs z) point.accepted in
-        ((finds z (point.long ∙ block.levels)).0 (meets_from b.rows.items z a.0), a.1),
+        ((finds z (point.long ∙ block.levels)).0 (meets-from b.rows.items z a.0), a.1),
     λ h.
         let long = place-long rank z h.0 in
         (lists.same z).1 (record {
           long = long ∙ sym block.levels;
-          within = within_all LOWEST HIGHEST z (λ k i. inside k (omega (arith, i, long)) (in_box-at lows highs z h.1 k i));
-          accepted = both (meets_all b.rows.items z) (in_box lows highs z) (meets_to b.rows.items z ((finds z long).1 h.0)) h.1;
+          within = within-all LOWEST HIGHEST z (λ k i. inside k (omega (arith, i, long)) (in_box-at lows highs z h.1 k i));
+          accepted = both (meets_all b.rows.items z) (in_box lows highs z) (meets-to b.rows.items z ((finds z long).1 h.0)) h.1;
         }),
   )
     where
       lists : ListsPoints (space_of lows highs b) (points (space_of lows highs b) (length b.scan.levels) [])
-      lists = lists_points (space_of lows highs b)
+      lists = lists-points (space_of lows highs b)
 
       at : (xs : List ℤ) (k : ℕ) → AllByRecursion (IsWithin LOWEST HIGHEST) xs → k < length xs → IsWithin LOWEST HIGHEST (counter xs k)
       at [] k all i = absurd (omega arith)
@@ -179,10 +179,10 @@ module _ (n : ℕ) (e : Extent) (inverse : List (List ℤ)) (blocks : List Block
           record { least = omega (arith, ints, l, a); greatest = omega (arith, ints, u, b) }
   points-of rank (Listed b) finds block z = (
     λ h.
-        let a = left_from None (listed_in lows highs b.points.items) z h in
+        let a = left-from None (listed_in lows highs b.points.items) z h in
         let c = listed-has lows highs b.points.items z a.0 in
         ((finds z).0 c.0, c.1),
-    λ h. left_to None (listed_in lows highs b.points.items) z (has-listed lows highs b.points.items z ((finds z).1 h.0) h.1) refl,
+    λ h. left-to None (listed_in lows highs b.points.items) z (has-listed lows highs b.points.items z ((finds z).1 h.0) h.1) refl,
   )
 
   -- ---- the points of all blocks
@@ -191,25 +191,25 @@ module _ (n : ℕ) (e : Extent) (inverse : List (List ℤ)) (blocks : List Block
   tagged-from q [] finds all best h = absurd h
   tagged-from q (b ∷ bs) finds all best h = ⊎_elim
       (λ k.
-      let (z, there, f) = map_has (tag q) (points_in lows highs b) best k in
+      let (z, there, f) = map-has (tag q) (points_in lows highs b) best k in
       subst (λ (v : Best). IsPlaceOf e v.rank v.point.items × (in_box lows highs v.point.items ≡ true)) (sym f) ((points-of q b finds.0 all.0 z).0 there))
       (λ k. tagged-from (suc q) bs finds.1 all.1 best k)
-      (has_cases (map (tag q) (points_in lows highs b)) (tagged (suc q) (all_points lows highs bs)) best h)
+      (has-cases (map (tag q) (points_in lows highs b)) (tagged (suc q) (all_points lows highs bs)) best h)
 
   tagged-to : (q : ℕ) (bs : List BlockScan) → AllFind n e q bs → AllByRecursion (IsBlock n) bs → (rank : ℕ) (z : List ℤ) → q ≤ rank → rank < q + length bs → IsPlaceOf e rank z → in_box lows highs z ≡ true → Has (tagged q (all_points lows highs bs)) (tag rank z)
   tagged-to q [] finds all rank z from to p i = absurd (omega arith)
   tagged-to q (b ∷ bs) finds all rank z from to p i = ⊎_elim
-      (λ l. has_right (map (tag q) (points_in lows highs b)) (tagged (suc q) (all_points lows highs bs)) (tag rank z) (tagged-to (suc q) bs finds.1 all.1 rank z (omega arith) (omega arith) p i))
+      (λ l. has-right (map (tag q) (points_in lows highs b)) (tagged (suc q) (all_points lows highs bs)) (tag rank z) (tagged-to (suc q) bs finds.1 all.1 rank z (omega arith) (omega arith) p i))
       (λ l.
       let same : q ≡ rank = omega arith in
       subst (λ (r : ℕ). Has (tagged q (all_points lows highs (b ∷ bs))) (tag r z)) same
-      (has_left (map (tag q) (points_in lows highs b)) (tagged (suc q) (all_points lows highs bs)) (tag q z)
-      (has_map (tag q) (points_in lows highs b) z ((points-of q b finds.0 all.0 z).1 (subst (λ (r : ℕ). IsPlaceOf e r z) (sym same) p, i)))))
+      (has-left (map (tag q) (points_in lows highs b)) (tagged (suc q) (all_points lows highs bs)) (tag q z)
+      (has-map (tag q) (points_in lows highs b) z ((points-of q b finds.0 all.0 z).1 (subst (λ (r : ℕ). IsPlaceOf e r z) (sym same) p, i)))))
       (cases_lt q rank)
 
   all-ordered : (bs : List BlockScan) → AllByRecursion (IsBlock n) bs → AllByRecursion (Ordered Precedes) (all_points lows highs bs)
   all-ordered [] all = tt
-  all-ordered (b ∷ bs) all = (ordered_in n lows highs b all.0, all-ordered bs all.1)
+  all-ordered (b ∷ bs) all = (ordered-in n lows highs b all.0, all-ordered bs all.1)
 
   -- ---- their instances
 
@@ -229,12 +229,12 @@ module _ (n : ℕ) (e : Extent) (inverse : List (List ℤ)) (blocks : List Block
       ∙ cut-padded p.at p.predicted)
 
   pub merged-has : (best : Best) → Has (merged (all_points lows highs blocks)) best → IsPlaceOf e best.rank best.point.items × (in_box lows highs best.point.items ≡ true)
-  merged-has best h = tagged-from 0 blocks is.finds is.scans.all best (((blocks_merged (all_points lows highs blocks) (all-ordered blocks is.scans.all)).same best).0 h)
+  merged-has best h = tagged-from 0 blocks is.finds is.scans.all best (((blocks-merged (all_points lows highs blocks) (all-ordered blocks is.scans.all)).same best).0 h)
 
   pub list-has : (x : Instance) → Has (list_in e inverse blocks lows highs) x ↔ (Predicted e.table e.chunk x × (in_box lows highs (place e.schedule (padded e.table x)) ≡ true))
   list-has x = (
     λ h.
-        let (best, there, f) = map_has (instance_at e inverse) (merged (all_points lows highs blocks)) x h in
+        let (best, there, f) = map-has (instance_at e inverse) (merged (all_points lows highs blocks)) x h in
         let a = merged-has best there in
         let g : x ≡ a.0.at = f ∙ instance-is best a.0 in
         (subst (Predicted e.table e.chunk) (sym g) a.0.predicted, ap (λ (y : Instance). in_box lows highs (place e.schedule (padded e.table y))) g ∙ ap (in_box lows highs) a.0.there ∙ a.1),
@@ -243,8 +243,8 @@ module _ (n : ℕ) (e : Extent) (inverse : List (List ℤ)) (blocks : List Block
         let p : IsPlaceOf e x.block z = record { at = x; predicted = h.0; block = refl; there = refl } in
         let inside : x.block < 0 + length blocks = (let c = is.count in let b = h.0.is.block in omega (arith, c, b)) in
         let t = tagged-to 0 blocks is.finds is.scans.all x.block z (omega arith) inside p h.1 in
-        let m = ((blocks_merged (all_points lows highs blocks) (all-ordered blocks is.scans.all)).same (tag x.block z)).1 t in
-        subst (Has (list_in e inverse blocks lows highs)) (instance-is (tag x.block z) p) (has_map (instance_at e inverse) (merged (all_points lows highs blocks)) (tag x.block z) m),
+        let m = ((blocks-merged (all_points lows highs blocks) (all-ordered blocks is.scans.all)).same (tag x.block z)).1 t in
+        subst (Has (list_in e inverse blocks lows highs)) (instance-is (tag x.block z) p) (has-map (instance_at e inverse) (merged (all_points lows highs blocks)) (tag x.block z) m),
   )
 
   -- by place and then by rank
@@ -261,19 +261,19 @@ module _ (n : ℕ) (e : Extent) (inverse : List (List ℤ)) (blocks : List Block
           less x y l = grind (arith, ints)
 
       by : (o : Ordering) → slice_cmp int_cmp a.point.items b.point.items ≡ o → ordering_then o (nat_cmp a.rank b.rank) ≡ Less → Comes e p.at q.at
-      by Less f l = key (slice_cmp-append_less a.point.items b.point.items (pos a.rank ∷ []) (pos b.rank ∷ []) (place-long a.rank a.point.items p ∙ sym (place-long b.rank b.point.items q)) f)
+      by Less f l = key (slice_cmp-append-less a.point.items b.point.items (pos a.rank ∷ []) (pos b.rank ∷ []) (place-long a.rank a.point.items p ∙ sym (place-long b.rank b.point.items q)) f)
       by Equal f l =
           let same = slice_cmp-exact a.point.items b.point.items f in
-          key (subst (λ (z : List ℤ). slice_cmp int_cmp (a.point.items ++ pos a.rank ∷ []) (z ++ pos b.rank ∷ []) ≡ Less) same (slice_cmp-append_same a.point.items (pos a.rank ∷ []) (pos b.rank ∷ []) ∙ ranks l))
+          key (subst (λ (z : List ℤ). slice_cmp int_cmp (a.point.items ++ pos a.rank ∷ []) (z ++ pos b.rank ∷ []) ≡ Less) same (slice_cmp-append-same a.point.items (pos a.rank ∷ []) (pos b.rank ∷ []) ∙ ranks l))
       by Greater f l = absurd (let w : Greater ≡ Less = l in cc)
 
   pub list-ordered : Ordered (Comes e) (list_in e inverse blocks lows highs)
-  list-ordered = ordered_map (instance_at e inverse) BestComes (Comes e) (merged (all_points lows highs blocks))
+  list-ordered = ordered-map (instance_at e inverse) BestComes (Comes e) (merged (all_points lows highs blocks))
       (λ a b k l h.
       let p = merged-has a k in
       let q = merged-has b l in
       subst (λ (x : Instance). Comes e x (instance_at e inverse b)) (sym (instance-is a p.0)) (subst (λ (y : Instance). Comes e p.0.at y) (sym (instance-is b q.0)) (comes a b p.0 q.0 h)))
-      (blocks_merged (all_points lows highs blocks) (all-ordered blocks is.scans.all)).ordered
+      (blocks-merged (all_points lows highs blocks) (all-ordered blocks is.scans.all)).ordered
 
 -- ---- places are near
 
@@ -284,8 +284,8 @@ module _ (n : ℕ) (e : Extent) (few : n ≤ 6) (table : IsTable n e.table) (sch
       let a = l.0 in let b = l.1 in let f = launch.far in let at = padded-at e.table x j h in
       omega (arith, ints, a, b, f, at)
 
-  pub padded-fits_of : (x : Instance) → Predicted e.table e.chunk x → (j : ℕ) → FitsSigned w64 (counter (padded e.table x) j)
-  padded-fits_of x p j = ⊎_elim
+  pub padded-fits-of : (x : Instance) → Predicted e.table e.chunk x → (j : ℕ) → FitsSigned w64 (counter (padded e.table x) j)
+  padded-fits-of x p j = ⊎_elim
       (λ l. let h = padded-number_of x p j l in fits_signed_from_abs w64 (counter (padded e.table x) j) (omega (arith, h)))
       (λ l. subst (FitsSigned w64) (sym (past (padded e.table x) j (let m = length-padded e.table x in omega (arith, l, m)))) (fits_signed_from_abs w64 (pos 0) (omega arith)))
       (cases_lt j (depth e.table))
@@ -295,8 +295,8 @@ module _ (n : ℕ) (e : Extent) (few : n ≤ 6) (table : IsTable n e.table) (sch
       past (x ∷ xs) zero h = absurd (omega arith)
       past (x ∷ xs) (suc k) h = past xs k (omega arith)
 
-  pub near-places_of : (x : Instance) → Predicted e.table e.chunk x → (k : ℕ) → k < n → IsNear (counter (place e.schedule (padded e.table x)) k)
-  near-places_of x p k inside =
+  pub near-places-of : (x : Instance) → Predicted e.table e.chunk x → (k : ℕ) → k < n → IsNear (counter (place e.schedule (padded e.table x)) k)
+  near-places-of x p k inside =
       subst IsNear (sym (get_or-place e.schedule (padded e.table x) k (let l = schedule.long in omega (arith, l, inside))))
       (let d = abs-dot row (padded e.table x) (2 ^ 20) (2 ^ 33) row-small point-small in
       let m = few-times (length row) row-few in
@@ -308,14 +308,14 @@ module _ (n : ℕ) (e : Extent) (few : n ≤ 6) (table : IsTable n e.table) (sch
       row : List ℤ
       row = line.row
 
-      in_matrix : PHas (matrix e.schedule) row
-      in_matrix = p_has_map (λ (l : Line). l.row) e.schedule.lines line (has_get_or e.schedule.lines k (record { row = []; size = 0; parallel = false }) (let l = schedule.long in omega (arith, l, inside)))
+      in-matrix : PHas (matrix e.schedule) row
+      in-matrix = p_has_map (λ (l : Line). l.row) e.schedule.lines line (has-get-or e.schedule.lines k (record { row = []; size = 0; parallel = false }) (let l = schedule.long in omega (arith, l, inside)))
 
       row-small : AllWithinSize (2 ^ 20) row
-      row-small = All_has (AllWithinSize (2 ^ 20)) (matrix e.schedule) row schedule.small in_matrix
+      row-small = All-has (AllWithinSize (2 ^ 20)) (matrix e.schedule) row schedule.small in-matrix
 
       row-few : length row ≤ 6
-      row-few = let l = p_all_has (λ (r : List ℤ). length r ≡ n) (matrix e.schedule) row schedule.square.long in_matrix in let f = few in omega (arith, l, f)
+      row-few = let l = p_all_has (λ (r : List ℤ). length r ≡ n) (matrix e.schedule) row schedule.square.long in-matrix in let f = few in omega (arith, l, f)
 
       few-times : (l : ℕ) → l ≤ 6 → l * (2 ^ 20 * 2 ^ 33) ≤ 2 ^ 59
       few-times l h = omega arith
@@ -324,18 +324,18 @@ module _ (n : ℕ) (e : Extent) (few : n ≤ 6) (table : IsTable n e.table) (sch
       near z h = record { low = omega (arith, ints, h); high = omega (arith, ints, h) }
 
       point-small : AllWithinSize (2 ^ 33) (padded e.table x)
-      point-small = all_small (padded e.table x) (λ j h. padded-number_of x p j (let l = length-padded e.table x in omega (arith, l, h)))
+      point-small = all-small (padded e.table x) (λ j h. padded-number_of x p j (let l = length-padded e.table x in omega (arith, l, h)))
         where
-          all_small : (xs : List ℤ) → ((j : ℕ) → j < length xs → unsigned_abs (counter xs j) ≤ 2 ^ 33) → AllWithinSize (2 ^ 33) xs
-          all_small [] h = All-nil (λ v. unsigned_abs v ≤ 2 ^ 33)
-          all_small (v ∷ xs) h = All-cons (λ v. unsigned_abs v ≤ 2 ^ 33) v xs (h 0 (omega arith)) (all_small xs (λ j i. h (suc j) (omega arith)))
+          all-small : (xs : List ℤ) → ((j : ℕ) → j < length xs → unsigned_abs (counter xs j) ≤ 2 ^ 33) → AllWithinSize (2 ^ 33) xs
+          all-small [] h = All-nil (λ v. unsigned_abs v ≤ 2 ^ 33)
+          all-small (v ∷ xs) h = All-cons (λ v. unsigned_abs v ≤ 2 ^ 33) v xs (h 0 (omega arith)) (all-small xs (λ j i. h (suc j) (omega arith)))
 
 module _ (n : ℕ) (e : Extent) (inverse : List (List ℤ)) (blocks : List BlockScan) (is : IsFrame n e inverse blocks) where
   pub padded-fits : (x : Instance) → Predicted e.table e.chunk x → (j : ℕ) → FitsSigned w64 (counter (padded e.table x) j)
-  padded-fits = padded-fits_of n e is.few is.table is.schedule is.launch
+  padded-fits = padded-fits-of n e is.few is.table is.schedule is.launch
 
   pub near-places : (x : Instance) → Predicted e.table e.chunk x → (k : ℕ) → k < n → IsNear (counter (place e.schedule (padded e.table x)) k)
-  near-places = near-places_of n e is.few is.table is.schedule is.launch
+  near-places = near-places-of n e is.few is.table is.schedule is.launch
 
   pub point-is : (rank : ℕ) (z : List ℤ) (p : IsPlaceOf e rank z) → product inverse z ≡ padded e.table p.at
   point-is rank z p = ap (product inverse) (sym p.there) ∙ is.there (padded e.table p.at) (length-padded e.table p.at ∙ is.table.deep)
@@ -391,7 +391,7 @@ module _ (n : ℕ) (e : Extent) (inverse : List (List ℤ)) (blocks : List Block
 
   -- there is one list of a cell
   pub one-list : (cell : Cell) (xs ys : List Instance) → IsListOf e cell xs → IsListOf e cell ys → xs ≡ ys
-  one-list cell xs ys a b = ordering_unique (Comes e) (λ x y h k. not-back (place_key e x) (place_key e y) h k) xs ys a.ordered b.ordered (record {
+  one-list cell xs ys a b = ordering-unique (Comes e) (λ x y h k. not-back (place_key e x) (place_key e y) h k) xs ys a.ordered b.ordered (record {
     there = λ x h. (b.has x).1 ((a.has x).0 h);
     back = λ x h. (a.has x).1 ((b.has x).0 h);
   })

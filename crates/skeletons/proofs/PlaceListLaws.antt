@@ -6,7 +6,7 @@ use Rattle.std.proofs.lemmas.Bool.{cases_lt}
 use Rattle.std.proofs.lemmas.List.{take_all, take_more}
 use Rattle.arrayvec.specs.ArrayVec.{ArrayVec}
 use Rattle.orders.specs.Orders.{Has}
-use Rattle.orders.proofs.Lists.{all_has, contains_from_has, has_cases, has_from_contains, has_left, has_right}
+use Rattle.orders.proofs.Lists.{all_has, contains-from-has, has-cases, has-from-contains, has-left, has-right}
 use Rattle.domain.specs.declared.chunk.Chunk.{Chunk}
 use Rattle.domain.specs.declared.held.HeldWhy.TheVariants.{Many}
 use Rattle.domain.specs.Tables.{IsTable, Table}
@@ -68,10 +68,10 @@ module _ {X : Type 0} (R : X → X → Type 0) where
 
 module _ (D : ℕ) (t : Table) (is : IsTable D t) (chunk : Chunk) (xs : List Instance) (original : IsOriginal t chunk xs) where
   predicted-in : (z : Instance) → Has xs z → Predicted t chunk z
-  predicted-in z h = (original.has z).0 (contains_from_has xs z h)
+  predicted-in z h = (original.has z).0 (contains-from-has xs z h)
 
   in-list : (z : Instance) → Predicted t chunk z → Has xs z
-  in-list z p = has_from_contains xs z ((original.has z).1 p)
+  in-list z p = has-from-contains xs z ((original.has z).1 p)
 
   later : (k : ℕ) (d y : Instance) → k < length xs → Predicted t chunk y → Precedes t (get_or xs k d) y → Has (drop (suc k) xs) y
   later k d y h p l = ⊎_elim
@@ -141,13 +141,13 @@ module _ (D : ℕ) (t : Table) (is : IsTable D t) (chunk : Chunk) (some : pos 1 
         past = λ h. last-at D t is chunk xs original k x y l (at.here l) next (omega (arith, h));
         has = λ z. (
           λ h. ⊎_elim
-              (λ m. let a = (at.has z).0 m in (a.0, subst (λ (ys : List Instance). Has ys a.0) (sym taken) (has_left (take k xs) (x ∷ []) a.0 a.1), a.2))
-              (λ m. (x, subst (λ (ys : List Instance). Has ys x) (sym taken) (has_right (take k xs) (x ∷ []) x (inl refl)), m))
+              (λ m. let a = (at.has z).0 m in (a.0, subst (λ (ys : List Instance). Has ys a.0) (sym taken) (has-left (take k xs) (x ∷ []) a.0 a.1), a.2))
+              (λ m. (x, subst (λ (ys : List Instance). Has ys x) (sym taken) (has-right (take k xs) (x ∷ []) x (inl refl)), m))
               ((notes z).0 h),
           λ h. (notes z).1 (⊎_elim
               (λ m. inl ((at.has z).1 (h.0, m, h.2)))
               (λ m. inr (only h.0 z h.2 m))
-              (has_cases (take k xs) (x ∷ []) h.0 (subst (λ (ys : List Instance). Has ys h.0) taken h.1))),
+              (has-cases (take k xs) (x ∷ []) h.0 (subst (λ (ys : List Instance). Has ys h.0) taken h.1))),
         );
       }
     where
@@ -216,8 +216,8 @@ numbers-push (q ∷ ps) p = ap (λ zs. q.items ∷ zs) (numbers-push ps p)
 pub noted : (t : Table) (s : Schedule) (rank : ℕ) (x : Instance) (old new : List (ArrayVec ℤ)) (p : ArrayVec ℤ) → new ≡ old ++ p ∷ [] → x.block ≡ rank → p.items ≡ place s (padded t x) → Notes t s rank x old new
 noted t s rank x old new p e block there z =
     let same = ap numbers e ∙ numbers-push old p in (
-      λ h. ⊎_elim (λ m. inl m) (λ m. inr (only m)) (has_cases (numbers old) (p.items ∷ []) z (subst (λ zs. Has zs z) same h)),
-      λ h. subst (λ zs. Has zs z) (sym same) (⊎_elim (λ m. has_left (numbers old) (p.items ∷ []) z m) (λ m. has_right (numbers old) (p.items ∷ []) z (inl (sym m.there ∙ sym there))) h),
+      λ h. ⊎_elim (λ m. inl m) (λ m. inr (only m)) (has-cases (numbers old) (p.items ∷ []) z (subst (λ zs. Has zs z) same h)),
+      λ h. subst (λ zs. Has zs z) (sym same) (⊎_elim (λ m. has-left (numbers old) (p.items ∷ []) z m) (λ m. has-right (numbers old) (p.items ∷ []) z (inl (sym m.there ∙ sym there))) h),
     )
   where
     only : Has (p.items ∷ []) z → HasPlace t s rank x z

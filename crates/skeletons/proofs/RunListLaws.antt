@@ -7,7 +7,7 @@ use Rattle.std.proofs.lemmas.Int.{ints}
 use Rattle.std.proofs.lemmas.Bool.{cases_lt}
 use Rattle.std.proofs.lemmas.List.{length-replicate}
 use Rattle.orders.specs.Orders.{Has, Ordered}
-use Rattle.orders.proofs.Lists.{has_cases, has_left, has_right, ordered_append}
+use Rattle.orders.proofs.Lists.{has-cases, has-left, has-right, ordered-append}
 use Rattle.plain_lemmas.proofs.OrderLaws.{ordering_then-less, ordering_then-same}
 use Rattle.affine.specs.Inverses.{IsInverse, across}
 use Rattle.affine.specs.Matrices.{product, unit_row}
@@ -34,7 +34,7 @@ use Rattle.skeletons.specs.Runs.{AreRunsOf as AreCellRuns, HasPoint, IsDirection
 use Rattle.skeletons.specs.Scans.{IsNear}
 use Rattle.skeletons.proofs.BlockLaws.{length-padded}
 use Rattle.skeletons.proofs.BoxLaws.{length-place}
-use Rattle.skeletons.proofs.ListLaws.{has_map, instance-is, map_has, near-places, ordered_map, place-long, points-of}
+use Rattle.skeletons.proofs.ListLaws.{has-map, instance-is, map-has, near-places, ordered-map, place-long, points-of}
 
 -- ---- lists
 
@@ -82,8 +82,8 @@ pub record AreRunsTo (e : Extent) (direction : List ℤ) (cell : Cell) (to : ℕ
   pub ordered : Ordered (RunComes e) runs
   pub has : (r : Run) → Has runs r ↔ (IsRun e direction cell r × (r.first.block < to))
 
-pub no_runs : (e : Extent) (direction : List ℤ) (cell : Cell) → AreRunsTo e direction cell 0 []
-no_runs e direction cell = record { ordered = tt; has = λ r. (λ h. absurd h, λ h. let l = h.1 in absurd (omega (arith, l))) }
+pub no-runs : (e : Extent) (direction : List ℤ) (cell : Cell) → AreRunsTo e direction cell 0 []
+no-runs e direction cell = record { ordered = tt; has = λ r. (λ h. absurd h, λ h. let l = h.1 in absurd (omega (arith, l))) }
 
 -- ---- the last column of the inverse is the last direction
 
@@ -308,21 +308,21 @@ module _ (n : ℕ) (e : Extent) (inverse : List (List ℤ)) (blocks : List Block
 
       pub runs-more : (runs : List Run) (stretches : List Stretch) → AreRunsOf list stretches → AreRunsTo e direction cell rank runs → AreRunsTo e direction cell (rank + 1) (runs ++ map (run_of e inverse direction rank) stretches)
       runs-more runs stretches are old = record {
-        ordered = ordered_append (RunComes e) runs (map (run_of e inverse direction rank) stretches) old.ordered
-            (ordered_map (run_of e inverse direction rank) StretchComes (RunComes e) stretches (λ a b h k l. comes a b (run-of a h) (run-of b k) l) are.ordered)
+        ordered = ordered-append (RunComes e) runs (map (run_of e inverse direction rank) stretches) old.ordered
+            (ordered-map (run_of e inverse direction rank) StretchComes (RunComes e) stretches (λ a b h k l. comes a b (run-of a h) (run-of b k) l) are.ordered)
             across;
         has = λ r. (
           λ h. ⊎_elim
               (λ k. let a = (old.has r).0 k in let l = a.1 in (a.0, omega (arith, l)))
-              (λ k. let (s, there, f) = map_has (run_of e inverse direction rank) stretches r k in
+              (λ k. let (s, there, f) = map-has (run_of e inverse direction rank) stretches r k in
               subst (λ (q : Run). IsRun e direction cell q × (q.first.block < rank + 1)) (sym f) (of-stretch s (run-of s there), omega arith))
-              (has_cases runs (map (run_of e inverse direction rank) stretches) r h),
+              (has-cases runs (map (run_of e inverse direction rank) stretches) r h),
           λ a. ⊎_elim
-              (λ l. has_left runs (map (run_of e inverse direction rank) stretches) r ((old.has r).1 (a.0, l)))
+              (λ l. has-left runs (map (run_of e inverse direction rank) stretches) r ((old.has r).1 (a.0, l)))
               (λ l.
               let m = a.1 in
               let o = from-run r a.0 (omega (arith, l, m)) in
-              has_right runs (map (run_of e inverse direction rank) stretches) r (subst (Has (map (run_of e inverse direction rank) stretches)) (sym o.same) (has_map (run_of e inverse direction rank) stretches o.stretch ((are.has o.stretch).1 o.run))))
+              has-right runs (map (run_of e inverse direction rank) stretches) r (subst (Has (map (run_of e inverse direction rank) stretches)) (sym o.same) (has-map (run_of e inverse direction rank) stretches o.stretch ((are.has o.stretch).1 o.run))))
               (cases_lt r.first.block rank),
         );
       }
@@ -338,5 +338,5 @@ module _ (n : ℕ) (e : Extent) (inverse : List (List ℤ)) (blocks : List Block
           across : (u v : Run) → Has runs u → Has (map (run_of e inverse direction rank) stretches) v → RunComes e u v
           across u v h k =
               let below = ((old.has u).0 h).1 in
-              let (s, there, f) = map_has (run_of e inverse direction rank) stretches v k in
+              let (s, there, f) = map-has (run_of e inverse direction rank) stretches v k in
               subst (RunComes e u) (sym f) (ordering_then-less (pos u.first.block) (pos rank) _ (omega (arith, ints, below)))

@@ -4,7 +4,7 @@ use Rattle.std.specs.Prelude.{◌↔◌, if◌then◌else◌, ◌||◌}
 use Rattle.std.specs.List.{All, Contains}
 use Rattle.std.proofs.lemmas.Int.{ints}
 use Rattle.std.proofs.lemmas.Bool.{cases_lt}
-use Rattle.plain_lemmas.proofs.MembershipLaws.{Has, All_from, All_has, has_cases, has_left, has_right, contains_from_has, has_from_contains}
+use Rattle.plain_lemmas.proofs.MembershipLaws.{Has, All-from, All-has, has-cases, has-left, has-right, contains-from-has, has-from-contains}
 use Rattle.affine.specs.Forms.{value_at}
 use Rattle.affine.specs.Inverses.{across}
 use Rattle.affine.specs.Rows.{Meets, coefficient, variables}
@@ -48,9 +48,9 @@ four xs a b c d = (((xs ++ a ∷ []) ++ b ∷ []) ++ c ∷ []) ++ d ∷ []
 four-cases : {X : Type 0} (xs : List X) (a b c d x : X) → Has (four xs a b c d) x → Has xs x ⊎ ((x ≡ a) ⊎ ((x ≡ b) ⊎ ((x ≡ c) ⊎ (x ≡ d))))
 four-cases xs a b c d x h =
     ⊎_elim
-    (λ h3. ⊎_elim (λ h2. ⊎_elim (λ h1. ⊎_elim (λ h0. inl h0) (λ e. inr (inl (only e))) (has_cases xs (a ∷ []) x h1)) (λ e. inr (inr (inl (only e)))) (has_cases (xs ++ a ∷ []) (b ∷ []) x h2)) (λ e. inr (inr (inr (inl (only e))))) (has_cases ((xs ++ a ∷ []) ++ b ∷ []) (c ∷ []) x h3))
+    (λ h3. ⊎_elim (λ h2. ⊎_elim (λ h1. ⊎_elim (λ h0. inl h0) (λ e. inr (inl (only e))) (has-cases xs (a ∷ []) x h1)) (λ e. inr (inr (inl (only e)))) (has-cases (xs ++ a ∷ []) (b ∷ []) x h2)) (λ e. inr (inr (inr (inl (only e))))) (has-cases ((xs ++ a ∷ []) ++ b ∷ []) (c ∷ []) x h3))
     (λ e. inr (inr (inr (inr (only e)))))
-    (has_cases (((xs ++ a ∷ []) ++ b ∷ []) ++ c ∷ []) (d ∷ []) x h)
+    (has-cases (((xs ++ a ∷ []) ++ b ∷ []) ++ c ∷ []) (d ∷ []) x h)
   where
     only : {y : _} → Has (y ∷ []) x → x ≡ y
     only (inl e) = e
@@ -58,43 +58,43 @@ four-cases xs a b c d x h =
 
 module _ {X : Type 0} (xs : List X) (a b c d : X) where
   four-left : (x : X) → Has xs x → Has (four xs a b c d) x
-  four-left x h = has_left (((xs ++ a ∷ []) ++ b ∷ []) ++ c ∷ []) (d ∷ []) x (has_left ((xs ++ a ∷ []) ++ b ∷ []) (c ∷ []) x (has_left (xs ++ a ∷ []) (b ∷ []) x (has_left xs (a ∷ []) x h)))
+  four-left x h = has-left (((xs ++ a ∷ []) ++ b ∷ []) ++ c ∷ []) (d ∷ []) x (has-left ((xs ++ a ∷ []) ++ b ∷ []) (c ∷ []) x (has-left (xs ++ a ∷ []) (b ∷ []) x (has-left xs (a ∷ []) x h)))
 
   four-a : Has (four xs a b c d) a
-  four-a = has_left (((xs ++ a ∷ []) ++ b ∷ []) ++ c ∷ []) (d ∷ []) a (has_left ((xs ++ a ∷ []) ++ b ∷ []) (c ∷ []) a (has_left (xs ++ a ∷ []) (b ∷ []) a (has_right xs (a ∷ []) a (inl refl))))
+  four-a = has-left (((xs ++ a ∷ []) ++ b ∷ []) ++ c ∷ []) (d ∷ []) a (has-left ((xs ++ a ∷ []) ++ b ∷ []) (c ∷ []) a (has-left (xs ++ a ∷ []) (b ∷ []) a (has-right xs (a ∷ []) a (inl refl))))
 
   four-b : Has (four xs a b c d) b
-  four-b = has_left (((xs ++ a ∷ []) ++ b ∷ []) ++ c ∷ []) (d ∷ []) b (has_left ((xs ++ a ∷ []) ++ b ∷ []) (c ∷ []) b (has_right (xs ++ a ∷ []) (b ∷ []) b (inl refl)))
+  four-b = has-left (((xs ++ a ∷ []) ++ b ∷ []) ++ c ∷ []) (d ∷ []) b (has-left ((xs ++ a ∷ []) ++ b ∷ []) (c ∷ []) b (has-right (xs ++ a ∷ []) (b ∷ []) b (inl refl)))
 
   four-c : Has (four xs a b c d) c
-  four-c = has_left (((xs ++ a ∷ []) ++ b ∷ []) ++ c ∷ []) (d ∷ []) c (has_right ((xs ++ a ∷ []) ++ b ∷ []) (c ∷ []) c (inl refl))
+  four-c = has-left (((xs ++ a ∷ []) ++ b ∷ []) ++ c ∷ []) (d ∷ []) c (has-right ((xs ++ a ∷ []) ++ b ∷ []) (c ∷ []) c (inl refl))
 
   four-d : Has (four xs a b c d) d
-  four-d = has_right (((xs ++ a ∷ []) ++ b ∷ []) ++ c ∷ []) (d ∷ []) d (inl refl)
+  four-d = has-right (((xs ++ a ∷ []) ++ b ∷ []) ++ c ∷ []) (d ∷ []) d (inl refl)
 
   four-all : (P : X → Type 0) → All P xs → P a → P b → P c → P d → All P (four xs a b c d)
   four-all P all pa pb pc pd =
-      All_from P (four xs a b c d) (λ x h. ⊎_elim (λ k. All_has P xs x all k)
+      All-from P (four xs a b c d) (λ x h. ⊎_elim (λ k. All-has P xs x all k)
       (⊎_elim (λ e. subst P (sym e) pa) (⊎_elim (λ e. subst P (sym e) pb) (⊎_elim (λ e. subst P (sym e) pc) (λ e. subst P (sym e) pd)))) (four-cases xs a b c d x h))
 
 -- what is known of the four rows of a place
 pub record IsPlaceRows (n : ℕ) (t : Table) (chunk : Chunk) (block : Block) (columns : List (List ℤ)) (k : ℕ) (a b c d : Row) : Type 0 where
-  pub over_a : variables a ≡ n
-  pub over_b : variables b ≡ n
-  pub over_c : variables c ≡ n
-  pub over_d : variables d ≡ n
-  pub within_a : IsWithin (2 ^ 100) a
-  pub within_b : IsWithin (2 ^ 100) b
-  pub within_c : IsWithin (2 ^ 100) c
-  pub within_d : IsWithin (2 ^ 100) d
-  pub meets_a : (z : List ℤ) → length z ≡ n → Meets z a ↔ (least t chunk block (across n columns z) k ≤ℤ counter (across n columns z) k)
-  pub meets_b : (z : List ℤ) → length z ≡ n → Meets z b ↔ (counter (across n columns z) k ≤ℤ greatest t chunk block (across n columns z) k)
-  pub meets_c : (z : List ℤ) → length z ≡ n → Meets z c ↔ (neg_ℤ (pos (2 ^ 59)) ≤ℤ counter z k)
-  pub meets_d : (z : List ℤ) → length z ≡ n → Meets z d ↔ (counter z k ≤ℤ pos (2 ^ 59))
-  pub alone_c : IsAlone k c
-  pub alone_d : IsAlone k d
-  pub side_c : pos 0 <ℤ coefficient c k
-  pub side_d : coefficient d k <ℤ pos 0
+  pub over-a : variables a ≡ n
+  pub over-b : variables b ≡ n
+  pub over-c : variables c ≡ n
+  pub over-d : variables d ≡ n
+  pub within-a : IsWithin (2 ^ 100) a
+  pub within-b : IsWithin (2 ^ 100) b
+  pub within-c : IsWithin (2 ^ 100) c
+  pub within-d : IsWithin (2 ^ 100) d
+  pub meets-a : (z : List ℤ) → length z ≡ n → Meets z a ↔ (least t chunk block (across n columns z) k ≤ℤ counter (across n columns z) k)
+  pub meets-b : (z : List ℤ) → length z ≡ n → Meets z b ↔ (counter (across n columns z) k ≤ℤ greatest t chunk block (across n columns z) k)
+  pub meets-c : (z : List ℤ) → length z ≡ n → Meets z c ↔ (neg_ℤ (pos (2 ^ 59)) ≤ℤ counter z k)
+  pub meets-d : (z : List ℤ) → length z ≡ n → Meets z d ↔ (counter z k ≤ℤ pos (2 ^ 59))
+  pub alone-c : IsAlone k c
+  pub alone-d : IsAlone k d
+  pub side-c : pos 0 <ℤ coefficient c k
+  pub side-d : coefficient d k <ℤ pos 0
 
 below-suc : (k m : ℕ) → k < m + 1 → (k < m) ⊎ (k ≡ m)
 below-suc k m h = ⊎_elim (λ l. inl l) (λ l. inr (omega arith)) (cases_lt k m)
@@ -104,7 +104,7 @@ pub place-rows : (n : ℕ) (t : Table) (chunk : Chunk) (block : Block) (columns 
 place-rows n t chunk block columns k rows news a b c d deep old is e = subst (IsRowsTo n t chunk block columns (k + 1)) (sym e) all
   where
     has : (row : Row) → Has rows row → Contains (four rows a b c d) row
-    has row h = contains_from_has (four rows a b c d) row (four-left rows a b c d row h)
+    has row h = contains-from-has (four rows a b c d) row (four-left rows a b c d row h)
 
     boxed : (j : ℕ) → (j < k) ⊎ (j ≡ k) → IsBoxed j (four rows a b c d)
     boxed j (inl l) =
@@ -112,8 +112,8 @@ place-rows n t chunk block columns k rows news a b c d deep old is e = subst (Is
         record {
           lower = o.lower;
           upper = o.upper;
-          has_lower = has o.lower (has_from_contains rows o.lower o.has_lower);
-          has_upper = has o.upper (has_from_contains rows o.upper o.has_upper);
+          has_lower = has o.lower (has-from-contains rows o.lower o.has_lower);
+          has_upper = has o.upper (has-from-contains rows o.upper o.has_upper);
           alone_lower = o.alone_lower;
           alone_upper = o.alone_upper;
           side_lower = o.side_lower;
@@ -122,12 +122,12 @@ place-rows n t chunk block columns k rows news a b c d deep old is e = subst (Is
     boxed j (inr f) = subst (λ (i : ℕ). IsBoxed i (four rows a b c d)) (sym f) (record {
       lower = c;
       upper = d;
-      has_lower = contains_from_has (four rows a b c d) c (four-c rows a b c d);
-      has_upper = contains_from_has (four rows a b c d) d (four-d rows a b c d);
-      alone_lower = is.alone_c;
-      alone_upper = is.alone_d;
-      side_lower = is.side_c;
-      side_upper = is.side_d;
+      has_lower = contains-from-has (four rows a b c d) c (four-c rows a b c d);
+      has_upper = contains-from-has (four rows a b c d) d (four-d rows a b c d);
+      alone_lower = is.alone-c;
+      alone_upper = is.alone-d;
+      side_lower = is.side-c;
+      side_upper = is.side-d;
     })
 
     same : (z : List ℤ) → across n columns z ≡ across (depth t) columns z
@@ -136,27 +136,27 @@ place-rows n t chunk block columns k rows news a b c d deep old is e = subst (Is
     here : (z : List ℤ) → length z ≡ n → All (Meets z) (four rows a b c d) → LiesAt t chunk block columns z k
     here z long met = record {
       near = record {
-        low = (is.meets_c z long).0 (All_has (Meets z) (four rows a b c d) c met (four-c rows a b c d));
-        high = (is.meets_d z long).0 (All_has (Meets z) (four rows a b c d) d met (four-d rows a b c d));
+        low = (is.meets-c z long).0 (All-has (Meets z) (four rows a b c d) c met (four-c rows a b c d));
+        high = (is.meets-d z long).0 (All-has (Meets z) (four rows a b c d) d met (four-d rows a b c d));
       };
-      from = subst (λ (p : List ℤ). least t chunk block p k ≤ℤ counter p k) (same z) ((is.meets_a z long).0 (All_has (Meets z) (four rows a b c d) a met (four-a rows a b c d)));
-      to = subst (λ (p : List ℤ). counter p k ≤ℤ greatest t chunk block p k) (same z) ((is.meets_b z long).0 (All_has (Meets z) (four rows a b c d) b met (four-b rows a b c d)));
+      from = subst (λ (p : List ℤ). least t chunk block p k ≤ℤ counter p k) (same z) ((is.meets-a z long).0 (All-has (Meets z) (four rows a b c d) a met (four-a rows a b c d)));
+      to = subst (λ (p : List ℤ). counter p k ≤ℤ greatest t chunk block p k) (same z) ((is.meets-b z long).0 (All-has (Meets z) (four rows a b c d) b met (four-b rows a b c d)));
     }
 
     all : IsRowsTo n t chunk block columns (k + 1) (four rows a b c d)
     all = record {
-      over = four-all rows a b c d (λ (row : Row). variables row ≡ n) old.over is.over_a is.over_b is.over_c is.over_d;
-      within = four-all rows a b c d (IsWithin (2 ^ 100)) old.within is.within_a is.within_b is.within_c is.within_d;
+      over = four-all rows a b c d (λ (row : Row). variables row ≡ n) old.over is.over-a is.over-b is.over-c is.over-d;
+      within = four-all rows a b c d (IsWithin (2 ^ 100)) old.within is.within-a is.within-b is.within-c is.within-d;
       meets = λ z long. (
-        λ met j l. ⊎_elim (λ m. (old.meets z long).0 (All_from (Meets z) rows (λ row h. All_has (Meets z) (four rows a b c d) row met (four-left rows a b c d row h))) j m)
+        λ met j l. ⊎_elim (λ m. (old.meets z long).0 (All-from (Meets z) rows (λ row h. All-has (Meets z) (four rows a b c d) row met (four-left rows a b c d row h))) j m)
             (λ f. subst (LiesAt t chunk block columns z) (sym f) (here z long met)) (below-suc j k l),
         λ lies.
             let at = lies k (omega arith) in
             four-all rows a b c d (Meets z) ((old.meets z long).1 (λ j l. lies j (omega arith)))
-            ((is.meets_a z long).1 (subst (λ (p : List ℤ). least t chunk block p k ≤ℤ counter p k) (sym (same z)) at.from))
-            ((is.meets_b z long).1 (subst (λ (p : List ℤ). counter p k ≤ℤ greatest t chunk block p k) (sym (same z)) at.to))
-            ((is.meets_c z long).1 at.near.low)
-            ((is.meets_d z long).1 at.near.high),
+            ((is.meets-a z long).1 (subst (λ (p : List ℤ). least t chunk block p k ≤ℤ counter p k) (sym (same z)) at.from))
+            ((is.meets-b z long).1 (subst (λ (p : List ℤ). counter p k ≤ℤ greatest t chunk block p k) (sym (same z)) at.to))
+            ((is.meets-c z long).1 at.near.low)
+            ((is.meets-d z long).1 at.near.high),
       );
       boxed = λ j l. boxed j (below-suc j k l);
     }

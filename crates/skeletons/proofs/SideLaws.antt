@@ -11,14 +11,14 @@ use Rattle.affine.specs.Inverses.{across, IsSquare}
 use Rattle.affine.proofs.SumLemmas.{abs-dot}
 use Rattle.affine.proofs.MovedSumLaws.{dot-set}
 use Rattle.affine.proofs.PlaceLaws.{form_over_places}
-use Rattle.plain_lemmas.proofs.MembershipLaws.{All_from, All_has, all_has, map_has}
+use Rattle.plain_lemmas.proofs.MembershipLaws.{All-from, All-has, all_has, map-has}
 use Rattle.plain_lemmas.proofs.IntegerLaws.{neg_ℤ-*ℤ, one-*ℤ}
 use Rattle.domain.specs.Tables.{Table, cut, depth, form_or_zero, level_at, trip}
 use Rattle.domain.proofs.PointLaws.{dot-zeros}
 use Rattle.domain.specs.Instances.{counter}
 use Rattle.affine.specs.Rows.{Meets, row_of, sum_at}
 use Rattle.affine.specs.declared.row.Row.{Row}
-use Rattle.plain_lemmas.proofs.ListLaws.{get_or-replicate_default}
+use Rattle.plain_lemmas.proofs.ListLaws.{get_or-replicate-default}
 use Rattle.std.specs.Prelude.{◌↔◌}
 use Rattle.fourier_motzkin.specs.RowSets.{IsWithin}
 use Rattle.skeletons.specs.Places.{IsNarrow, cut_less, flat, less_place, trip_less, turned}
@@ -48,11 +48,11 @@ less-value k side p inside here =
     let e = dot-set side.coef p k (get_or side.coef k (pos 0) -ℤ pos 1) inside here in
     sums (dot side.coef p) side.cst (get_or side.coef k (pos 0)) (counter p k) (dot (set side.coef k (get_or side.coef k (pos 0) -ℤ pos 1)) p) e
   where
-    minus_one : (d y : ℤ) → d ≡ neg_ℤ (pos 1) → d *ℤ y ≡ neg_ℤ y
-    minus_one d y e = ap (λ (z : ℤ). z *ℤ y) e ∙ neg_ℤ-*ℤ (pos 1) y ∙ ap neg_ℤ (one-*ℤ y)
+    minus-one : (d y : ℤ) → d ≡ neg_ℤ (pos 1) → d *ℤ y ≡ neg_ℤ y
+    minus-one d y e = ap (λ (z : ℤ). z *ℤ y) e ∙ neg_ℤ-*ℤ (pos 1) y ∙ ap neg_ℤ (one-*ℤ y)
 
     sums : (a c w y s : ℤ) → s ≡ a +ℤ ((w -ℤ pos 1) -ℤ w) *ℤ y → s +ℤ c ≡ (a +ℤ c) -ℤ y
-    sums a c w y s e = let m = minus_one ((w -ℤ pos 1) -ℤ w) y (omega (arith, ints)) in omega (arith, ints, m, e)
+    sums a c w y s e = let m = minus-one ((w -ℤ pos 1) -ℤ w) y (omega (arith, ints)) in omega (arith, ints, m, e)
 
 dot-turned : (xs ys : List ℤ) → dot (map (λ number. neg_ℤ number) xs) ys ≡ neg_ℤ (dot xs ys)
 dot-turned [] ys = refl
@@ -84,7 +84,7 @@ set-small most (x ∷ xs) (suc k) v h small =
     All-cons (λ x. unsigned_abs x ≤ most) x (set xs k v) (All-head (λ x. unsigned_abs x ≤ most) x xs h) (set-small most xs k v (All-tail (λ x. unsigned_abs x ≤ most) x xs h) small)
 
 pub wider : (least most : ℕ) (xs : List ℤ) → least ≤ most → AllWithinSize least xs → AllWithinSize most xs
-wider least most xs le h = All_from (λ x. unsigned_abs x ≤ most) xs (λ x has. let a = All_has (λ x. unsigned_abs x ≤ least) xs x h has in omega (arith, a))
+wider least most xs le h = All-from (λ x. unsigned_abs x ≤ most) xs (λ x has. let a = All-has (λ x. unsigned_abs x ≤ least) xs x h has in omega (arith, a))
 
 pub flat-narrow : (n : ℕ) (number : ℤ) → unsigned_abs number ≤ 2 ^ 80 → IsNarrow (2 ^ 40) (flat n number)
 flat-narrow n number h = record { coef = zeros-small n (2 ^ 40); cst = h }
@@ -97,9 +97,9 @@ less-narrow k side small h = record { coef = set-small (2 ^ 41) side.coef k (get
 
 pub turned-narrow : (side : Affine) → IsNarrow (2 ^ 41) side → IsNarrow (2 ^ 41) (turned side)
 turned-narrow side h = record {
-  coef = All_from (λ x. unsigned_abs x ≤ 2 ^ 41) (map (λ number. neg_ℤ number) side.coef) (λ v has.
-      let (x, there, is) = map_has (λ number. neg_ℤ number) side.coef v has in
-      let a = All_has (λ x. unsigned_abs x ≤ 2 ^ 41) side.coef x h.coef there in
+  coef = All-from (λ x. unsigned_abs x ≤ 2 ^ 41) (map (λ number. neg_ℤ number) side.coef) (λ v has.
+      let (x, there, is) = map-has (λ number. neg_ℤ number) side.coef v has in
+      let a = All-has (λ x. unsigned_abs x ≤ 2 ^ 41) side.coef x h.coef there in
       omega (arith, ints, a, is));
   cst = let a = h.cst in omega (arith, ints, a);
 }
@@ -108,9 +108,9 @@ turned-narrow side h = record {
 
 pub product-small : (columns : List (List ℤ)) (coef : List ℤ) (n : ℕ) → n < 7 → IsSquare n columns → HasSmallEntries columns → AllWithinSize (2 ^ 41) coef → All (λ number. unsigned_abs number ≤ 2 ^ 100) (product columns coef)
 product-small columns coef n few square small narrow =
-    All_from (λ number. unsigned_abs number ≤ 2 ^ 100) (product columns coef) (λ v h.
-    let (column, has, is) = map_has (λ column. dot column coef) columns v h in
-    let a = abs-dot column coef (2 ^ 20) (2 ^ 41) (All_has (AllWithinSize (2 ^ 20)) columns column small has) narrow in
+    All-from (λ number. unsigned_abs number ≤ 2 ^ 100) (product columns coef) (λ v h.
+    let (column, has, is) = map-has (λ column. dot column coef) columns v h in
+    let a = abs-dot column coef (2 ^ 20) (2 ^ 41) (All-has (AllWithinSize (2 ^ 20)) columns column small has) narrow in
     let l : length column ≡ n = all_has (λ (c : List ℤ). length c ≡ n) columns column square.long has in
     let m = few-times (length column) n l few in
     subst (λ (z : ℤ). unsigned_abs z ≤ 2 ^ 100) (sym is) (omega (arith, a, m)))
@@ -135,15 +135,15 @@ row-value n columns coef items place cst e square size long =
 pub length-less : (k : ℕ) (side : Affine) → length (less_place k side).coef ≡ length side.coef
 length-less k side = length-set side.coef k (get_or side.coef k (pos 0) -ℤ pos 1)
 
-length-map_neg : (xs : List ℤ) → length (map (λ number. neg_ℤ number) xs) ≡ length xs
-length-map_neg [] = refl
-length-map_neg (x ∷ xs) = ap suc (length-map_neg xs)
+length-map-neg : (xs : List ℤ) → length (map (λ number. neg_ℤ number) xs) ≡ length xs
+length-map-neg [] = refl
+length-map-neg (x ∷ xs) = ap suc (length-map-neg xs)
 
 one_less-small : (x : ℤ) → unsigned_abs x ≤ 2 ^ 40 → unsigned_abs (x -ℤ pos 1) ≤ 2 ^ 41
 one_less-small x h = omega (arith, ints, h)
 
-pub less-narrow_at : (k : ℕ) (side : Affine) → k < length side.coef → IsNarrow (2 ^ 40) side → IsNarrow (2 ^ 41) (less_place k side)
-less-narrow_at k side inside h = less-narrow k side (one_less-small (get_or side.coef k (pos 0)) (h.coef k (pos 0) inside)) h
+pub less-narrow-at : (k : ℕ) (side : Affine) → k < length side.coef → IsNarrow (2 ^ 40) side → IsNarrow (2 ^ 41) (less_place k side)
+less-narrow-at k side inside h = less-narrow k side (one_less-small (get_or side.coef k (pos 0)) (h.coef k (pos 0) inside)) h
 
 pub below-meets : (k : ℕ) (row : Row) (side : Affine) (p z : List ℤ) → k < length side.coef → k < length p → sum_at row z ≡ value_at (less_place k side) p → Meets z row ↔ (counter p k ≤ℤ value_at side p)
 below-meets k row side p z inside here e =
@@ -157,23 +157,23 @@ above-meets k row side p z inside here e =
     (λ h. omega (arith, ints, e, f, g, h), λ h. omega (arith, ints, e, f, g, h))
 
 get_or-zeros : (n k : ℕ) → get_or (replicate n (pos 0)) k (pos 0) ≡ pos 0
-get_or-zeros n k = get_or-replicate_default n k (pos 0)
+get_or-zeros n k = get_or-replicate-default n k (pos 0)
 
-pub flat-less_at : (n k j : ℕ) (c : ℤ) → k < n → (j ≡ k → ⊥) → get_or (less_place k (flat n c)).coef j (pos 0) ≡ pos 0
-flat-less_at n k j c inside ne = rw get_or-set_other (get_or-zeros n j)
+pub flat-less-at : (n k j : ℕ) (c : ℤ) → k < n → (j ≡ k → ⊥) → get_or (less_place k (flat n c)).coef j (pos 0) ≡ pos 0
+flat-less-at n k j c inside ne = rw get_or-set_other (get_or-zeros n j)
 
-pub flat-less_here : (n k : ℕ) (c : ℤ) → k < n → get_or (less_place k (flat n c)).coef k (pos 0) ≡ neg_ℤ (pos 1)
-flat-less_here n k c inside =
+pub flat-less-here : (n k : ℕ) (c : ℤ) → k < n → get_or (less_place k (flat n c)).coef k (pos 0) ≡ neg_ℤ (pos 1)
+flat-less-here n k c inside =
     get_or-set_same (replicate n (pos 0)) k (get_or (replicate n (pos 0)) k (pos 0) -ℤ pos 1) (pos 0) (let l = length-replicate n (pos 0) in omega (arith, l))
     ∙ (let e = get_or-zeros n k in omega (arith, ints, e))
 
-get_or-map_neg : (xs : List ℤ) (k : ℕ) → get_or (map (λ number. neg_ℤ number) xs) k (pos 0) ≡ neg_ℤ (get_or xs k (pos 0))
-get_or-map_neg [] k = refl
-get_or-map_neg (x ∷ xs) zero = refl
-get_or-map_neg (x ∷ xs) (suc k) = get_or-map_neg xs k
+get_or-map-neg : (xs : List ℤ) (k : ℕ) → get_or (map (λ number. neg_ℤ number) xs) k (pos 0) ≡ neg_ℤ (get_or xs k (pos 0))
+get_or-map-neg [] k = refl
+get_or-map-neg (x ∷ xs) zero = refl
+get_or-map-neg (x ∷ xs) (suc k) = get_or-map-neg xs k
 
 pub turned-at : (side : Affine) (k : ℕ) → get_or (turned side).coef k (pos 0) ≡ neg_ℤ (get_or side.coef k (pos 0))
-turned-at side k = get_or-map_neg side.coef k
+turned-at side k = get_or-map-neg side.coef k
 
 -- ---- the box
 
@@ -191,7 +191,7 @@ box_above-meets n k row c z inside long e =
     (λ h. omega (arith, ints, m, g, h), λ h. omega (arith, ints, m, g, h))
 
 pub turned-alone : (n k j : ℕ) (c : ℤ) → k < n → (j ≡ k → ⊥) → get_or (turned (less_place k (flat n c))).coef j (pos 0) ≡ pos 0
-turned-alone n k j c inside ne = turned-at (less_place k (flat n c)) j ∙ ap neg_ℤ (flat-less_at n k j c inside ne)
+turned-alone n k j c inside ne = turned-at (less_place k (flat n c)) j ∙ ap neg_ℤ (flat-less-at n k j c inside ne)
 
 pub turned-side : (n k : ℕ) (c : ℤ) → k < n → get_or (turned (less_place k (flat n c))).coef k (pos 0) ≡ pos 1
-turned-side n k c inside = turned-at (less_place k (flat n c)) k ∙ ap neg_ℤ (flat-less_here n k c inside)
+turned-side n k c inside = turned-at (less_place k (flat n c)) k ∙ ap neg_ℤ (flat-less-here n k c inside)

@@ -13,7 +13,7 @@ use Rattle.fourier_motzkin.specs.Elimination.{judged}
 use Rattle.fourier_motzkin.specs.Verdicts.{Bounds, bounds_of, verdict_of}
 use Rattle.fourier_motzkin.specs.declared.verdicts.Ruling.TheVariants.{Empty, Maybe}
 use Rattle.fourier_motzkin.proofs.MaybeLaws.{bounded_levels_close}
-use Rattle.fourier_motzkin.proofs.Points.{verdict_unmet}
+use Rattle.fourier_motzkin.proofs.Points.{verdict-unmet}
 use Rattle.fourier_motzkin.proofs.EliminationRunLaws.{length-levels}
 use Rattle.domain.specs.Tables.{Block, Table, block_at, IsTable}
 use Rattle.domain.specs.Instances.{counter, padded}
@@ -28,14 +28,14 @@ use Rattle.skeletons.specs.Places.{Lies}
 use Rattle.skeletons.specs.Scans.{IsNear, IsRowsTo}
 use Rattle.domain.specs.declared.chunk.Chunk.{Chunk}
 use Rattle.fourier_motzkin.specs.Elimination.{AllOver}
-use Rattle.skeletons.proofs.BlockLaws.{length-padded, lie_points, points_lie}
+use Rattle.skeletons.proofs.BlockLaws.{length-padded, lie-points, points-lie}
 use Rattle.skeletons.proofs.FrameLaws.{product-transposed}
-use Rattle.skeletons.proofs.ListLaws.{near-places_of}
+use Rattle.skeletons.proofs.ListLaws.{near-places-of}
 use Rattle.skeletons.proofs.BoxLaws.{length-place}
 
 module _ (n : ℕ) (e : Extent) (few : n ≤ 6) (table : IsTable n e.table) (schedule : IsSchedule n e.schedule) (launch : IsLaunch e.table e.chunk) (columns : List (List ℤ)) (inverse : IsInverse n (matrix e.schedule) columns) where
-  pub there_of : (p : List ℤ) → length p ≡ n → product (transposed n columns) (place e.schedule p) ≡ p
-  there_of p long =
+  pub there-of : (p : List ℤ) → length p ≡ n → product (transposed n columns) (place e.schedule p) ≡ p
+  there-of p long =
       product-transposed n columns (place e.schedule p) inverse.columns_square (length-place n e.schedule schedule p)
       ∙ ap (across n columns) (place-product e.schedule p) ∙ inverse.there p long
 
@@ -48,7 +48,7 @@ module _ (n : ℕ) (e : Extent) (few : n ≤ 6) (table : IsTable n e.table) (sch
         let lies = (is.meets z long).0 met in
         let p = across (length e.table.levels) columns z in
         let size : length p ≡ n = ap length (deep-across z) ∙ length-across n columns z inverse.columns_square.long in
-        let point = lie_points n e.table table e.chunk launch rank p inside size (λ k l. let d = table.deep in let at = lies k (omega (arith, l, d)) in (at.from, at.to)) in
+        let point = lie-points n e.table table e.chunk launch rank p inside size (λ k l. let d = table.deep in let at = lies k (omega (arith, l, d)) in (at.from, at.to)) in
         record {
           at = point.at;
           predicted = point.predicted;
@@ -59,12 +59,12 @@ module _ (n : ℕ) (e : Extent) (few : n ≤ 6) (table : IsTable n e.table) (sch
         let q = padded e.table h.at in
         let same : across (length e.table.levels) columns z ≡ q =
         deep-across z ∙ ap (across n columns) (sym h.there ∙ place-product e.schedule q) ∙ inverse.there q (length-padded e.table h.at ∙ table.deep) in
-        let lies = subst (λ (r : ℕ). Lies e.table e.chunk (block_at e.table r) q) h.block (points_lie n e.table table e.chunk launch h.at h.predicted) in
+        let lies = subst (λ (r : ℕ). Lies e.table e.chunk (block_at e.table r) q) h.block (points-lie n e.table table e.chunk launch h.at h.predicted) in
         let moved = subst (λ (p : List ℤ). Lies e.table e.chunk (block_at e.table rank) p) (sym same) lies in
         (is.meets z long).1 (λ k l.
         let both = moved k (let d = table.deep in omega (arith, l, d)) in
         record {
-          near = subst (λ (w : List ℤ). IsNear (counter w k)) h.there (near-places_of n e few table schedule launch h.at h.predicted k l);
+          near = subst (λ (w : List ℤ). IsNear (counter w k)) h.there (near-places-of n e few table schedule launch h.at h.predicted k l);
           from = both.0;
           to = both.1;
         }),
@@ -98,10 +98,10 @@ scanning n t chunk b columns scan block some few rows is maybe = record {
     size : length block.scan.levels ≡ n
     size = ap (λ (v : Bounds). length v.levels) is ∙ length-bounds n block.rows.items
 
-pub nothing_found : (n : ℕ) (e : Extent) (rank : ℕ) (rows : List Row) (scan : Bounds) → AllOver n rows → scan ≡ bounds_of n rows → scan.verdict ≡ Empty
+pub nothing-found : (n : ℕ) (e : Extent) (rank : ℕ) (rows : List Row) (scan : Bounds) → AllOver n rows → scan ≡ bounds_of n rows → scan.verdict ≡ Empty
     → ((z : List ℤ) → length z ≡ n → All (Meets z) rows ↔ IsPlaceOf e rank z) → ((z : List ℤ) → IsPlaceOf e rank z → length z ≡ n) → (z : List ℤ) → IsPlaceOf e rank z → ⊥
-nothing_found n e rank rows scan over is empty finds long z h =
-    verdict_unmet n rows z over (sym (verdict-is n rows) ∙ ap (λ (v : Bounds). v.verdict) (sym is) ∙ empty) ((finds z (long z h)).1 h)
+nothing-found n e rank rows scan over is empty finds long z h =
+    verdict-unmet n rows z over (sym (verdict-is n rows) ∙ ap (λ (v : Bounds). v.verdict) (sym is) ∙ empty) ((finds z (long z h)).1 h)
 
 -- ---- one block more
 

@@ -12,11 +12,11 @@ use Rattle.std.proofs.lemmas.List.Sorted.{Contains-permutation, IsPermutation-sy
 use Rattle.plain_lemmas.proofs.OrderLaws.{slice_cmp-exact}
 use Rattle.arrayvec.specs.ArrayVec.{ArrayVec}
 use Rattle.orders.specs.Orders.{Has, Ordered}
-use Rattle.orders.proofs.Lists.{contains_from_has, has_from_contains}
+use Rattle.orders.proofs.Lists.{contains-from-has, has-from-contains}
 use Rattle.level_walk.specs.Orders.{Precedes}
 use Rattle.skeletons.specs.PlaceLists.{numbers}
 use Rattle.skeletons.proofs.CellListLaws.{equivalence-of, ordered-sorted}
-use Rattle.skeletons.proofs.ListLaws.{has_map, map_has, ordered_map}
+use Rattle.skeletons.proofs.ListLaws.{has-map, map-has, ordered-map}
 
 -- points compare as their numbers do
 abbrev pub point_cmp : ArrayVec ℤ → ArrayVec ℤ → Ordering
@@ -33,26 +33,26 @@ equal-is Greater h = absurd (let w : false ≡ true = h in cc)
 point-exact : (p q : ArrayVec ℤ) → point_cmp p q ≡ Equal → p ≡ q
 point-exact p q h = at p.items q.items (slice_cmp-exact p.items q.items h)
   where
-    point_of : List ℤ → ArrayVec ℤ
-    point_of xs = record { items = xs }
+    point-of : List ℤ → ArrayVec ℤ
+    point-of xs = record { items = xs }
 
-    at : (xs ys : List ℤ) → xs ≡ ys → point_of xs ≡ point_of ys
-    at xs ys e = ap point_of e
+    at : (xs ys : List ℤ) → xs ≡ ys → point-of xs ≡ point-of ys
+    at xs ys e = ap point-of e
 
 module _ (same : ArrayVec ℤ → ArrayVec ℤ → Bool) (ties : (p q : ArrayVec ℤ) → same p q ≡ eq_by_cmp point_cmp p q) where
   pub dedup-ordered : (ps : List (ArrayVec ℤ)) → IsSorted point_cmp ps → Ordered Precedes (numbers (dedup same ps))
-  dedup-ordered ps sorted = ordered_map (λ (p : ArrayVec ℤ). p.items) (λ p q. point_cmp p q ≡ Less) Precedes (dedup same ps) (λ p q k l h. h)
+  dedup-ordered ps sorted = ordered-map (λ (p : ArrayVec ℤ). p.items) (λ p q. point_cmp p q ≡ Less) Precedes (dedup same ps) (λ p q k l h. h)
       (ordered-sorted point_cmp (dedup same ps) (IsStrictlySortedBy-dedup point-total ties ps sorted))
 
   pub dedup-has : (ps qs : List (ArrayVec ℤ)) → IsPermutation ps qs → (z : List ℤ) → Has (numbers (dedup same qs)) z ↔ Has (numbers ps) z
   dedup-has ps qs moved z = (
-    moves (dedup same qs) ps (λ p h. has_from_contains ps p (Contains-permutation qs ps p (IsPermutation-sym ps qs moved) (Contains-from_dedup same qs p (contains_from_has (dedup same qs) p h)))),
-    moves ps (dedup same qs) (λ p h. has_from_contains (dedup same qs) p (Contains-dedup (equivalence-of same point_cmp point-total ties) (λ x y e. point-exact x y (equal-is (point_cmp x y) (sym (ties x y) ∙ e))) qs p
-        (Contains-permutation ps qs p moved (contains_from_has ps p h)))),
+    moves (dedup same qs) ps (λ p h. has-from-contains ps p (Contains-permutation qs ps p (IsPermutation-sym ps qs moved) (Contains-from_dedup same qs p (contains-from-has (dedup same qs) p h)))),
+    moves ps (dedup same qs) (λ p h. has-from-contains (dedup same qs) p (Contains-dedup (equivalence-of same point_cmp point-total ties) (λ x y e. point-exact x y (equal-is (point_cmp x y) (sym (ties x y) ∙ e))) qs p
+        (Contains-permutation ps qs p moved (contains-from-has ps p h)))),
   )
     where
       moves : (xs ys : List (ArrayVec ℤ)) → ((p : ArrayVec ℤ) → Has xs p → Has ys p) → Has (numbers xs) z → Has (numbers ys) z
-      moves xs ys f h = let (p, there, e) = map_has (λ (p : ArrayVec ℤ). p.items) xs z h in subst (Has (numbers ys)) (sym e) (has_map (λ (p : ArrayVec ℤ). p.items) ys p (f p there))
+      moves xs ys f h = let (p, there, e) = map-has (λ (p : ArrayVec ℤ). p.items) xs z h in subst (Has (numbers ys)) (sym e) (has-map (λ (p : ArrayVec ℤ). p.items) ys p (f p there))
 
 pub as-long : (n : ℕ) (ps : List (ArrayVec ℤ)) → ((z : List ℤ) → Has (numbers ps) z → length z ≡ n) → AllByRecursion (λ (p : ArrayVec ℤ). length p.items ≡ n) ps
 as-long n [] h = tt

@@ -6,7 +6,7 @@ use Rattle.std.proofs.lemmas.List.{length-map}
 use Rattle.std.proofs.lemmas.List.FromFn.{length-range_with_len}
 use Rattle.std.proofs.lemmas.List.Sums.{sum_by-cons}
 use Rattle.orders.specs.Orders.{Has, Ordered, Differ}
-use Rattle.orders.proofs.Lists.{all_from, all_has, has_left, has_right, has_cases, has_split, contains_from_has, has_from_contains, ordered_append, ordered_weaker}
+use Rattle.orders.proofs.Lists.{all-from, all_has, has-left, has-right, has-cases, has-split, contains-from-has, has-from-contains, ordered-append, ordered-weaker}
 use Rattle.domain.specs.Tables.{IsTable, depth}
 use Rattle.domain.specs.Instances.{Instance, Precedes, original_key, padded}
 use Rattle.domain.specs.Instances.{Ordered as InOrder}
@@ -20,67 +20,67 @@ use Rattle.tiles.proofs.RunLaws.{run-alone, run-lies, run_at, run_of}
 -- ---- lists without an element twice
 
 module _ {X Y : Type 0} where
-  pub has_map : (f : X → Y) (xs : List X) (x : X) → Has xs x → Has (map f xs) (f x)
-  has_map f [] x h = absurd h
-  has_map f (y ∷ ys) x (inl e) = inl (ap f e)
-  has_map f (y ∷ ys) x (inr h) = inr (has_map f ys x h)
+  pub has-map : (f : X → Y) (xs : List X) (x : X) → Has xs x → Has (map f xs) (f x)
+  has-map f [] x h = absurd h
+  has-map f (y ∷ ys) x (inl e) = inl (ap f e)
+  has-map f (y ∷ ys) x (inr h) = inr (has-map f ys x h)
 
-  pub map_has : (f : X → Y) (xs : List X) (z : Y) → Has (map f xs) z → (x : X) × Has xs x × (z ≡ f x)
-  map_has f [] z h = absurd h
-  map_has f (y ∷ ys) z (inl e) = (y, inl refl, e)
-  map_has f (y ∷ ys) z (inr h) = let (x, k, is) = map_has f ys z h in (x, inr k, is)
+  pub map-has : (f : X → Y) (xs : List X) (z : Y) → Has (map f xs) z → (x : X) × Has xs x × (z ≡ f x)
+  map-has f [] z h = absurd h
+  map-has f (y ∷ ys) z (inl e) = (y, inl refl, e)
+  map-has f (y ∷ ys) z (inr h) = let (x, k, is) = map-has f ys z h in (x, inr k, is)
 
-  pub has_flat_map : (f : X → List Y) (xs : List X) (x : X) (z : Y) → Has xs x → Has (f x) z → Has (flat_map f xs) z
-  has_flat_map f [] x z h k = absurd h
-  has_flat_map f (y ∷ ys) x z (inl e) k = has_left (f y) (flat_map f ys) z (subst (λ v. Has (f v) z) e k)
-  has_flat_map f (y ∷ ys) x z (inr h) k = has_right (f y) (flat_map f ys) z (has_flat_map f ys x z h k)
+  pub has-flat-map : (f : X → List Y) (xs : List X) (x : X) (z : Y) → Has xs x → Has (f x) z → Has (flat_map f xs) z
+  has-flat-map f [] x z h k = absurd h
+  has-flat-map f (y ∷ ys) x z (inl e) k = has-left (f y) (flat_map f ys) z (subst (λ v. Has (f v) z) e k)
+  has-flat-map f (y ∷ ys) x z (inr h) k = has-right (f y) (flat_map f ys) z (has-flat-map f ys x z h k)
 
-  pub flat_map_has : (f : X → List Y) (xs : List X) (z : Y) → Has (flat_map f xs) z → (x : X) × Has xs x × Has (f x) z
-  flat_map_has f [] z h = absurd h
-  flat_map_has f (y ∷ ys) z h =
-      ⊎_elim (λ k. (y, inl refl, k)) (λ k. let (x, m, is) = flat_map_has f ys z k in (x, inr m, is)) (has_cases (f y) (flat_map f ys) z h)
+  pub flat-map-has : (f : X → List Y) (xs : List X) (z : Y) → Has (flat_map f xs) z → (x : X) × Has xs x × Has (f x) z
+  flat-map-has f [] z h = absurd h
+  flat-map-has f (y ∷ ys) z h =
+      ⊎_elim (λ k. (y, inl refl, k)) (λ k. let (x, m, is) = flat-map-has f ys z k in (x, inr m, is)) (has-cases (f y) (flat_map f ys) z h)
 
   -- lists that share no element, each without an element twice
   differ-flat_map : (f : X → List Y) (R : X → X → Type 0) (xs : List X) → Ordered R xs → ((x : X) → Has xs x → Ordered Differ (f x))
       → ((x y : X) → Has xs x → Has xs y → R x y → (u : Y) → Has (f x) u → Has (f y) u → ⊥) → Ordered Differ (flat_map f xs)
   differ-flat_map f R [] ord each apart = tt
-  differ-flat_map f R (x ∷ xs) ord each apart = ordered_append Differ (f x) (flat_map f xs) (each x (inl refl))
+  differ-flat_map f R (x ∷ xs) ord each apart = ordered-append Differ (f x) (flat_map f xs) (each x (inl refl))
       (differ-flat_map f R xs ord.1 (λ y h. each y (inr h)) (λ y z h k. apart y z (inr h) (inr k)))
       (λ u v h k e.
-      let (y, there, at) = flat_map_has f xs v k in
+      let (y, there, at) = flat-map-has f xs v k in
       apart x y (inl refl) (inr there) (all_has (R x) xs y ord.0 there) v (subst (Has (f x)) e h) at)
 
-pub has_range : (n first k : ℕ) → first ≤ k → k < first + n → Has (range_with_len first n) k
-has_range zero first k from to = absurd (omega arith)
-has_range (suc n) first k from to = ⊎_elim (λ l. inr (has_range n (first + 1) k (omega arith) (omega arith))) (λ l. inl (omega arith)) (Rattle.std.proofs.lemmas.Bool.cases_lt first k)
+pub has-range : (n first k : ℕ) → first ≤ k → k < first + n → Has (range_with_len first n) k
+has-range zero first k from to = absurd (omega arith)
+has-range (suc n) first k from to = ⊎_elim (λ l. inr (has-range n (first + 1) k (omega arith) (omega arith))) (λ l. inl (omega arith)) (Rattle.std.proofs.lemmas.Bool.cases_lt first k)
 
-pub range_has : (n first k : ℕ) → Has (range_with_len first n) k → (first ≤ k) × (k < first + n)
-range_has zero first k h = absurd h
-range_has (suc n) first k (inl e) = (omega arith, omega arith)
-range_has (suc n) first k (inr h) = let (from, to) = range_has n (first + 1) k h in (omega arith, omega arith)
+pub range-has : (n first k : ℕ) → Has (range_with_len first n) k → (first ≤ k) × (k < first + n)
+range-has zero first k h = absurd h
+range-has (suc n) first k (inl e) = (omega arith, omega arith)
+range-has (suc n) first k (inr h) = let (from, to) = range-has n (first + 1) k h in (omega arith, omega arith)
 
-differ-map_range : {X : Type 0} (f : ℕ → X) (n first : ℕ) → ((k l : ℕ) → first ≤ k → k < l → l < first + n → f k ≡ f l → ⊥) → Ordered Differ (map f (range_with_len first n))
-differ-map_range f zero first apart = tt
-differ-map_range {X} f (suc n) first apart = (
-  all_from (Differ (f first)) (map f (range_with_len (first + 1) n)) (λ z h e.
-      let (l, there, at) = map_has f (range_with_len (first + 1) n) z h in
-      let (from, to) = range_has n (first + 1) l there in
+differ-map-range : {X : Type 0} (f : ℕ → X) (n first : ℕ) → ((k l : ℕ) → first ≤ k → k < l → l < first + n → f k ≡ f l → ⊥) → Ordered Differ (map f (range_with_len first n))
+differ-map-range f zero first apart = tt
+differ-map-range {X} f (suc n) first apart = (
+  all-from (Differ (f first)) (map f (range_with_len (first + 1) n)) (λ z h e.
+      let (l, there, at) = map-has f (range_with_len (first + 1) n) z h in
+      let (from, to) = range-has n (first + 1) l there in
       apart first l (omega arith) (omega arith) (omega arith) (e ∙ at)),
-  differ-map_range f n (first + 1) (λ k l from less to. apart k l (omega arith) less (omega arith)),
+  differ-map-range f n (first + 1) (λ k l from less to. apart k l (omega arith) less (omega arith)),
 )
 
 -- a list without an element twice has at most as many elements as one that has them all
-no_more : {X : Type 0} (xs ys : List X) → Ordered Differ ys → ((y : X) → Has ys y → Has xs y) → length ys ≤ length xs
-no_more xs [] ord inside = omega arith
-no_more {X} xs (y ∷ ys) ord inside =
-    let (us, vs, is) = has_split xs y (inside y (inl refl)) in
-    let rest = no_more (us ++ vs) ys ord.1 (λ z h. without us vs z (subst (λ (l : List X). Has l z) is (inside z (inr h))) (all_has (Differ y) ys z ord.0 h)) in
+no-more : {X : Type 0} (xs ys : List X) → Ordered Differ ys → ((y : X) → Has ys y → Has xs y) → length ys ≤ length xs
+no-more xs [] ord inside = omega arith
+no-more {X} xs (y ∷ ys) ord inside =
+    let (us, vs, is) = has-split xs y (inside y (inl refl)) in
+    let rest = no-more (us ++ vs) ys ord.1 (λ z h. without us vs z (subst (λ (l : List X). Has l z) is (inside z (inr h))) (all_has (Differ y) ys z ord.0 h)) in
     let size : length xs ≡ length us + suc (length vs) = ap length is ∙ length-append us (y ∷ vs) in
     let less : length (us ++ vs) ≡ length us + length vs = length-append us vs in
     omega (arith, rest, size, less)
   where
     without : (us vs : List X) (z : X) → Has (us ++ y ∷ vs) z → (y ≡ z → ⊥) → Has (us ++ vs) z
-    without us vs z h other = ⊎_elim (λ k. has_left us vs z k) (λ k. ⊎_elim (λ e. absurd (other (sym e))) (λ m. has_right us vs z m) k) (has_cases us (y ∷ vs) z h)
+    without us vs z h other = ⊎_elim (λ k. has-left us vs z k) (λ k. ⊎_elim (λ e. absurd (other (sym e))) (λ m. has-right us vs z m) k) (has-cases us (y ∷ vs) z h)
 
 -- ---- the instances of runs
 
@@ -119,26 +119,26 @@ module _ (e : Extent) (some : 1 ≤ depth e.table) (few : depth e.table ≤ 6) (
 
   in-run : (r : Run) (x : Instance) → Has (instances_of r) x → (k : ℕ) × (k < r.count) × (x ≡ run_at r k)
   in-run r x h =
-      let (k, there, at) = map_has (run_at r) (range_with_len 0 r.count) x h in
-      let (from, to) = range_has r.count 0 k there in
+      let (k, there, at) = map-has (run_at r) (range_with_len 0 r.count) x h in
+      let (from, to) = range-has r.count 0 k there in
       (k, omega arith, at)
 
   run-in : (r : Run) (k : ℕ) → k < r.count → Has (instances_of r) (run_at r k)
-  run-in r k below = has_map (run_at r) (range_with_len 0 r.count) k (has_range r.count 0 k (omega arith) (omega arith))
+  run-in r k below = has-map (run_at r) (range_with_len 0 r.count) k (has-range r.count 0 k (omega arith) (omega arith))
 
   in-cell : (cell : Cell) (runs : List Run) → HasRuns (depth e.table) e cell runs → (x : Instance) → Has (flat_map instances_of runs) x → LiesIn e cell x
   in-cell cell runs h x has =
-      let (r, there, inside) = flat_map_has instances_of runs x has in
+      let (r, there, inside) = flat-map-has instances_of runs x has in
       let (k, below, at) = in-run r x inside in
       subst (LiesIn e cell) (sym at) (run-lies (depth e.table) e some few table schedule launch h.direction h.last cell r k ((h.runs.has r).0 there) below)
 
   cell-in : (cell : Cell) (runs : List Run) → HasRuns (depth e.table) e cell runs → (x : Instance) → LiesIn e cell x → Has (flat_map instances_of runs) x
   cell-in cell runs h x lies =
       let found = run_of (depth e.table) e some few table schedule launch h.direction h.last cell x lies in
-      has_flat_map instances_of runs found.run x ((h.runs.has found.run).1 found.is) (subst (Has (instances_of found.run)) (sym found.at) (run-in found.run found.place found.below))
+      has-flat-map instances_of runs found.run x ((h.runs.has found.run).1 found.is) (subst (Has (instances_of found.run)) (sym found.at) (run-in found.run found.place found.below))
 
   run-differ : (cell : Cell) (direction : List ℤ) (runs : List Run) (last : Rattle.skeletons.specs.Runs.IsDirection (depth e.table) e.schedule direction) (r : Run) → IsRun e direction cell r → Ordered Differ (instances_of r)
-  run-differ cell direction runs last r is = differ-map_range (run_at r) r.count 0 (λ k l from less to same.
+  run-differ cell direction runs last r is = differ-map-range (run_at r) r.count 0 (λ k l from less to same.
       let at = (run-alone (depth e.table) e some few table schedule launch direction last cell r r k l is is (omega arith) (omega arith) same).1 in omega arith)
 
   cell-differ : (cell : Cell) (runs : List Run) → HasRuns (depth e.table) e cell runs → Ordered Differ (flat_map instances_of runs)
@@ -162,33 +162,33 @@ module _ (e : Extent) (some : 1 ≤ depth e.table) (few : depth e.table ≤ 6) (
   in-cells (cell ∷ cells) (rs ∷ runs) h x has = ⊎_elim
       (λ k. (cell, inl refl, in-cell cell rs h.0 x k))
       (λ k. let (c, there, lies) = in-cells cells runs h.1 x k in (c, inr there, lies))
-      (has_cases (flat_map instances_of rs) (instances_in runs) x has)
+      (has-cases (flat_map instances_of rs) (instances_in runs) x has)
 
   cells-in : (cells : List Cell) (runs : List (List Run)) → HaveRuns e cells runs → (cell : Cell) → Has cells cell → (x : Instance) → LiesIn e cell x → Has (instances_in runs) x
   cells-in [] runs h cell there x lies = absurd there
   cells-in (c ∷ cells) [] h cell there x lies = absurd h
-  cells-in (c ∷ cells) (rs ∷ runs) h cell (inl same) x lies = has_left (flat_map instances_of rs) (instances_in runs) x (cell-in c rs h.0 x (subst (λ (d : Cell). LiesIn e d x) same lies))
-  cells-in (c ∷ cells) (rs ∷ runs) h cell (inr there) x lies = has_right (flat_map instances_of rs) (instances_in runs) x (cells-in cells runs h.1 cell there x lies)
+  cells-in (c ∷ cells) (rs ∷ runs) h cell (inl same) x lies = has-left (flat_map instances_of rs) (instances_in runs) x (cell-in c rs h.0 x (subst (λ (d : Cell). LiesIn e d x) same lies))
+  cells-in (c ∷ cells) (rs ∷ runs) h cell (inr there) x lies = has-right (flat_map instances_of rs) (instances_in runs) x (cells-in cells runs h.1 cell there x lies)
 
   cells-differ : (cells : List Cell) (runs : List (List Run)) → Ordered CellComes cells → HaveRuns e cells runs → Ordered Differ (instances_in runs)
   cells-differ [] [] ord h = tt
   cells-differ [] (rs ∷ runs) ord h = absurd h
   cells-differ (cell ∷ cells) [] ord h = absurd h
-  cells-differ (cell ∷ cells) (rs ∷ runs) ord h = ordered_append Differ (flat_map instances_of rs) (instances_in runs) (cell-differ cell rs h.0) (cells-differ cells runs ord.1 h.1)
+  cells-differ (cell ∷ cells) (rs ∷ runs) ord h = ordered-append Differ (flat_map instances_of rs) (instances_in runs) (cell-differ cell rs h.0) (cells-differ cells runs ord.1 h.1)
       (λ x y inside other same.
       let (c, there, lies) = in-cells cells runs h.1 y other in
       let here : cell ≡ c = sym (in-cell cell rs h.0 x inside).inside ∙ ap (λ (z : Instance). cell_of e.schedule (padded e.table z)) same ∙ lies.inside in
       cell-itself cell (subst (CellComes cell) (sym here) (all_has (CellComes cell) cells c ord.0 there)))
 
   list-differ : Ordered Differ launch.launched.list
-  list-differ = ordered_weaker (Precedes e.table) Differ (λ x y comes same. instance-itself e.table x (subst (Precedes e.table x) (sym same) comes)) launch.launched.list (in-order (Precedes e.table) launch.launched.list launch.launched.original.ordered)
+  list-differ = ordered-weaker (Precedes e.table) Differ (λ x y comes same. instance-itself e.table x (subst (Precedes e.table x) (sym same) comes)) launch.launched.list (in-order (Precedes e.table) launch.launched.list launch.launched.original.ordered)
 
   -- the runs of some cells have at most the instances of the chunk
   pub count-most : (cells : List Cell) (runs : List (List Run)) → Ordered CellComes cells → HaveRuns e cells runs → counted runs ≤ launch.instances
   count-most cells runs ord h =
-      let most = no_more launch.launched.list (instances_in runs) (cells-differ cells runs ord h) (λ x has.
+      let most = no-more launch.launched.list (instances_in runs) (cells-differ cells runs ord h) (λ x has.
       let (cell, there, lies) = in-cells cells runs h x has in
-      has_from_contains launch.launched.list x ((launch.launched.original.has x).1 lies.predicted)) in
+      has-from-contains launch.launched.list x ((launch.launched.original.has x).1 lies.predicted)) in
       let size = length-all runs in let count = launch.launched.count in
       omega (arith, most, size, count)
 
@@ -196,8 +196,8 @@ module _ (e : Extent) (some : 1 ≤ depth e.table) (few : depth e.table ≤ 6) (
   pub count-all : (cells : List Cell) (runs : List (List Run)) → AreCellsOf e cells → HaveRuns e cells runs → counted runs ≡ launch.instances
   count-all cells runs are h =
       let most = count-most cells runs are.ordered h in
-      let all = no_more (instances_in runs) launch.launched.list list-differ (λ x has.
-      let p = (launch.launched.original.has x).0 (contains_from_has launch.launched.list x has) in
+      let all = no-more (instances_in runs) launch.launched.list list-differ (λ x has.
+      let p = (launch.launched.original.has x).0 (contains-from-has launch.launched.list x has) in
       let lies : LiesIn e (cell_of e.schedule (padded e.table x)) x = record { predicted = p; inside = refl } in
       cells-in cells runs h (cell_of e.schedule (padded e.table x)) ((are.has (cell_of e.schedule (padded e.table x))).1 (x, lies)) x lies) in
       let size = length-all runs in let count = launch.launched.count in

@@ -24,16 +24,16 @@ tube-count a is =
 
 -- an offset of a tube is at most 64 in size, and so is its number
 pub record IsOffset (low : ℤ) (place : ℕ) : Type 0 where
-  pub low_near : unsigned_abs low ≤ 64
-  pub place_near : place ≤ 64
+  pub low-near : unsigned_abs low ≤ 64
+  pub place-near : place ≤ 64
   pub near : unsigned_abs (low +ℤ pos place) ≤ 64
 
 pub tube-offset : (a : Access) (place : ℕ) → IsTube a.low a.high → place < offset_count a → IsOffset a.low place
 tube-offset a place is below =
     let low = is.below in let high = is.above in let width = is.width in let count = tube-count a is in
     record {
-      low_near = omega (arith, ints, low, high, width);
-      place_near = omega (arith, ints, low, high, width, count, below);
+      low-near = omega (arith, ints, low, high, width);
+      place-near = omega (arith, ints, low, high, width, count, below);
       near = omega (arith, ints, low, high, width, count, below);
     }
 

@@ -7,9 +7,9 @@ use Rattle.std.proofs.lemmas.List.{append_cancel_right, length-map, length-repli
 use Rattle.core_steps.specs.declared.plan.Tile.{Tile}
 use Rattle.core_steps.specs.Numbers.{has}
 use Rattle.core_steps.specs.Plans.{IsInside, IsSeparate, no_tile, touches_of, writes_of}
-use Rattle.core_steps.proofs.NumberLists.{has_cons}
+use Rattle.core_steps.proofs.NumberLists.{has-cons}
 use Rattle.orders.specs.Orders.{Has, Ordered}
-use Rattle.orders.proofs.Lists.{all_has, contains_from_has}
+use Rattle.orders.proofs.Lists.{all_has, contains-from-has}
 use Rattle.domain.specs.Tables.{IsTable}
 use Rattle.domain.specs.Instances.{Instance, padded}
 use Rattle.domain.specs.Footprints.{Conflict}
@@ -21,7 +21,7 @@ use Rattle.transform.specs.Schedules.{IsSchedule, Schedule, lead, tile, wave, wi
 use Rattle.skeletons.specs.Cells.{Cell, CellComes, Extent, LiesIn, cell_of}
 use Rattle.tiles.specs.Plans.{AreTilesOf, CellReads, CellWrites, IsOnePhase, IsPlannable, IsTileOf, Phase, phase_key}
 use Rattle.tiles.proofs.CountLaws.{cell-itself}
-use Rattle.tiles.proofs.GroupLaws.{key_apart}
+use Rattle.tiles.proofs.GroupLaws.{key-apart}
 use Rattle.tiles.proofs.StripLaws.{slice_get-has}
 
 -- ---- numbers of a cell
@@ -32,11 +32,11 @@ length-wide s p = length-append (lead s p) (replicate (length s.lines - s.seq) (
 -- ---- tiles of a plan
 
 has-contains : (a : ℕ) (xs : List ℕ) → has a xs ≡ true → Contains xs a
-has-contains a xs h = contains_from_has xs a (by xs h)
+has-contains a xs h = contains-from-has xs a (by xs h)
   where
     by : (xs : List ℕ) → has a xs ≡ true → Has xs a
     by [] h = absurd (true≢false (sym h))
-    by (x ∷ xs) h = ⊎_elim (λ e. inl e) (λ k. inr (by xs k)) (has_cons a x xs h)
+    by (x ∷ xs) h = ⊎_elim (λ e. inl e) (λ k. inr (by xs k)) (has-cons a x xs h)
 
 -- the cell of a tile that touches something
 pub record HasCell (e : Extent) (words : ℕ) (cells : List Cell) (k : ℕ) (t : Tile) : Type 0 where
@@ -90,7 +90,7 @@ module _ (n : ℕ) (e : Extent) (words : ℕ) (table : IsTable n e.table) (sched
       q = padded e.table y
 
       parts : (c.lead ≡ d.lead) × (c.wave ≡ d.wave)
-      parts = key_apart c d (ap (λ (z : Cell). length z.lead) (sym lies.inside) ∙ long ∙ ap (λ (z : Cell). length z.lead) there.inside) key
+      parts = key-apart c d (ap (λ (z : Cell). length z.lead) (sym lies.inside) ∙ long ∙ ap (λ (z : Cell). length z.lead) there.inside) key
         where
           long : length (wide_lead e.schedule p) ≡ length (wide_lead e.schedule q)
           long = length-wide e.schedule p ∙ sym (length-wide e.schedule q)

@@ -10,7 +10,7 @@ use Rattle.std.proofs.lemmas.List.Sums.{sum_by-cons}
 use Rattle.backup.specs.declared.stripe.Stripe.{Stripe}
 use Rattle.backup.specs.Stripes.{IsWithin, addresses_of, addresses_of_all}
 use Rattle.orders.specs.Orders.{Has, Ordered}
-use Rattle.orders.proofs.Lists.{all_from, all_has, contains_from_has, has_from_contains, has_left, has_right, has_cases, ordered_right}
+use Rattle.orders.proofs.Lists.{all-from, all_has, contains-from-has, has-from-contains, has-left, has-right, has-cases, ordered-right}
 use Rattle.plain_lemmas.proofs.MembershipLaws as plain
 use Rattle.domain.specs.declared.held.HeldWhy.TheVariants.{Many}
 use Rattle.domain.specs.Tables.{Table, IsTable, depth}
@@ -29,7 +29,7 @@ use Rattle.tiles.specs.Counts.{count_of, counted}
 use Rattle.tiles.specs.Groups.{added}
 use Rattle.tiles.specs.Plans.{AreStripesOf, CellWrites, ChunkWrites, HaveRuns, IsPhaseOf, IsPlannable, IsPlanOf, Phase, cells_of}
 use Rattle.tiles.specs.Strips.{IsListOfWords, IsPlannedRun, address_at, loads_of_run, strip_of, stores_of_run}
-use Rattle.tiles.proofs.CountLaws.{cells-most, count-all, count-most, flat_map_has, has_flat_map, has_map, has_range, map_has, range_has}
+use Rattle.tiles.proofs.CountLaws.{cells-most, count-all, count-most, flat-map-has, has-flat-map, has-map, has-range, map-has, range-has}
 use Rattle.tiles.proofs.DirectionLaws.{direction-small}
 use Rattle.tiles.proofs.GroupLaws.{AreGathered, gathered-more, gathered-none}
 use Rattle.tiles.proofs.PhaseLaws.{inside, length-wide, separate}
@@ -77,7 +77,7 @@ launched-few t words chunk instances l = by l.list refl
 -- ---- lists
 
 all-of : {X : Type 0} (P : X → Type 0) (xs : List X) → ((x : X) → Has xs x → P x) → All P xs
-all-of P xs f = plain.All_from P xs (λ x h. f x (has_from_contains xs x (plain.contains_from_has xs x h)))
+all-of P xs f = plain.All-from P xs (λ x h. f x (has-from-contains xs x (plain.contains-from-has xs x h)))
 
 ordered-part : (R : Cell → Cell → Type 0) (phases : List Phase) (p : Phase) → Ordered R (cells_of phases) → Has phases p → Ordered R p.cells
 ordered-part R [] p ord h = absurd h
@@ -85,8 +85,8 @@ ordered-part R (q ∷ phases) p ord (inl e) = subst (λ (r : Phase). Ordered R r
   where
     left : (us : List Cell) → Ordered R (us ++ cells_of phases) → Ordered R us
     left [] o = tt
-    left (u ∷ us) o = (all_from (R u) us (λ v k. all_has (R u) (us ++ cells_of phases) v o.0 (has_left us (cells_of phases) v k)), left us o.1)
-ordered-part R (q ∷ phases) p ord (inr h) = ordered-part R phases p (ordered_right R q.cells (cells_of phases) ord) h
+    left (u ∷ us) o = (all-from (R u) us (λ v k. all_has (R u) (us ++ cells_of phases) v o.0 (has-left us (cells_of phases) v k)), left us o.1)
+ordered-part R (q ∷ phases) p ord (inr h) = ordered-part R phases p (ordered-right R q.cells (cells_of phases) ord) h
 
 module _ (e : Extent) (words : ℕ) (some : 1 ≤ depth e.table) (few : depth e.table ≤ 6) (table : IsTable (depth e.table) e.table) (schedule : IsSchedule (depth e.table) e.schedule) (can : IsPlannable e.table e.schedule e.chunk words) where
   launch : IsLaunch e.table e.chunk
@@ -109,21 +109,21 @@ module _ (e : Extent) (words : ℕ) (some : 1 ≤ depth e.table) (few : depth e.
   strips-write (cell ∷ cells) (rs ∷ runs) h s k has below = ⊎_elim
       (λ here. record { cell = cell; has = inl refl; writes = strip-writes (depth e.table) e words some few table schedule (launch-of e words can) refl cell rs h.0 s k here below })
       (λ there. let w = strips-write cells runs h.1 s k there below in record { cell = w.cell; has = inr w.has; writes = w.writes })
-      (has_cases (flat_map (stores_of_run e.table) rs) (strips runs) s has)
+      (has-cases (flat_map (stores_of_run e.table) rs) (strips runs) s has)
 
   write-strips : (cells : List Cell) (runs : List (List Run)) → HaveRuns e cells runs → (cell : Cell) → Has cells cell → (address : ℤ) → CellWrites e cell address → HasStrip (strips runs) address
   write-strips [] runs h cell there address w = absurd there
   write-strips (c ∷ cells) [] h cell there address w = absurd h
   write-strips (c ∷ cells) (rs ∷ runs) h cell (inl same) address w =
       let found = writes-strip (depth e.table) e words some few table schedule (launch-of e words can) refl c rs h.0 address (subst (λ (d : Cell). CellWrites e d address) same w) in
-      record { strip = found.strip; has = has_left (flat_map (stores_of_run e.table) rs) (strips runs) found.strip found.has; place = found.place; below = found.below; is = found.is }
+      record { strip = found.strip; has = has-left (flat_map (stores_of_run e.table) rs) (strips runs) found.strip found.has; place = found.place; below = found.below; is = found.is }
   write-strips (c ∷ cells) (rs ∷ runs) h cell (inr there) address w =
       let found = write-strips cells runs h.1 cell there address w in
-      record { strip = found.strip; has = has_right (flat_map (stores_of_run e.table) rs) (strips runs) found.strip found.has; place = found.place; below = found.below; is = found.is }
+      record { strip = found.strip; has = has-right (flat_map (stores_of_run e.table) rs) (strips runs) found.strip found.has; place = found.place; below = found.below; is = found.is }
 
   module _ (cells : List Cell) (groups : List Phase) (runs : List (List Run)) (stripes : List Stripe) (are : AreCellsOf e cells) (gathered : AreGathered e words cells groups) (have : HaveRuns e cells runs) (same : map strip_of stripes ≡ strips runs) where
     stripe-writes : (stripe : Stripe) (k : ℕ) → Has stripes stripe → k < stripe.count → IsWrittenIn cells (address_at (strip_of stripe) k)
-    stripe-writes stripe k h below = strips-write cells runs have (strip_of stripe) k (subst (λ (l : List Strip). Has l (strip_of stripe)) same (has_map strip_of stripes stripe h)) below
+    stripe-writes stripe k h below = strips-write cells runs have (strip_of stripe) k (subst (λ (l : List Strip). Has l (strip_of stripe)) same (has-map strip_of stripes stripe h)) below
 
     stripes-within : All (IsWithin words) stripes
     stripes-within = all-of (IsWithin words) stripes (λ stripe h k below.
@@ -132,9 +132,9 @@ module _ (e : Extent) (words : ℕ) (some : 1 ≤ depth e.table) (few : depth e.
 
     stored : (address : ℕ) → Contains (addresses_of_all stripes) address → ChunkWrites e (pos address)
     stored address c =
-        let (stripe, there, inside) = flat_map_has addresses_of stripes address (has_from_contains (addresses_of_all stripes) address c) in
-        let (k, within, at) = map_has (λ (k : ℕ). unsigned_abs (address_at (strip_of stripe) k)) (range_with_len 0 stripe.count) address inside in
-        let (from, to) = range_has stripe.count 0 k within in
+        let (stripe, there, inside) = flat-map-has addresses_of stripes address (has-from-contains (addresses_of_all stripes) address c) in
+        let (k, within, at) = map-has (λ (k : ℕ). unsigned_abs (address_at (strip_of stripe) k)) (range_with_len 0 stripe.count) address inside in
+        let (from, to) = range-has stripe.count 0 k within in
         let w = stripe-writes stripe k there (omega arith) in
         let low = (written (depth e.table) e words some few table schedule (launch-of e words can) refl w.writes.at w.writes.lies.predicted (address_at (strip_of stripe) k) w.writes.writes).0 in
         let is : address_at (strip_of stripe) k ≡ pos address = omega (arith, ints, low, at) in
@@ -145,34 +145,34 @@ module _ (e : Extent) (words : ℕ) (some : 1 ≤ depth e.table) (few : depth e.
         let cell = cell_of e.schedule (padded e.table w.at) in
         let lies : LiesIn e cell w.at = record { predicted = w.predicted; inside = refl } in
         let found = write-strips cells runs have cell ((are.has cell).1 (w.at, lies)) (pos address) (record { at = w.at; lies = lies; writes = w.writes }) in
-        let (stripe, there, at) = map_has strip_of stripes found.strip (subst (λ (l : List Strip). Has l found.strip) (sym same) found.has) in
+        let (stripe, there, at) = map-has strip_of stripes found.strip (subst (λ (l : List Strip). Has l found.strip) (sym same) found.has) in
         let below : found.place < stripe.count = subst (λ (s : Strip). found.place < s.count) at found.below in
         let is : pos address ≡ address_at (strip_of stripe) found.place = found.is ∙ ap (λ (s : Strip). address_at s found.place) at in
         let number : address ≡ unsigned_abs (address_at (strip_of stripe) found.place) = ap unsigned_abs is in
-        contains_from_has (addresses_of_all stripes) address (has_flat_map addresses_of stripes stripe address there
-        (subst (Has (addresses_of stripe)) (sym number) (has_map (λ (k : ℕ). unsigned_abs (address_at (strip_of stripe) k)) (range_with_len 0 stripe.count) found.place (has_range stripe.count 0 found.place (omega arith) (omega arith)))))
+        contains-from-has (addresses_of_all stripes) address (has-flat-map addresses_of stripes stripe address there
+        (subst (Has (addresses_of stripe)) (sym number) (has-map (λ (k : ℕ). unsigned_abs (address_at (strip_of stripe) k)) (range_with_len 0 stripe.count) found.place (has-range stripe.count 0 found.place (omega arith) (omega arith)))))
 
     phase-is : (p : Phase) → Has groups p → IsPhaseOf e words p
     phase-is p h = record {
       one = gathered.one p h;
       tiles = gathered.tiles p h;
       separate = separate (depth e.table) e words table schedule can p (gathered.one p h) (gathered.tiles p h)
-          (ordered-part CellComes groups p (subst (Ordered CellComes) (sym gathered.cells_are) are.ordered) h);
+          (ordered-part CellComes groups p (subst (Ordered CellComes) (sym gathered.cells-are) are.ordered) h);
       inside = inside (depth e.table) e words table schedule can p (gathered.tiles p h);
     }
 
     pub plan-is : (instances : ℕ) → instances ≡ counted runs → IsPlanOf e words (record { phases = groups; instances = instances; tiles = length cells; stripes = stripes })
     plan-is instances count = record {
-      cells = subst (AreCellsOf e) (sym gathered.cells_are) are;
+      cells = subst (AreCellsOf e) (sym gathered.cells-are) are;
       phases = all-of (IsPhaseOf e words) groups phase-is;
       rise = gathered.rise;
       instances = subst (IsLaunched e.table (pos words) e.chunk) (sym (count ∙ all)) can.launched;
-      tiles = ap length (sym gathered.cells_are);
+      tiles = ap length (sym gathered.cells-are);
       few = (let most = cells-most e some few table schedule (launch-of e words can) cells runs (λ c h. (are.has c).0 h) have in
           let least = launched-few e.table (pos words) e.chunk can.instances can.launched in
           let total = all in
           omega (arith, most, least, total));
-      stripes = subst (λ (l : List Cell). AreStripesOf e l stripes) (sym gathered.cells_are) (record { runs = runs; have = have; strips = same });
+      stripes = subst (λ (l : List Cell). AreStripesOf e l stripes) (sym gathered.cells-are) (record { runs = runs; have = have; strips = same });
       within = stripes-within;
       stores = λ address. (stored address, kept address);
     }
@@ -222,7 +222,7 @@ take-has (suc n) (x ∷ cells) c (inr h) = inr (take-has n cells c h)
 ordered-take : (n : ℕ) (cells : List Cell) → Ordered CellComes cells → Ordered CellComes (take n cells)
 ordered-take zero cells ord = tt
 ordered-take (suc n) [] ord = tt
-ordered-take (suc n) (x ∷ cells) ord = (all_from (CellComes x) (take n cells) (λ c h. all_has (CellComes x) cells c ord.0 (take-has n cells c h)), ordered-take n cells ord.1)
+ordered-take (suc n) (x ∷ cells) ord = (all-from (CellComes x) (take n cells) (λ c h. all_has (CellComes x) cells c ord.0 (take-has n cells c h)), ordered-take n cells ord.1)
 
 -- the runs of one cell more have no more instances than the chunk
 pub stands-bound : (e : Extent) (words : ℕ) (some : 1 ≤ depth e.table) (few : depth e.table ≤ 6) (table : IsTable (depth e.table) e.table) (schedule : IsSchedule (depth e.table) e.schedule) (can : IsPlannable e.table e.schedule e.chunk words)

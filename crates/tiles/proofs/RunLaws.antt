@@ -12,9 +12,9 @@ use Rattle.plain_lemmas.proofs.IntegerLaws.{one-*ℤ, +ℤ-*ℤ}
 use Rattle.plain_lemmas.proofs.OrderLaws.{slice_cmp-exact}
 use Rattle.affine.specs.Matrices.{product, unit_row}
 use Rattle.affine.specs.Sums.{dot}
-use Rattle.affine.proofs.SumLemmas.{dot-weighted_point, get_or-weighted}
+use Rattle.affine.proofs.SumLemmas.{dot-weighted-point, get_or-weighted}
 use Rattle.orders.specs.Orders.{Has}
-use Rattle.orders.proofs.Lists.{contains_from_has, has_from_contains}
+use Rattle.orders.proofs.Lists.{contains-from-has, has-from-contains}
 use Rattle.domain.specs.Tables.{IsTable, block_at, counters, cut, depth}
 use Rattle.domain.specs.Instances.{Instance, instance, block_of, counter, padded, Predicted, IsInstance}
 use Rattle.domain.proofs.PlaceLaws.{place-counter}
@@ -25,7 +25,7 @@ use Rattle.skeletons.specs.Cells.{Cell, Extent, IsLaunch, LiesIn, cell_of}
 use Rattle.skeletons.specs.Runs.{Run, IsDirection, HasPoint, IsRun, along, step_of}
 use Rattle.skeletons.proofs.BlockLaws.{length-padded, padded-at}
 use Rattle.skeletons.proofs.FrameLaws.{is-cut}
-use Rattle.skeletons.proofs.ListLaws.{near-places_of}
+use Rattle.skeletons.proofs.ListLaws.{near-places-of}
 
 -- ---- points along a direction
 
@@ -55,11 +55,11 @@ cut-along zero (x ∷ p) (y ∷ d) z h = ap₂ (λ (w : ℤ) (ws : List ℤ). w 
 cut-along (suc c) (x ∷ p) (y ∷ d) z h = ap (λ (ws : List ℤ). (pos 1 *ℤ x +ℤ z *ℤ y) ∷ ws) (cut-along c p d z (omega arith))
 
 pub dot-along : (f p d : List ℤ) (z : ℤ) → length p ≡ length d → dot f (along d p z) ≡ dot f p +ℤ z *ℤ dot f d
-dot-along f p d z h = dot-weighted_point f (pos 1) p z d h ∙ ap (λ (w : ℤ). w +ℤ z *ℤ dot f d) (one-*ℤ (dot f p))
+dot-along f p d z h = dot-weighted-point f (pos 1) p z d h ∙ ap (λ (w : ℤ). w +ℤ z *ℤ dot f d) (one-*ℤ (dot f p))
 
 product-along : (rows : List (List ℤ)) (p d : List ℤ) (z : ℤ) → length p ≡ length d → product rows (along d p z) ≡ along (product rows d) (product rows p) z
 product-along [] p d z h = refl
-product-along (row ∷ rows) p d z h = ap₂ (λ (w : ℤ) (ws : List ℤ). w ∷ ws) (dot-weighted_point row (pos 1) p z d h) (product-along rows p d z h)
+product-along (row ∷ rows) p d z h = ap₂ (λ (w : ℤ) (ws : List ℤ). w ∷ ws) (dot-weighted-point row (pos 1) p z d h) (product-along rows p d z h)
 
 -- ---- what can be decided
 
@@ -176,8 +176,8 @@ module _ (n : ℕ) (e : Extent) (some : 1 ≤ n) (few : n ≤ 6) (table : IsTabl
   -- two instances of the chunk are not far apart
   near-along : (x y : Instance) (z : ℤ) → Predicted e.table e.chunk x → Predicted e.table e.chunk y → padded e.table y ≡ along direction (padded e.table x) z → unsigned_abs z ≤ 2 ^ 60
   near-along x y z p q point =
-      let a = near-places_of n e few table schedule launch x p (n - 1) (omega (arith, some)) in
-      let b = near-places_of n e few table schedule launch y q (n - 1) (omega (arith, some)) in
+      let a = near-places-of n e few table schedule launch x p (n - 1) (omega (arith, some)) in
+      let b = near-places-of n e few table schedule launch y q (n - 1) (omega (arith, some)) in
       let apart : counter (place e.schedule (padded e.table y)) (n - 1) ≡ counter (place e.schedule (padded e.table x)) (n - 1) +ℤ z =
       ap (λ (w : List ℤ). counter (place e.schedule w) (n - 1)) point ∙ number-along x z in
       let la = a.low in let ha = a.high in let lb = b.low in let hb = b.high in
@@ -207,8 +207,8 @@ module _ (n : ℕ) (e : Extent) (some : 1 ≤ n) (few : n ≤ 6) (table : IsTabl
   decide : (cell : Cell) (rank : ℕ) (point : List ℤ) → HasPoint e cell rank point ⊎ (HasPoint e cell rank point → ⊥)
   decide cell rank point = ⊎_elim
       (λ same. ⊎_elim
-      (λ f. inl (record { at = f.at; block = f.block; lies = record { predicted = (launch.launched.original.has f.at).0 (contains_from_has launch.launched.list f.at f.has); inside = ap (cell_of e.schedule) f.there ∙ same }; there = f.there }))
-      (λ none. inr (λ h. none (record { at = h.at; has = has_from_contains launch.launched.list h.at ((launch.launched.original.has h.at).1 h.lies.predicted); block = h.block; there = h.there })))
+      (λ f. inl (record { at = f.at; block = f.block; lies = record { predicted = (launch.launched.original.has f.at).0 (contains-from-has launch.launched.list f.at f.has); inside = ap (cell_of e.schedule) f.there ∙ same }; there = f.there }))
+      (λ none. inr (λ h. none (record { at = h.at; has = has-from-contains launch.launched.list h.at ((launch.launched.original.has h.at).1 h.lies.predicted); block = h.block; there = h.there })))
       (find launch.launched.list rank point))
       (λ other. inr (λ h. other (ap (cell_of e.schedule) (sym h.there) ∙ h.lies.inside)))
       (decide-cell (cell_of e.schedule point) cell)

@@ -11,7 +11,7 @@ use Rattle.std.proofs.lemmas.List.Elements.{Contains-append_left, Contains-appen
 use Rattle.std.proofs.lemmas.List.FromFn.{map-range_with_len_more}
 use Rattle.affine.specs.Forms.{Affine}
 use Rattle.orders.specs.Orders.{Has}
-use Rattle.orders.proofs.Lists.{contains_from_has, has_cases, has_from_contains, has_left, has_right}
+use Rattle.orders.proofs.Lists.{contains-from-has, has-cases, has-from-contains, has-left, has-right}
 use Rattle.domain.specs.Footprints.{Gains}
 use Rattle.domain.specs.Tables.{Access}
 use Rattle.domain.proofs.TouchedLaws.{gains-none, gains-same}
@@ -39,11 +39,11 @@ more words s n a w = record { place = w.place; below = (let b = w.below in omega
 pub gains-word : (words : ℕ) (address : ℤ) (number : ℕ) (ys : List ℕ) → pos number ≡ address → number < words → Gains (λ a. (pos a ≡ address) × (a < words)) ys (ys ++ number ∷ [])
 gains-word words address number ys is inside a = (
   λ c. ⊎_elim inl
-      (λ k. ⊎_elim (λ e. inr (ap pos e ∙ is, omega (arith, inside, e))) (λ z. absurd z) (has_from_contains (number ∷ []) a k))
+      (λ k. ⊎_elim (λ e. inr (ap pos e ∙ is, omega (arith, inside, e))) (λ z. absurd z) (has-from-contains (number ∷ []) a k))
       (Contains-append_cases ys (number ∷ []) a c),
   λ h. ⊎_elim
       (λ k. Contains-append_left ys (number ∷ []) a k)
-      (λ w. let same : pos a ≡ pos number = w.0 ∙ sym is in let f : a ≡ number = omega (arith, ints, same) in Contains-append_right ys (number ∷ []) a (contains_from_has (number ∷ []) a (inl f)))
+      (λ w. let same : pos a ≡ pos number = w.0 ∙ sym is in let f : a ≡ number = omega (arith, ints, same) in Contains-append_right ys (number ∷ []) a (contains-from-has (number ∷ []) a (inl f)))
       h,
 )
 
@@ -75,16 +75,16 @@ below-all words s n xs ys end g = gains-same (IsWordBelow words s n) (IsWordOf w
 -- ---- some strips
 
 word-left : (words : ℕ) (us vs : List Strip) (a : ℕ) → IsWordOf words us a → IsWordOf words (us ++ vs) a
-word-left words us vs a w = record { strip = w.strip; has = has_left us vs w.strip w.has; place = w.place; below = w.below; is = w.is; word = w.word }
+word-left words us vs a w = record { strip = w.strip; has = has-left us vs w.strip w.has; place = w.place; below = w.below; is = w.is; word = w.word }
 
 word-right : (words : ℕ) (us vs : List Strip) (a : ℕ) → IsWordOf words vs a → IsWordOf words (us ++ vs) a
-word-right words us vs a w = record { strip = w.strip; has = has_right us vs w.strip w.has; place = w.place; below = w.below; is = w.is; word = w.word }
+word-right words us vs a w = record { strip = w.strip; has = has-right us vs w.strip w.has; place = w.place; below = w.below; is = w.is; word = w.word }
 
 word-cases : (words : ℕ) (us vs : List Strip) (a : ℕ) → IsWordOf words (us ++ vs) a → IsWordOf words us a ⊎ IsWordOf words vs a
 word-cases words us vs a w = ⊎_elim
     (λ h. inl (record { strip = w.strip; has = h; place = w.place; below = w.below; is = w.is; word = w.word }))
     (λ h. inr (record { strip = w.strip; has = h; place = w.place; below = w.below; is = w.is; word = w.word }))
-    (has_cases us vs w.strip w.has)
+    (has-cases us vs w.strip w.has)
 
 pub words-none : (words : ℕ) (xs : List ℕ) → Gains (IsWordOf words []) xs xs
 words-none words xs = gains-none (IsWordOf words []) xs (λ a w. w.has)
@@ -126,7 +126,7 @@ pub words-list : (words : ℕ) (strips : List Strip) (xs ys : List ℕ) → Gain
 words-list words strips xs ys g rising same = record {
   rising = rising;
   has = λ a. (
-    λ c. ⊎_elim (λ k. absurd (has_from_contains [] a k)) (λ w. w) ((g a).0 ((same a).0 c)),
+    λ c. ⊎_elim (λ k. absurd (has-from-contains [] a k)) (λ w. w) ((g a).0 ((same a).0 c)),
     λ w. (same a).1 ((g a).1 (inr w)),
   );
 }
@@ -140,8 +140,8 @@ map-map f h (x ∷ xs) = ap (λ zs. f (h x) ∷ zs) (map-map f h xs)
 pub strips-some : (r : Run) (a : Access) (form : Affine) → a.line ≡ Some form → access_strips r a ≡ map (λ k. run_strip r form (offset_at a k)) (range_with_len 0 (offset_count a))
 strips-some r a form line = ap (λ (o : Option Affine). line_strips r o (map (offset_at a) (range_with_len 0 (offset_count a)))) line ∙ map-map (run_strip r form) (offset_at a) (range_with_len 0 (offset_count a))
 
-pub strips-no_line : (r : Run) (a : Access) → a.line ≡ None → access_strips r a ≡ []
-strips-no_line r a line = ap (λ (o : Option Affine). line_strips r o (map (offset_at a) (range_with_len 0 (offset_count a)))) line
+pub strips-no-line : (r : Run) (a : Access) → a.line ≡ None → access_strips r a ≡ []
+strips-no-line r a line = ap (λ (o : Option Affine). line_strips r o (map (offset_at a) (range_with_len 0 (offset_count a)))) line
 
 -- ---- stripes
 

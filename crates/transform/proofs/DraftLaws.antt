@@ -8,9 +8,9 @@ use Rattle.affine.specs.Matrices.{skew}
 use Rattle.transform.specs.Drafts.{Draft, drafted, extended, has_room}
 use Rattle.transform.specs.Scripts.{is_row, keeps_rule}
 
-not-and_false : (b : Bool) → not (b && false) ≡ true
-not-and_false true = refl
-not-and_false false = refl
+not-and-false : (b : Bool) → not (b && false) ≡ true
+not-and-false true = refl
+not-and-false false = refl
 
 pub drafted-skew : (n : ℕ) (d : Draft) (a b i j : ℕ) (m : ℤ) (rows : List (List ℤ)) → ((is_row n a && is_row n b) && not (nat_eq a b)) ≡ true → unsigned_abs m ≤ 8 → d.skews < 6
     → i ≡ a - 1 → j ≡ b - 1 → rows ≡ skew d.parts.rows i j m
@@ -18,7 +18,7 @@ pub drafted-skew : (n : ℕ) (d : Draft) (a b i j : ℕ) (m : ℤ) (rows : List 
 drafted-skew n d a b i j m rows apart factor few at-a at-b is =
     let c = Skew a b m in
     let keeps : keeps_rule n c ≡ true = and_from _ _ apart (le-leb (unsigned_abs m) 8 factor) in
-    let room : has_room d c ≡ true = and_from (not (d.led && false)) (nat_lt d.skews 6) (not-and_false d.led) (lt-ltb d.skews 6 few) in
+    let room : has_room d c ≡ true = and_from (not (d.led && false)) (nat_lt d.skews 6) (not-and-false d.led) (lt-ltb d.skews 6 few) in
     let same : skew d.parts.rows (a - 1) (b - 1) m ≡ rows = ap₂ (λ k l. skew d.parts.rows k l m) (sym at-a) (sym at-b) ∙ sym is in
     ap (λ o. cond o (Some (extended d c)) None) (and_from (keeps_rule n c) (has_room d c) keeps room)
     ∙ ap₂ (λ led made. Some (record { parts = record { rows = made; seq = d.parts.seq; sizes = d.parts.sizes; parallel = d.parts.parallel }; led = led; skews = d.skews + 1 })) (or-false d.led) same

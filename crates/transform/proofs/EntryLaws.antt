@@ -51,13 +51,13 @@ weighted-within most m (x ∷ xs) (y ∷ ys) factor first second =
     (weighted-within most m xs ys factor (All-tail Small x xs first) (All-tail Small y ys second))
 
 -- the row that a skew makes
-pub row_within-skew : (most : ℕ) (rows : List (List ℤ)) (a b : ℕ) (m : ℤ) → a < length rows → b < length rows → unsigned_abs m ≤ 8 → EntriesWithin most rows → AllWithinSize (9 * most) (weighted (pos 1) (get_or rows a []) m (get_or rows b []))
-row_within-skew most rows a b m in-a in-b factor small =
+pub row-within-skew : (most : ℕ) (rows : List (List ℤ)) (a b : ℕ) (m : ℤ) → a < length rows → b < length rows → unsigned_abs m ≤ 8 → EntriesWithin most rows → AllWithinSize (9 * most) (weighted (pos 1) (get_or rows a []) m (get_or rows b []))
+row-within-skew most rows a b m in-a in-b factor small =
     weighted-within most m (get_or rows a []) (get_or rows b []) factor (row-within most rows a in-a small) (row-within most rows b in-b small)
 
 pub EntriesWithin-skew : (most : ℕ) (rows : List (List ℤ)) (a b : ℕ) (m : ℤ) → a < length rows → b < length rows → unsigned_abs m ≤ 8 → EntriesWithin most rows → EntriesWithin (9 * most) (skew rows a b m)
 EntriesWithin-skew most rows a b m in-a in-b factor small =
-    All-set (AllWithinSize (9 * most)) rows a _ (row_within-skew most rows a b m in-a in-b factor small)
+    All-set (AllWithinSize (9 * most)) rows a _ (row-within-skew most rows a b m in-a in-b factor small)
     (EntriesWithin-weaker most (9 * most) rows (omega arith) small)
 
 -- the same after k skews
@@ -81,8 +81,8 @@ pub HasSmallEntries-within : (k : ℕ) (rows : List (List ℤ)) → k ≤ 6 → 
 HasSmallEntries-within k rows h small = EntriesWithin-weaker (9 ^ k) (2 ^ 20) rows (pow-le k h) small
 
 -- the row of a seventh power at most is a row of a matrix
-pub row_fits-skew : (k : ℕ) (rows : List (List ℤ)) (a b : ℕ) (m : ℤ) → k < 6 → a < length rows → b < length rows → unsigned_abs m ≤ 8 → EntriesWithin (9 ^ k) rows → AllWithinSize (2 ^ 20) (get_or (skew rows a b m) a [])
-row_fits-skew k rows a b m few in-a in-b factor small =
+pub row-fits-skew : (k : ℕ) (rows : List (List ℤ)) (a b : ℕ) (m : ℤ) → k < 6 → a < length rows → b < length rows → unsigned_abs m ≤ 8 → EntriesWithin (9 ^ k) rows → AllWithinSize (2 ^ 20) (get_or (skew rows a b m) a [])
+row-fits-skew k rows a b m few in-a in-b factor small =
     let size = length-set-of rows a (weighted (pos 1) (get_or rows a []) m (get_or rows b [])) in
     row-within (2 ^ 20) (skew rows a b m) a (omega (arith, size, in-a))
     (HasSmallEntries-within (k + 1) (skew rows a b m) (omega arith) (EntriesWithin-next k rows a b m in-a in-b factor small))

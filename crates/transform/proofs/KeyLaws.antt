@@ -14,10 +14,10 @@ then-Equal Less = refl
 then-Equal Equal = refl
 then-Equal Greater = refl
 
-then_assoc : (a b c : Ordering) → ordering_then (ordering_then a b) c ≡ ordering_then a (ordering_then b c)
-then_assoc Less b c = refl
-then_assoc Equal b c = refl
-then_assoc Greater b c = refl
+then-assoc : (a b c : Ordering) → ordering_then (ordering_then a b) c ≡ ordering_then a (ordering_then b c)
+then-assoc Less b c = refl
+then-assoc Equal b c = refl
+then-assoc Greater b c = refl
 
 slice_cmp-same : (xs : List ℤ) → slice_cmp int_cmp xs xs ≡ Equal
 slice_cmp-same [] = refl
@@ -30,7 +30,7 @@ compared [] [] zs v w h = ap (λ o. ordering_then o (int_cmp v w)) (slice_cmp-sa
 compared [] (y ∷ ys) zs v w h = absurd (omega arith)
 compared (x ∷ xs) [] zs v w h = absurd (omega arith)
 compared (x ∷ xs) (y ∷ ys) zs v w h =
-    then_assoc (int_cmp x y) (slice_cmp int_cmp (xs ++ zs) (ys ++ zs)) (int_cmp v w)
+    then-assoc (int_cmp x y) (slice_cmp int_cmp (xs ++ zs) (ys ++ zs)) (int_cmp v w)
     ∙ ap (ordering_then (int_cmp x y)) (compared xs ys zs v w (omega arith))
 
 pub keys_compare_as_lists : KeysCompareAsLists

@@ -12,8 +12,8 @@ use Rattle.affine.proofs.InverseLaws.{inverted}
 use Rattle.transform.specs.Schedules.{IsSchedule, Line, Schedule, along, matrix, place, tile_along, wave_of, wide_lead, wide_tile}
 use Rattle.transform.specs.Scripts.{lines_of, schedule_from}
 
-abbrev pub no_line : Line
-no_line = record { row = []; size = 0; parallel = false }
+abbrev pub no-line : Line
+no-line = record { row = []; size = 0; parallel = false }
 
 pub length-lines_of : (rows : List (List ℤ)) (sizes : List ℕ) (marks : List Bool) → length sizes ≡ length rows → length marks ≡ length rows → length (lines_of rows sizes marks) ≡ length rows
 length-lines_of [] sizes marks h k = refl
@@ -29,7 +29,7 @@ map-lines_of (row ∷ rows) (size ∷ sizes) [] h k = absurd (omega arith)
 map-lines_of (row ∷ rows) (size ∷ sizes) (mark ∷ marks) h k = ap (λ rest. row ∷ rest) (map-lines_of rows sizes marks (omega arith) (omega arith))
 
 pub get_or-lines_of : (rows : List (List ℤ)) (sizes : List ℕ) (marks : List Bool) (i : ℕ) → length sizes ≡ length rows → length marks ≡ length rows → i < length rows
-    → get_or (lines_of rows sizes marks) i no_line ≡ record { row = get_or rows i []; size = get_or sizes i 0; parallel = get_or marks i false }
+    → get_or (lines_of rows sizes marks) i no-line ≡ record { row = get_or rows i []; size = get_or sizes i 0; parallel = get_or marks i false }
 get_or-lines_of [] sizes marks i h k inside = absurd (omega arith)
 get_or-lines_of (row ∷ rows) [] marks i h k inside = absurd (omega arith)
 get_or-lines_of (row ∷ rows) (size ∷ sizes) [] i h k inside = absurd (omega arith)
@@ -45,14 +45,14 @@ All-lines_of P (row ∷ rows) (size ∷ sizes) (mark ∷ marks) h =
     All-cons (λ (l : Line). P l.size) _ _ (All-head P size sizes h) (All-lines_of P rows sizes marks (All-tail P size sizes h))
 
 -- the place is the product with the rows
-pub map_along-lines_of : (p : List ℤ) (rows : List (List ℤ)) (sizes : List ℕ) (marks : List Bool) → length sizes ≡ length rows → length marks ≡ length rows → map (along p) (lines_of rows sizes marks) ≡ product rows p
-map_along-lines_of p [] sizes marks h k = refl
-map_along-lines_of p (row ∷ rows) [] marks h k = absurd (omega arith)
-map_along-lines_of p (row ∷ rows) (size ∷ sizes) [] h k = absurd (omega arith)
-map_along-lines_of p (row ∷ rows) (size ∷ sizes) (mark ∷ marks) h k = ap (λ rest. dot row p ∷ rest) (map_along-lines_of p rows sizes marks (omega arith) (omega arith))
+pub map-along-lines_of : (p : List ℤ) (rows : List (List ℤ)) (sizes : List ℕ) (marks : List Bool) → length sizes ≡ length rows → length marks ≡ length rows → map (along p) (lines_of rows sizes marks) ≡ product rows p
+map-along-lines_of p [] sizes marks h k = refl
+map-along-lines_of p (row ∷ rows) [] marks h k = absurd (omega arith)
+map-along-lines_of p (row ∷ rows) (size ∷ sizes) [] h k = absurd (omega arith)
+map-along-lines_of p (row ∷ rows) (size ∷ sizes) (mark ∷ marks) h k = ap (λ rest. dot row p ∷ rest) (map-along-lines_of p rows sizes marks (omega arith) (omega arith))
 
-pub get_or-place : (s : Schedule) (p : List ℤ) (k : ℕ) → k < length s.lines → get_or (place s p) k (pos 0) ≡ along p (get_or s.lines k no_line)
-get_or-place s p k h = get_or-map (along p) s.lines k no_line (pos 0) h
+pub get_or-place : (s : Schedule) (p : List ℤ) (k : ℕ) → k < length s.lines → get_or (place s p) k (pos 0) ≡ along p (get_or s.lines k no-line)
+get_or-place s p k h = get_or-map (along p) s.lines k no-line (pos 0) h
 
 pub place-product : (s : Schedule) (p : List ℤ) → place s p ≡ product (matrix s) p
 place-product s p = by s.lines
@@ -64,11 +64,11 @@ place-product s p = by s.lines
 -- ---- lists with zeros on one side
 
 -- a list with zeros before a place, and from there the values of a function of the lines
-pub wide_tile_is : (s : Schedule) (p numbers : List ℤ) → s.seq ≤ length s.lines → length numbers ≡ length s.lines
+pub wide-tile-is : (s : Schedule) (p numbers : List ℤ) → s.seq ≤ length s.lines → length numbers ≡ length s.lines
     → ((k : ℕ) → k < s.seq → get_or numbers k (pos 0) ≡ pos 0)
-    → ((k : ℕ) → s.seq ≤ k → k < length s.lines → get_or numbers k (pos 0) ≡ tile_along p (get_or s.lines k no_line))
+    → ((k : ℕ) → s.seq ≤ k → k < length s.lines → get_or numbers k (pos 0) ≡ tile_along p (get_or s.lines k no-line))
     → numbers ≡ wide_tile s p
-wide_tile_is s p numbers leads long zeros values =
+wide-tile-is s p numbers leads long zeros values =
     let front = length-replicate s.seq (pos 0) in
     let after = length-map (drop s.seq s.lines) (tile_along p) in
     let rest = length-drop s.seq s.lines in
@@ -84,15 +84,15 @@ wide_tile_is s p numbers leads long zeros values =
         let at : s.seq + (k - s.seq) ≡ k = omega (arith, above) in
         values k above h
         ∙ sym (get_or-append_right (replicate s.seq (pos 0)) (map (tile_along p) (drop s.seq s.lines)) s.seq k (pos 0) (length-replicate s.seq (pos 0)) above
-        ∙ get_or-map (tile_along p) (drop s.seq s.lines) (k - s.seq) no_line (pos 0) (omega (arith, rest, h, above))
-        ∙ ap (tile_along p) (get_or-drop s.seq s.lines (k - s.seq) no_line ∙ ap (λ i. get_or s.lines i no_line) at))
+        ∙ get_or-map (tile_along p) (drop s.seq s.lines) (k - s.seq) no-line (pos 0) (omega (arith, rest, h, above))
+        ∙ ap (tile_along p) (get_or-drop s.seq s.lines (k - s.seq) no-line ∙ ap (λ i. get_or s.lines i no-line) at))
 
 -- a list with the values of a function of the lines before a place, and zeros from there
-pub wide_lead_is : (s : Schedule) (p numbers : List ℤ) → s.seq ≤ length s.lines → length numbers ≡ length s.lines
-    → ((k : ℕ) → k < s.seq → get_or numbers k (pos 0) ≡ along p (get_or s.lines k no_line))
+pub wide-lead-is : (s : Schedule) (p numbers : List ℤ) → s.seq ≤ length s.lines → length numbers ≡ length s.lines
+    → ((k : ℕ) → k < s.seq → get_or numbers k (pos 0) ≡ along p (get_or s.lines k no-line))
     → ((k : ℕ) → s.seq ≤ k → k < length s.lines → get_or numbers k (pos 0) ≡ pos 0)
     → numbers ≡ wide_lead s p
-wide_lead_is s p numbers leads long values zeros =
+wide-lead-is s p numbers leads long values zeros =
     let front = length-map (take s.seq s.lines) (along p) in
     let taken = length-take s.seq s.lines in
     let after = length-replicate (length s.lines - s.seq) (pos 0) in
@@ -105,8 +105,8 @@ wide_lead_is s p numbers leads long values zeros =
         let taken = length-take s.seq s.lines in
         values k below
         ∙ sym (get_or_append_left (map (along p) (take s.seq s.lines)) (replicate (length s.lines - s.seq) (pos 0)) (pos 0) k (omega (arith, front, taken, below, leads))
-        ∙ get_or-map (along p) (take s.seq s.lines) k no_line (pos 0) (omega (arith, taken, below, leads))
-        ∙ ap (along p) (get_or-take s.seq s.lines k no_line below))
+        ∙ get_or-map (along p) (take s.seq s.lines) k no-line (pos 0) (omega (arith, taken, below, leads))
+        ∙ ap (along p) (get_or-take s.seq s.lines k no-line below))
     by k h (inr above) =
         let front = length-map (take s.seq s.lines) (along p) in
         let taken = length-take s.seq s.lines in
@@ -117,29 +117,29 @@ wide_lead_is s p numbers leads long values zeros =
 -- ---- the wave, row by row
 
 pub wave_of-drop : (p : List ℤ) (lines : List Line) (k : ℕ) → k < length lines
-    → wave_of p (drop k lines) ≡ cond (get_or lines k no_line).parallel (pos 0) (tile_along p (get_or lines k no_line)) +ℤ wave_of p (drop (suc k) lines)
-wave_of-drop p lines k h = ap (wave_of p) (drop-cons lines k no_line h)
+    → wave_of p (drop k lines) ≡ cond (get_or lines k no-line).parallel (pos 0) (tile_along p (get_or lines k no-line)) +ℤ wave_of p (drop (suc k) lines)
+wave_of-drop p lines k h = ap (wave_of p) (drop-cons lines k no-line h)
 
 -- ---- the parts of a line
 
 -- the tile number of a row, by its number in the place and its size
 pub tile_along-lines_of : (p : List ℤ) (rows : List (List ℤ)) (seq : ℕ) (sizes : List ℕ) (marks : List Bool) (k : ℕ) → length sizes ≡ length rows → length marks ≡ length rows → k < length rows
-    → int_div_euclid (get_or (place (schedule_from (record { rows = rows; seq = seq; sizes = sizes; parallel = marks })) p) k (pos 0)) (pos (get_or sizes k 0)) ≡ tile_along p (get_or (lines_of rows sizes marks) k no_line)
+    → int_div_euclid (get_or (place (schedule_from (record { rows = rows; seq = seq; sizes = sizes; parallel = marks })) p) k (pos 0)) (pos (get_or sizes k 0)) ≡ tile_along p (get_or (lines_of rows sizes marks) k no-line)
 tile_along-lines_of p rows seq sizes marks k h l inside =
     let many = length-lines_of rows sizes marks h l in
-    ap₂ (λ (z : ℤ) (n : ℕ). int_div_euclid z (pos n)) (get_or-map (along p) (lines_of rows sizes marks) k no_line (pos 0) (omega (arith, many, inside)))
+    ap₂ (λ (z : ℤ) (n : ℕ). int_div_euclid z (pos n)) (get_or-map (along p) (lines_of rows sizes marks) k no-line (pos 0) (omega (arith, many, inside)))
     (sym (ap (λ (line : Line). line.size) (get_or-lines_of rows sizes marks k h l inside)))
 
 pub parallel-lines_of : (rows : List (List ℤ)) (sizes : List ℕ) (marks : List Bool) (k : ℕ) → length sizes ≡ length rows → length marks ≡ length rows → k < length rows
-    → get_or marks k false ≡ (get_or (lines_of rows sizes marks) k no_line).parallel
+    → get_or marks k false ≡ (get_or (lines_of rows sizes marks) k no-line).parallel
 parallel-lines_of rows sizes marks k h l inside = sym (ap (λ (line : Line). line.parallel) (get_or-lines_of rows sizes marks k h l inside))
 
 -- the wave goes on by what a row of the band adds
-pub wave_more : (p : List ℤ) (rows : List (List ℤ)) (seq : ℕ) (sizes : List ℕ) (marks : List Bool) (k : ℕ) (numbers : List ℤ) (share : ℤ) → length sizes ≡ length rows → length marks ≡ length rows → k < length rows
+pub wave-more : (p : List ℤ) (rows : List (List ℤ)) (seq : ℕ) (sizes : List ℕ) (marks : List Bool) (k : ℕ) (numbers : List ℤ) (share : ℤ) → length sizes ≡ length rows → length marks ≡ length rows → k < length rows
     → numbers ≡ place (schedule_from (record { rows = rows; seq = seq; sizes = sizes; parallel = marks })) p
     → share ≡ cond (get_or marks k false) (pos 0) (int_div_euclid (get_or numbers k (pos 0)) (pos (get_or sizes k 0)))
     → wave_of p (drop k (lines_of rows sizes marks)) ≡ share +ℤ wave_of p (drop (k + 1) (lines_of rows sizes marks))
-wave_more p rows seq sizes marks k numbers share h l inside e is =
+wave-more p rows seq sizes marks k numbers share h l inside e is =
     let many = length-lines_of rows sizes marks h l in
     let next : suc k ≡ k + 1 = sym (add-one k) in
     wave_of-drop p (lines_of rows sizes marks) k (omega (arith, many, inside))
@@ -150,16 +150,16 @@ wave_more p rows seq sizes marks k numbers share h l inside e is =
 
 -- ---- a list that is written place by place
 
-pub set_more : (xs : List ℤ) (i : ℕ) (v : ℤ) (first : ℕ) (f : ℕ → ℤ) → i < length xs → v ≡ f i → ((k : ℕ) → first ≤ k → k < i → get_or xs k (pos 0) ≡ f k)
+pub set-more : (xs : List ℤ) (i : ℕ) (v : ℤ) (first : ℕ) (f : ℕ → ℤ) → i < length xs → v ≡ f i → ((k : ℕ) → first ≤ k → k < i → get_or xs k (pos 0) ≡ f k)
     → (k : ℕ) → first ≤ k → k < i + 1 → get_or (set xs i v) k (pos 0) ≡ f k
-set_more xs i v first f inside is before k from below = by (cases_eq k i)
+set-more xs i v first f inside is before k from below = by (cases_eq k i)
   where
     by : (k ≡ i) ⊎ (k ≡ i → ⊥) → get_or (set xs i v) k (pos 0) ≡ f k
     by (inl e) = subst (λ j. get_or (set xs i v) j (pos 0) ≡ f j) (sym e) (get_or-set_same xs i v (pos 0) inside ∙ is)
     by (inr apart) = get_or-set_other xs i k v (pos 0) apart ∙ before k from (omega (arith, below, apart))
 
-pub set_kept : (xs : List ℤ) (i : ℕ) (v x : ℤ) (k : ℕ) → (k ≡ i → ⊥) → get_or xs k (pos 0) ≡ x → get_or (set xs i v) k (pos 0) ≡ x
-set_kept xs i v x k apart is = get_or-set_other xs i k v (pos 0) apart ∙ is
+pub set-kept : (xs : List ℤ) (i : ℕ) (v x : ℤ) (k : ℕ) → (k ≡ i → ⊥) → get_or xs k (pos 0) ≡ x → get_or (set xs i v) k (pos 0) ≡ x
+set-kept xs i v x k apart is = get_or-set_other xs i k v (pos 0) apart ∙ is
 
 -- ---- what is made is a schedule
 

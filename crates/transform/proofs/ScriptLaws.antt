@@ -17,16 +17,16 @@ abbrev passes : ℕ → Draft → List Command → Bool
 passes n d script = list_all (keeps_rule n) script && (nat_le (number d.led + count_by is_seq script) 1 && nat_le (d.skews + count_by is_skew script) 6)
 
 -- a command that has said how many rows lead is the only one
-leading_limit : (led seq : Bool) (seqs : ℕ) → nat_le (number led + (number seq + seqs)) 1 ≡ (not (led && seq) && nat_le (number (led || seq) + seqs) 1)
-leading_limit true true seqs = lt-leb (1 + (1 + seqs)) 1 (omega arith)
-leading_limit true false seqs = ap (λ k. nat_le (1 + k) 1) (zero-add seqs)
-leading_limit false true seqs = ap (λ k. nat_le k 1) (zero-add (1 + seqs))
-leading_limit false false seqs = ap (λ k. nat_le k 1) (zero-add (0 + seqs))
+leading-limit : (led seq : Bool) (seqs : ℕ) → nat_le (number led + (number seq + seqs)) 1 ≡ (not (led && seq) && nat_le (number (led || seq) + seqs) 1)
+leading-limit true true seqs = lt-leb (1 + (1 + seqs)) 1 (omega arith)
+leading-limit true false seqs = ap (λ k. nat_le (1 + k) 1) (zero-add seqs)
+leading-limit false true seqs = ap (λ k. nat_le k 1) (zero-add (1 + seqs))
+leading-limit false false seqs = ap (λ k. nat_le k 1) (zero-add (0 + seqs))
 
 -- one skew more
-skew_limit : (skew : Bool) (skews more : ℕ) → skews ≤ 6 → nat_le (skews + (number skew + more)) 6 ≡ ((not skew || nat_lt skews 6) && nat_le ((skews + number skew) + more) 6)
-skew_limit false skews more few = ap (λ k. nat_le k 6) (sym (add_assoc skews 0 more))
-skew_limit true skews more few = by (cases_lt skews 6)
+skew-limit : (skew : Bool) (skews more : ℕ) → skews ≤ 6 → nat_le (skews + (number skew + more)) 6 ≡ ((not skew || nat_lt skews 6) && nat_le ((skews + number skew) + more) 6)
+skew-limit false skews more few = ap (λ k. nat_le k 6) (sym (add_assoc skews 0 more))
+skew-limit true skews more few = by (cases_lt skews 6)
   where
     same : nat_le (skews + (1 + more)) 6 ≡ nat_le ((skews + 1) + more) 6
     same = ap (λ k. nat_le k 6) (sym (add_assoc skews 1 more))
@@ -40,7 +40,7 @@ passes-cons : (n : ℕ) (d : Draft) (c : Command) (script : List Command) → d.
 passes-cons n d c script few =
     ap₂ (λ u v. (keeps_rule n c && list_all (keeps_rule n) script) && (nat_le (number d.led + u) 1 && nat_le (d.skews + v) 6))
     (sum_by-cons (λ x. cond (is_seq x) 1 0) c script) (sum_by-cons (λ x. cond (is_skew x) 1 0) c script)
-    ∙ ap₂ (λ u v. (keeps_rule n c && list_all (keeps_rule n) script) && (u && v)) (leading_limit d.led (is_seq c) (count_by is_seq script)) (skew_limit (is_skew c) d.skews (count_by is_skew script) few)
+    ∙ ap₂ (λ u v. (keeps_rule n c && list_all (keeps_rule n) script) && (u && v)) (leading-limit d.led (is_seq c) (count_by is_seq script)) (skew-limit (is_skew c) d.skews (count_by is_skew script) few)
     ∙ (ordered (keeps_rule n c) (list_all (keeps_rule n) script) (not (d.led && is_seq c)) (nat_le (number (d.led || is_seq c) + count_by is_seq script) 1) (not (is_skew c) || nat_lt d.skews 6) (nat_le ((d.skews + number (is_skew c)) + count_by is_skew script) 6))
   where
     ordered : (k l a b e f : Bool) → ((k && l) && ((a && b) && (e && f))) ≡ ((k && (a && e)) && (l && (b && f)))

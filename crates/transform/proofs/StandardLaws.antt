@@ -98,9 +98,9 @@ standard-drafted n number = by (standard_script n number)
 -- the tiles from one row on
 pub tiles-step : (row n : ℕ) (size : ℤ) → row < n → tiles (row + 1) n size ≡ Tile (row + 1) size ∷ tiles (row + 2) n size
 tiles-step row n size h =
-    let one_more : (n + 1) - (row + 1) ≡ suc ((n + 1) - (row + 2)) = omega (arith, h) in
+    let one-more : (n + 1) - (row + 1) ≡ suc ((n + 1) - (row + 2)) = omega (arith, h) in
     let next : (row + 1) + 1 ≡ row + 2 = omega arith in
-    ap (λ k. map (λ a. Tile a size) (range_with_len (row + 1) k)) one_more
+    ap (λ k. map (λ a. Tile a size) (range_with_len (row + 1) k)) one-more
     ∙ ap (λ i. Tile (row + 1) size ∷ map (λ a. Tile a size) (range_with_len i ((n + 1) - (row + 2)))) next
 
 pub tiles-none : (row n : ℕ) (size : ℤ) → n ≤ row → tiles (row + 1) n size ≡ []
@@ -110,10 +110,10 @@ tiles-none row n size h = let none : (n + 1) - (row + 1) ≡ 0 = omega (arith, h
 abbrev pub skews_from : ℕ → ℕ → List Command
 skews_from row n = map (λ a. Skew a 1 (pos 1)) (range_with_len (row + 1) (n - row))
 
-pub skews_from-step : (row n : ℕ) → row < n → skews_from row n ≡ Skew (row + 1) 1 (pos 1) ∷ skews_from (row + 1) n
-skews_from-step row n h =
-    let one_more : n - row ≡ suc (n - (row + 1)) = omega (arith, h) in
-    ap (λ k. map (λ a. Skew a 1 (pos 1)) (range_with_len (row + 1) k)) one_more
+pub skews-from-step : (row n : ℕ) → row < n → skews_from row n ≡ Skew (row + 1) 1 (pos 1) ∷ skews_from (row + 1) n
+skews-from-step row n h =
+    let one-more : n - row ≡ suc (n - (row + 1)) = omega (arith, h) in
+    ap (λ k. map (λ a. Skew a 1 (pos 1)) (range_with_len (row + 1) k)) one-more
 
-pub skews_from-none : (row n : ℕ) → n ≤ row → skews_from row n ≡ []
-skews_from-none row n h = let none : n - row ≡ 0 = omega (arith, h) in ap (λ k. map (λ a. Skew a 1 (pos 1)) (range_with_len (row + 1) k)) none
+pub skews-from-none : (row n : ℕ) → n ≤ row → skews_from row n ≡ []
+skews-from-none row n h = let none : n - row ≡ 0 = omega (arith, h) in ap (λ k. map (λ a. Skew a 1 (pos 1)) (range_with_len (row + 1) k)) none

@@ -6,7 +6,7 @@ use Rattle.follow_chunk.specs.Predicted.{forecast_of}
 use Rattle.follow_chunk.specs.Items.{item_at, scalars_after}
 use Rattle.verified_turns.specs.FollowRuns.{RunsAreFollowRuns}
 
-pub runs-are_follow_runs : RunsAreFollowRuns
-runs-are_follow_runs t loops o words [] m = refl
-runs-are_follow_runs t loops o words (x ∷ xs) m =
-    ap (λ (go : List ℤ → Option Outcome). and_then (follow_one (forecast_of t) (scalars_after t) (item_at t loops o x) m) go) (λ i w. runs-are_follow_runs t loops o words xs w i)
+pub runs-are-follow-runs : RunsAreFollowRuns
+runs-are-follow-runs t loops o words [] m = refl
+runs-are-follow-runs t loops o words (x ∷ xs) m =
+    ap (λ (go : List ℤ → Option Outcome). and_then (follow_one (forecast_of t) (scalars_after t) (item_at t loops o x) m) go) (λ i w. runs-are-follow-runs t loops o words xs w i)

@@ -11,7 +11,7 @@ use Rattle.nest_lang.specs.Lookups.{Interval, lies_in, line_of, look}
 use Rattle.block_exec.proofs.MemoryLaws.{look-plain-found, look-plain-outside}
 use Rattle.core_steps.specs.declared.view.View.{View}
 use Rattle.core_steps.specs.Views.{overlaid, value_at, storing_view}
-use Rattle.core_steps.proofs.StoreLists.{length-overlaid, overlaid_at}
+use Rattle.core_steps.proofs.StoreLists.{length-overlaid, overlaid-at}
 use Rattle.shared_words.specs.Memories.{shown}
 use Rattle.follow.proofs.VerifyLaws.{refused_by, look-passed}
 
@@ -19,7 +19,7 @@ pub length-shown : (v : View) → length (shown v) ≡ length v.base
 length-shown v = length-map (overlaid v.own v.base) (cast_signed w64) ∙ length-overlaid v.own v.base
 
 word-shown : (v : View) (a : ℕ) → a < length v.base → get_or (shown v) a (pos 0) ≡ cast_signed w64 (value_at v a)
-word-shown v a below = get_or-map (cast_signed w64) (overlaid v.own v.base) a 0 ∙ ap (cast_signed w64) (overlaid_at a v.own v.base below)
+word-shown v a below = get_or-map (cast_signed w64) (overlaid v.own v.base) a 0 ∙ ap (cast_signed w64) (overlaid-at a v.own v.base below)
 
 pub found : (i : Option Interval) (v : View) (address : ℤ) → None ≡ refused_by i address → pos 0 ≤ℤ address → unsigned_abs address < length v.base
     → look true i (shown v) address ≡ Ok (cast_signed w64 (value_at v (unsigned_abs address)))

@@ -19,22 +19,22 @@ use Rattle.phases.specs.Workers.{MayRun}
 use Rattle.verified_turns.specs.Machines.{instances}
 use Rattle.verified_turns.specs.Ports.{of_kind, own_expectation, MayTouch}
 
-no_interval : (a : ℤ) → lies_in None a ≡ true → ⊥
-no_interval a e = cc
+no-interval : (a : ℤ) → lies_in None a ≡ true → ⊥
+no-interval a e = cc
 
 -- an address in the interval of an access, as the load or the store that it is
 kind_of : (stores : Bool) (found : Option Access) (interval : Option lookups.Interval) (a : ℤ) → lies_in (of_kind stores found interval) a ≡ true
     → (access : Access) × (found ≡ Some access) × (access.stores ≡ stores) × (lies_in interval a ≡ true)
-kind_of stores None interval a h = absurd (no_interval a h)
+kind_of stores None interval a h = absurd (no-interval a h)
 kind_of true (Some access) interval a h = by access.stores refl h
   where
     by : (b : Bool) → access.stores ≡ b → lies_in (if b then interval else None) a ≡ true → (it : Access) × (Some access ≡ Some it) × (it.stores ≡ true) × (lies_in interval a ≡ true)
     by true e k = (access, refl, e, k)
-    by false e k = absurd (no_interval a k)
+    by false e k = absurd (no-interval a k)
 kind_of false (Some access) interval a h = by access.stores refl h
   where
     by : (b : Bool) → access.stores ≡ b → lies_in (if b then None else interval) a ≡ true → (it : Access) × (Some access ≡ Some it) × (it.stores ≡ false) × (lies_in interval a ≡ true)
-    by true e k = absurd (no_interval a k)
+    by true e k = absurd (no-interval a k)
     by false e k = (access, refl, e, k)
 
 module _ (D scalars words : ℕ) (loops : List Loop) (t : Table) (o : Outer) (chunk : Chunk) (x : Instance) (task : IsTask D scalars loops t o chunk (pos words)) (p : Predicted t chunk x) where
@@ -50,15 +50,15 @@ module _ (D scalars words : ℕ) (loops : List Loop) (t : Table) (o : Outer) (ch
             (sym (ap (λ (i : Option lookups.Interval). lies_in i (pos a)) (interval-is D scalars (pos words) loops t o chunk x task p number ∙ ap (λ (f : Option Access). about f x.at) is)) ∙ lies);
       }
 
-  pub may_touch : (b : Block) (v : View) → b ≡ block_of t x → words ≡ length v.base → MayRun (instances t loops o words) x v → MayTouch b (interval_at t x) v
-  may_touch b v same size may = subst (λ (c : Block). MayTouch c (interval_at t x) v) (sym same) (record {
+  pub may-touch : (b : Block) (v : View) → b ≡ block_of t x → words ≡ length v.base → MayRun (instances t loops o words) x v → MayTouch b (interval_at t x) v
+  may-touch b v same size may = subst (λ (c : Block). MayTouch c (interval_at t x) v) (sym same) (record {
     loads = λ number a h below. may.loads a (touches-from D scalars words loops t o chunk x task p a (inl (touches false number a h, omega (arith, ints), (let lt : a < words = omega (arith, below, size) in omega (arith, ints, lt)))));
     stores = λ number a h below. may.stores a (writes-from D scalars (pos words) loops t o chunk x task p a (touches true number a h));
   })
 
   -- and the port verifies the accesses of the instance
-  pub verifies_instance : (b : Block) → b ≡ block_of t x → VerifiesInstance (own_expectation b (interval_at t x)) t x
-  verifies_instance b same = subst (λ (c : Block). VerifiesInstance (own_expectation c (interval_at t x)) t x) (sym same) (record {
+  pub verifies-instance : (b : Block) → b ≡ block_of t x → VerifiesInstance (own_expectation b (interval_at t x)) t x
+  verifies-instance b same = subst (λ (c : Block). VerifiesInstance (own_expectation c (interval_at t x)) t x) (sym same) (record {
     verifies = refl;
     each = λ number access is. own number access is access.stores refl;
   })

@@ -3,7 +3,7 @@ use Rattle.core_steps.specs.declared.plan.Plan.{Plan}
 use Rattle.core_steps.specs.Plans.{writes}
 use Rattle.verified_turns.specs.Workers.{task_state}
 use Rattle.turns_bench.specs.Copies.{one_store}
-use Rattle.turns_bench.proofs.Posting.{postable, task_is, one_writes}
+use Rattle.turns_bench.proofs.Posting.{postable, task-is, one-writes}
 use Rattle.turns_bench.proofs.worker.Goals as goal
 
 pub over_new_words-requires : goal.over_new_words-requires
@@ -15,7 +15,7 @@ over_new_words-requires g c =
     let times = c.args.times in
     let few = c.if-times-gt65536.false in
     let short : 1 * times ≤ 65536 = omega (arith, few) in
-    let word = λ (tile : ℕ) (below : tile < 1) (some : 0 < times). subst (λ (q : Plan). writes q tile 0 ≡ true) (sym same) (one_writes tile below) in
+    let word = λ (tile : ℕ) (below : tile < 1) (some : 0 < times). subst (λ (q : Plan). writes q tile 0 ≡ true) (sym same) (one-writes tile below) in
     let may = postable 1 times 1 plan (c.is_plan.ensures.separate c.if-not-is_plan.false) (c.is_plan.ensures.inside c.if-not-is_plan.false) (ap (λ (q : Plan). length q.tiles) same) (omega arith) short (omega arith) (omega arith) word
-    (task_state t.scalars t.nest.now.loops t.pred.now t.outer t.chunk) (task_is t.scalars t.nest.now.loops t.pred.now t.outer t.chunk is.scalars (ap (λ n. n.loops) is.nest ∙ c.requires.nest) (is.pred ∙ c.requires.pred) is.outer is.chunk) in
+    (task_state t.scalars t.nest.now.loops t.pred.now t.outer t.chunk) (task-is t.scalars t.nest.now.loops t.pred.now t.outer t.chunk is.scalars (ap (λ n. n.loops) is.nest ∙ c.requires.nest) (is.pred ∙ c.requires.pred) is.outer is.chunk) in
     search rules

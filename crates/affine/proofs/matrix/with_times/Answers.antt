@@ -1,7 +1,7 @@
 use Rattle.std.proofs.Common.{◌≡◌, ◌<◌, length, pos, get_or, FitsSigned, arith, rules}
 use Rattle.std.specs.Int.{w64}
 use Rattle.std.proofs.lemmas.Int.{to_z-of_z}
-use Rattle.affine.proofs.MatrixLemmas.{weighted_step, fits_from_small}
+use Rattle.affine.proofs.MatrixLemmas.{weighted-step, fits-from-small}
 use Rattle.affine.proofs.matrix.with_times.Goals as goal
 
 pub plus_times-requires : goal.plus_times-requires
@@ -11,7 +11,7 @@ plus_times-requires g c =
     let times = c.ranges.m in
     let inside : c.loop-place.place < length c.args.row.now = omega arith in
     let same : length c.args.row.now ≡ length c.args.other.now = omega arith in
-    simp to_z-of_z (fits_from_small c.args.m c.args.row.now c.args.other.now c.loop-place.place c.requires same inside)
+    simp to_z-of_z (fits-from-small c.args.m c.args.row.now c.args.other.now c.loop-place.place c.requires same inside)
 
 pub loop-place-preserved : goal.loop-place-preserved
 loop-place-preserved g c =
@@ -25,5 +25,5 @@ loop-place-preserved g c =
     let is = simp to_z-of_z at c.plus_times.ensures in
     record {
       long = search rules;
-      done = simp to_z-of_z (weighted_step c.args.m c.args.row.now c.args.other.now c.loop-place.sums c.loop-place.place c.plus_times.result inside also room is (simp to_z-of_z at c.loop-place.invariant.done));
+      done = simp to_z-of_z (weighted-step c.args.m c.args.row.now c.args.other.now c.loop-place.sums c.loop-place.place c.plus_times.result inside also room is (simp to_z-of_z at c.loop-place.invariant.done));
     }

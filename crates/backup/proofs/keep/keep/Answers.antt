@@ -1,7 +1,7 @@
 use Rattle.std.proofs.Common.{◌≡◌, ◌∙◌, ap, get_or, to_z, of_z}
 use Rattle.std.proofs.lemmas.Int.{to_z-of_z}
 use Rattle.std.specs.Int.{w64, cast_signed}
-use Rattle.backup.proofs.KeepLaws.{kept_more}
+use Rattle.backup.proofs.KeepLaws.{kept-more}
 use Rattle.backup.proofs.keep.keep.Goals as goal
 
 pub loop-k-preserved : goal.loop-k-preserved
@@ -12,5 +12,5 @@ loop-k-preserved c =
     let round : to_z w64 (of_z w64 c.load-value.result) ≡ c.load-value.result = to_z-of_z w64 c.load-value.result (record { sfits = c.load-value.type_inv }) in (
       c.load-value.ensures.unchanged ∙ c.loop-k.invariant.0,
       c.loop-k.invariant.1,
-      kept_more c.args.kept.now.items c.loop-k.kept.items c.push.new.self.items c.args.stripe base c.loop-k.k c.address-address.result (to_z w64 (of_z w64 c.load-value.result)) c.loop-k.invariant.2 c.in_ok-push.ensures.items c.address-address.ensures (round ∙ value),
+      kept-more c.args.kept.now.items c.loop-k.kept.items c.push.new.self.items c.args.stripe base c.loop-k.k c.address-address.result (to_z w64 (of_z w64 c.load-value.result)) c.loop-k.invariant.2 c.in_ok-push.ensures.items c.address-address.ensures (round ∙ value),
     )

@@ -4,8 +4,8 @@ use Rattle.clap.specs.Words.{App, Row, fault_of, found_of, is_simple, is_simple_
 use Rattle.clap.specs.declared.error.kind.ErrorKind.TheVariants.{OutOfMemory}
 use Rattle.command_line.specs.Syntax.{syntax}
 use Rattle.command_line.specs.Invocations.{IsFoundInvocation}
-use Rattle.command_line.proofs.Found.{finds_the_same}
-use Rattle.command_line.proofs.Taken.{takes-no_fault}
+use Rattle.command_line.proofs.Found.{finds-the-same}
+use Rattle.command_line.proofs.Taken.{takes-no-fault}
 use Rattle.command_line.proofs.reading.invocation_of.Goals as goal
 
 pub returns-in-Ok : goal.returns-in-Ok
@@ -14,9 +14,9 @@ returns-in-Ok c =
     let is = c.in_ok-syntax.ensures in
     let free = ap is_simple_and_free is in
     let none : fault_of syntax words ≡ [] = ap (λ (a : App). fault_of a words) (sym is) ∙ c.in-Ok.ensures.kinds free in
-    let taken : takes syntax words ≡ true = takes-no_fault syntax words refl refl refl refl none in
+    let taken : takes syntax words ≡ true = takes-no-fault syntax words refl refl refl refl none in
     let found : rows_of (found_of c.in-Ok.matches) ≡ matches_of syntax words = (c.in-Ok.ensures.matches (ap is_simple is)).0 ∙ ap (λ (a : App). matches_of a words) is in
-    finds_the_same _ _ _ (λ command h. record { taken = taken; found = subst (λ (rows : List Row). IsFoundInvocation rows command) found h })
+    finds-the-same _ _ _ (λ command h. record { taken = taken; found = subst (λ (rows : List Row). IsFoundInvocation rows command) found h })
     (λ command h. subst (λ (rows : List Row). IsFoundInvocation rows command) (sym found) h.found) c.invocation_in.ensures
 
 pub returns-in-Err-2 : goal.returns-in-Err-2

@@ -1,5 +1,5 @@
-use Rattle.compare.proofs.PredictedChains.{chain-at_predictions}
+use Rattle.compare.proofs.PredictedChains.{chain-at-predictions}
 use Rattle.compare.proofs.laws.chain.Goals as goal
 
 pub returns : goal.returns
-returns c = chain-at_predictions
+returns c = chain-at-predictions

@@ -1,17 +1,17 @@
 use Rattle.std.proofs.Common.{◌≡◌, ◌∙◌, sym, ap, subst, Ok, length, true, to_z-of_z, arith, rules}
 use Rattle.follow_chunk.specs.Tasks.{IsTask}
 use Rattle.chunk_run.specs.declared.run.ChunkEnd.{ChunkEnd}
-use Rattle.chunk_run.specs.declared.run.ChunkEnd.TheVariants.{Committed, RolledBack}
+use Rattle.chunk_run.specs.declared.run.ChunkEnd.TheVariants.{RolledBack}
 use Rattle.chunk_run.specs.ChunkEnds.{IsLegalFor}
 use Rattle.profiling.specs.FirstProfiles.{has_turn}
 use Rattle.journeys.specs.Settings.{Setting, Moment, next_chunk, words_at}
+use Rattle.journeys.specs.Stages as stages
 use Rattle.journeys.specs.Stages.{FollowsIt}
-use Rattle.controller.specs.declared.stage.Stage.TheVariants.{Chunks}
 use Rattle.controller.specs.Machines.{IsPlaced, HasRun}
-use Rattle.controller.specs.Courses.{IsSetting, Led}
-use Rattle.controller.proofs.Plainly.{if-ok}
+use Rattle.controller.specs.Courses.{IsSetting}
+use Rattle.controller.proofs.Plainly.{if-err, if-ok}
 use Rattle.controller.proofs.NextChunk.{first-fits, turns-fit, made-task, made-legal, chosen-candidate}
-use Rattle.controller.proofs.ChunkWays.{rolled-back_deviates, committed-led}
+use Rattle.controller.proofs.ChunkWays.{committed-broke, committed-with, none-broke, rolled-back-deviates, rolled-broke, rolled-with}
 use Rattle.controller.proofs.chunk.launched.Goals as goal
 
 pub run_chunk-requires : goal.run_chunk-requires
@@ -19,7 +19,7 @@ run_chunk-requires g c =
     let t = c.args.chosen.pred in
     let n = c.args.chosen.number in
     let s = c.args.course.now in
-    let m = c.args.machine.now in
+    let m = c.args.machine.now.moment in
     let p = c.requires.placed in
     let set : IsSetting g.row.D s = subst (λ (x : Setting). IsSetting g.row.D x) c.course.view_is c.course.invariant in
     let task : IsTask g.row.D c.course.inside.scalars c.course.inside.nest.now.loops t c.outer.result c.args.chunk (words_at m) =
@@ -34,9 +34,9 @@ pub rolled_back-requires : goal.rolled_back-requires
 rolled_back-requires g c =
     let t = c.args.chosen.pred in
     let s = c.args.course.now in
-    let m = c.args.machine.now in
+    let m = c.args.machine.now.moment in
     let p = c.requires.placed in
-    let after = c.run_chunk.new.self in
+    let after = c.run_chunk.new.self.moment in
     let schedule = c.index-schedule.result.now in
     let set : IsSetting g.row.D s = subst (λ (x : Setting). IsSetting g.row.D x) c.course.view_is c.course.invariant in
     let run : HasRun (record { table = t; schedule = schedule; chunk = c.args.chunk }) c.course.inside.nest.now.loops m after (Ok RolledBack) =
@@ -50,35 +50,73 @@ rolled_back-requires g c =
     let loops : c.course.inside.nest.now.loops ≡ s.loops = ap (λ (x : Setting). x.loops) c.course.view_is in
     let outer : c.outer.result ≡ after.outer = c.outer.ensures ∙ ap (λ (x : Moment). x.outer) same in
     let next : c.args.chunk ≡ next_chunk s after = c.requires.next ∙ ap (λ (x : Moment). next_chunk s x) same in
-    let deviates : FollowsIt t s after → ⊥ = subst (λ (x : Moment). FollowsIt t s x → ⊥) same (rolled-back_deviates t schedule s m _ c.args.chunk c.course.view_is c.requires.next c.run_chunk.ensures.locals.0 run.0) in
+    let deviates : FollowsIt t s after → ⊥ = subst (λ (x : Moment). FollowsIt t s x → ⊥) same (rolled-back-deviates t schedule s m _ c.args.chunk c.course.view_is c.requires.next c.run_chunk.ensures.locals.0 run.0) in
     (omega arith, (omega arith, (omega arith, (c.course.invariant.few, (placed, (turn, (task, (loops, (outer, (next, deviates))))))))))
 
-pub returns-in_ok-push-in-Committed : goal.returns-in_ok-push-in-Committed
-returns-in_ok-push-in-Committed g c =
+pub returns-in_ok-push-in-Committed-clause-led : goal.returns-in_ok-push-in-Committed-clause-led
+returns-in_ok-push-in-Committed-clause-led g c =
     let t = c.args.chosen.pred in
     let n = c.args.chosen.number in
     let s = c.args.course.now in
-    let m = c.args.machine.now in
+    let m = c.args.machine.now.moment in
     let p = c.requires.placed in
-    let after = c.run_chunk.new.self in
+    let after = c.run_chunk.new.self.moment in
     let schedule = c.index-schedule.result.now in
     let w = c.in-Committed in
     let set : IsSetting g.row.D s = subst (λ (x : Setting). IsSetting g.row.D x) c.course.view_is c.course.invariant in
-    let run : HasRun (record { table = t; schedule = schedule; chunk = c.args.chunk }) c.course.inside.nest.now.loops m after (Ok (Committed w.instances w.phases w.tiles w.steps)) =
-    subst (λ (end : ChunkEnd). HasRun (record { table = t; schedule = schedule; chunk = c.args.chunk }) c.course.inside.nest.now.loops m after (Ok end)) w.is c.in_ok-instances.ensures.run in
     let at = chosen-candidate s m set p c.requires.turn _ c.outer.result c.args.chunk c.course.view_is c.outer.ensures c.requires.next t n c.requires.chosen schedule c.index-schedule.ensures in
     let fits = first-fits s m set p c.requires.turn c.args.chunk c.requires.next in
     let few = turns-fit s m set p c.requires.turn c.args.chunk c.requires.next in
     let line = simp to_z-of_z at c.in_ok-push-in-Committed.ensures.items in
-    committed-led s m after set p c.requires.turn c.args.chosen c.requires.chosen c.args.lines.now.items c.push.new.self.items _ c.args.chunk schedule w.instances w.phases w.tiles w.steps c.course.view_is c.requires.next at
-    c.run_chunk.ensures.locals.0 c.run_chunk.ensures.locals.1 c.run_chunk.ensures.count run line
+    committed-with s c.args.machine.now c.run_chunk.new.self set p c.requires.turn c.args.chosen c.requires.chosen _ c.args.chunk schedule (g.C.Crew.handed c.args.crew.now) (g.C.Crew.handed c.run_chunk.new.crew)
+    c.course.view_is c.requires.next at c.run_chunk.ensures.locals.0 c.run_chunk.ensures.locals.1 c.run_chunk.ensures.count _ c.in_ok-instances.ensures.run c.in_ok-instances.ensures.gains
+    c.run_chunk.ensures.posted c.run_chunk.ensures.few c.args.lines.now.items c.push.new.self.items w.instances w.phases w.tiles w.steps w.is line
 
-pub returns-in-RolledBack : goal.returns-in-RolledBack
-returns-in-RolledBack g c =
+pub returns-in_err-push-in-Committed-clause-broke : goal.returns-in_err-push-in-Committed-clause-broke
+returns-in_err-push-in-Committed-clause-broke g c =
+    let t = c.args.chosen.pred in
+    let n = c.args.chosen.number in
     let s = c.args.course.now in
-    let m = c.args.machine.now in
-    let run : HasRun (record { table = c.args.chosen.pred; schedule = c.index-schedule.result.now; chunk = c.args.chunk }) c.course.inside.nest.now.loops m c.run_chunk.new.self (Ok RolledBack) =
-    subst (λ (end : ChunkEnd). HasRun (record { table = c.args.chosen.pred; schedule = c.index-schedule.result.now; chunk = c.args.chunk }) c.course.inside.nest.now.loops m c.run_chunk.new.self (Ok end)) c.in-RolledBack.is c.in_ok-instances.ensures.run in
+    let m = c.args.machine.now.moment in
+    let p = c.requires.placed in
+    let schedule = c.index-schedule.result.now in
+    let w = c.in-Committed in
+    let set : IsSetting g.row.D s = subst (λ (x : Setting). IsSetting g.row.D x) c.course.view_is c.course.invariant in
+    let at = chosen-candidate s m set p c.requires.turn _ c.outer.result c.args.chunk c.course.view_is c.outer.ensures c.requires.next t n c.requires.chosen schedule c.index-schedule.ensures in
+    if-err (committed-broke s c.args.machine.now c.run_chunk.new.self set p c.requires.turn c.args.chosen c.requires.chosen _ c.args.chunk schedule (g.C.Crew.handed c.args.crew.now) (g.C.Crew.handed c.run_chunk.new.crew)
+    c.course.view_is c.requires.next at c.run_chunk.ensures.locals.0 c.run_chunk.ensures.locals.1 c.run_chunk.ensures.count _ c.in_ok-instances.ensures.run c.in_ok-instances.ensures.gains
+    c.run_chunk.ensures.posted c.run_chunk.ensures.few w.instances w.phases w.tiles w.steps w.is) _
+
+pub returns-in_err-instances-clause-broke : goal.returns-in_err-instances-clause-broke
+returns-in_err-instances-clause-broke g c =
+    if-err (none-broke c.args.course.now (stages.Chunks c.args.chosen.pred c.args.chosen.number) c.args.machine.now (g.C.Crew.handed c.args.crew.now) (g.C.Crew.handed c.run_chunk.new.crew) c.in_err-instances.ensures.gains) _
+
+pub returns-in-RolledBack-clause-led : goal.returns-in-RolledBack-clause-led
+returns-in-RolledBack-clause-led g c =
+    let t = c.args.chosen.pred in
+    let n = c.args.chosen.number in
+    let s = c.args.course.now in
+    let m = c.args.machine.now.moment in
+    let p = c.requires.placed in
+    let schedule = c.index-schedule.result.now in
+    let set : IsSetting g.row.D s = subst (λ (x : Setting). IsSetting g.row.D x) c.course.view_is c.course.invariant in
+    let at = chosen-candidate s m set p c.requires.turn _ c.outer.result c.args.chunk c.course.view_is c.outer.ensures c.requires.next t n c.requires.chosen schedule c.index-schedule.ensures in
     if-ok _ _
-    (λ stage led. subst (λ (x : Moment). Led s (Chunks c.args.chosen) x c.args.lines.now.items stage c.rolled_back.new.machine c.rolled_back.new.lines.items) run.1 (led c.args.chosen.number))
-    c.rolled_back.result c.rolled_back.ensures
+    (λ stage led. rolled-with s c.args.machine.now c.run_chunk.new.self set p c.requires.turn c.args.chosen c.requires.chosen _ c.args.chunk schedule (g.C.Crew.handed c.args.crew.now) (g.C.Crew.handed c.run_chunk.new.crew)
+    c.course.view_is c.requires.next at c.run_chunk.ensures.locals.0 c.run_chunk.ensures.locals.1 c.run_chunk.ensures.count _ c.in_ok-instances.ensures.run c.in_ok-instances.ensures.gains
+    c.run_chunk.ensures.posted c.run_chunk.ensures.few c.in-RolledBack.is c.args.lines.now.items c.rolled_back.new.lines.items stage c.rolled_back.new.machine c.rolled_back.ensures.posts (led n schedule at))
+    c.rolled_back.result c.rolled_back.ensures.led
+
+pub returns-in-RolledBack-clause-broke : goal.returns-in-RolledBack-clause-broke
+returns-in-RolledBack-clause-broke g c =
+    let t = c.args.chosen.pred in
+    let n = c.args.chosen.number in
+    let s = c.args.course.now in
+    let m = c.args.machine.now.moment in
+    let p = c.requires.placed in
+    let schedule = c.index-schedule.result.now in
+    let set : IsSetting g.row.D s = subst (λ (x : Setting). IsSetting g.row.D x) c.course.view_is c.course.invariant in
+    let at = chosen-candidate s m set p c.requires.turn _ c.outer.result c.args.chunk c.course.view_is c.outer.ensures c.requires.next t n c.requires.chosen schedule c.index-schedule.ensures in
+    if-err (rolled-broke s c.args.machine.now c.run_chunk.new.self set p c.requires.turn c.args.chosen c.requires.chosen _ c.args.chunk schedule (g.C.Crew.handed c.args.crew.now) (g.C.Crew.handed c.run_chunk.new.crew)
+    c.course.view_is c.requires.next at c.run_chunk.ensures.locals.0 c.run_chunk.ensures.locals.1 c.run_chunk.ensures.count _ c.in_ok-instances.ensures.run c.in_ok-instances.ensures.gains
+    c.run_chunk.ensures.posted c.run_chunk.ensures.few c.in-RolledBack.is c.requires.launched) c.rolled_back.result

@@ -15,7 +15,7 @@ use Rattle.journeys.specs.Stages.{chunk_run_from}
 use Rattle.controller.specs.declared.stage.Chosen.{Chosen}
 use Rattle.controller.specs.declared.stage.Stage.{Stage}
 use Rattle.controller.specs.declared.stage.Stage.TheVariants.{Chunks, Plainly}
-use Rattle.controller.specs.Courses.{IsSetting, Led}
+use Rattle.controller.specs.Courses.{IsSetting, Led, given_up}
 use Rattle.controller.proofs.Plainly.{plain-led, difference-fits, done-few, next-fits, if-ok}
 use Rattle.controller.proofs.NextChunk.{chunk-some, first-fits, turns-fit, turns-are, turns_within-again}
 use Rattle.controller.proofs.DeviationPlaces.{deviation-place, table-some}
@@ -26,8 +26,8 @@ pub unreachable-requires : goal.unreachable-requires
 unreachable-requires g c =
     let t = c.args.task.pred.now in
     let s = c.args.course.now in
-    let m = c.args.machine.now in
-    let told = told-deviation t s m c.run-turned.new.self c.args.task.chunk c.new.result c.run-turned.result.1 (finish_of_turned c.run-turned.result.0) c.scalars.result.now c.close.result
+    let m = c.args.machine.now.moment in
+    let told = told-deviation t s m c.run-turned.new.self.moment c.args.task.chunk c.new.result c.run-turned.result.1 (finish_of_turned c.run-turned.result.0) c.scalars.result.now c.close.result
     (c.requires.task).some (c.requires.task).most c.requires.next c.new.ensures c.run-turned.ensures.ran c.run-turned.ensures.shown c.scalars.ensures.value c.close.ensures in
     c.requires.deviates (subst (λ (r : Option (code.Deviation g.row.D)). IsDeviationOf t (next_chunk s m) (chunk_run_from t s m) r) c.in_default.is told)
 
@@ -35,8 +35,8 @@ pub of-requires : goal.of-requires
 of-requires g c =
     let t = c.args.task.pred.now in
     let s = c.args.course.now in
-    let m = c.args.machine.now in
-    let told = told-deviation t s m c.run-turned.new.self c.args.task.chunk c.new.result c.run-turned.result.1 (finish_of_turned c.run-turned.result.0) c.scalars.result.now c.close.result
+    let m = c.args.machine.now.moment in
+    let told = told-deviation t s m c.run-turned.new.self.moment c.args.task.chunk c.new.result c.run-turned.result.1 (finish_of_turned c.run-turned.result.0) c.scalars.result.now c.close.result
     (c.requires.task).some (c.requires.task).most c.requires.next c.new.ensures c.run-turned.ensures.ran c.run-turned.ensures.shown c.scalars.ensures.value c.close.ensures in
     let deviates = subst (λ (r : Option (code.Deviation g.row.D)). IsDeviationOf t (next_chunk s m) (chunk_run_from t s m) r) c.in-Some.is told in
     let table : IsTableOf c.args.task.scalars s.loops t = subst (λ (ls : List Loop). IsTableOf c.args.task.scalars ls t) c.requires.nest (c.requires.task).table in
@@ -50,21 +50,21 @@ of-requires g c =
 pub after_turns-requires : goal.after_turns-requires
 after_turns-requires g c =
     let s = c.args.course.now in
-    let m = c.args.machine.now in
+    let m = c.args.machine.now.moment in
     let p = c.requires.placed in
     let ran = c.run-turned.ensures.ran in
-    let done = done-few s m c.run-turned.new.self _ ran.0 (finish_of_turned c.run-turned.result.0) p ran.1 in
+    let done = done-few s m c.run-turned.new.self.moment _ ran.0 (finish_of_turned c.run-turned.result.0) p ran.1 in
     let here : FitsSigned w64 m.outer.next = next-fits s m p in
     let same : c.args.task.chunk.first ≡ m.outer.next = ap (λ (k : Chunk). k.first) c.requires.next in
     let fits : FitsSigned w64 c.args.task.chunk.first = subst (λ (z : ℤ). FitsSigned w64 z) (sym same) here in
-    simp to_z-of_z (omega arith, subst (λ (z : ℤ). FitsSigned w64 (c.run-turned.new.self.outer.next -ℤ z)) (sym same) (difference-fits m c.run-turned.new.self ran.0 ran.1.outer done))
+    simp to_z-of_z (omega arith, subst (λ (z : ℤ). FitsSigned w64 (c.run-turned.new.self.moment.outer.next -ℤ z)) (sym same) (difference-fits m c.run-turned.new.self.moment ran.0 ran.1.outer done))
 
-pub returns : goal.returns
-returns g c =
+pub returns-clause-led : goal.returns-clause-led
+returns-clause-led g c =
     let t = c.args.task.pred.now in
     let s = c.args.course.now in
-    let m = c.args.machine.now in
-    let after = c.run-turned.new.self in
+    let m = c.args.machine.now.moment in
+    let after = c.run-turned.new.self.moment in
     let p = c.requires.placed in
     let task = c.requires.task in
     let set : IsSetting g.row.D s = subst (λ (x : Setting). IsSetting g.row.D x) c.course.view_is c.course.invariant in
@@ -87,13 +87,14 @@ returns g c =
     let ran = c.run-turned.ensures.ran in
     let all = subst (λ (k : ℕ). Ran s m k ran.0 (finish_of_turned c.run-turned.result.0) after) (turns ∙ sym (turns_within-again m.outer.left s.chunk)) ran.1 in
     if-ok _ _
-    (λ stage is number.
+    (λ stage is number schedule which.
     let chosen : Chosen g.row.D = record { pred = t; number = number } in
     let plain : c.after_turns.new.lines.items ≡ mid ++ said.Plain m.outer.next (after.outer.next -ℤ m.outer.next) ∷ [] =
     (simp to_z-of_z at is.1) ∙ ap (λ (z : ℤ). mid ++ said.Plain z (after.outer.next -ℤ z) ∷ []) same in
-    led-more s (Chunks chosen) (Plainly (chunk_turns s m)) stage m m after before mid c.after_turns.new.lines.items
-    (rolled-led s m set p c.requires.turn chosen before mid deviation.at deviation.how (task.launched).0 launched deviates line)
-    (subst (λ (x : Stage g.row.D). Led s (Plainly (chunk_turns s m)) m mid x after c.after_turns.new.lines.items) (sym is.0)
+    subst (λ (k : Chunk). Led s (Chunks chosen) m before stage after c.after_turns.new.lines.items (given_up t schedule k)) (sym c.requires.next)
+    (led-more s (Chunks chosen) (Plainly (chunk_turns s m)) stage m m after before mid c.after_turns.new.lines.items (given_up t schedule (next_chunk s m)) []
+    (rolled-led s m set p c.requires.turn chosen before mid schedule deviation.at deviation.how (task.launched).0 which launched deviates line)
+    (subst (λ (x : Stage g.row.D). Led s (Plainly (chunk_turns s m)) m mid x after c.after_turns.new.lines.items []) (sym is.0)
     (plain-led s (chunk_turns s m) m after ran.0 mid c.after_turns.new.lines.items p.keeps.loops_keep p c.requires.turn (chunk-some s m set p c.requires.turn)
-    c.run-turned.ensures.position c.run-turned.ensures.count plain c.run-turned.result.0 all)))
+    c.run-turned.ensures.position c.run-turned.ensures.count plain c.run-turned.result.0 all))))
     c.after_turns.result c.after_turns.ensures

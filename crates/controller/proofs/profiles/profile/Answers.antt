@@ -1,4 +1,4 @@
-use Rattle.std.proofs.Common.{◌≡◌, ℕ, ◌≤◌, List, ◌∙◌, ap, subst, sym, Some, true, false, arith, rules}
+use Rattle.std.proofs.Common.{◌≡◌, ℕ, ◌≤◌, List, [], ◌∙◌, ap, subst, sym, Some, true, false, arith, rules}
 use Rattle.nest_lang.specs.Traces.{Observation}
 use Rattle.nest_lang.specs.Turns.{finish_of_turned}
 use Rattle.nest_lang.specs.declared.budget.Ending.{Ending}
@@ -10,15 +10,15 @@ use Rattle.controller.proofs.ProfileLaws.{kept-observed, profile-judged, profile
 use Rattle.controller.proofs.Plainly.{if-ok}
 use Rattle.controller.proofs.profiles.profile.Goals as goal
 
-pub returns-then-not-has_turn : goal.returns-then-not-has_turn
-returns-then-not-has_turn g c =
-    let off : has_turn c.args.machine.now.outer.left ≡ false = search rules in
-    profile-none c.args.course.now c.args.machine.now c.args.lines.now.items c.requires off
+pub returns-then-not-has_turn-clause-led : goal.returns-then-not-has_turn-clause-led
+returns-then-not-has_turn-clause-led g c =
+    let off : has_turn c.args.machine.now.moment.outer.left ≡ false = search rules in
+    profile-none c.args.course.now c.args.machine.now.moment c.args.lines.now.items c.requires off
 
-pub returns-then-not-has_turn-2 : goal.returns-then-not-has_turn-2
-returns-then-not-has_turn-2 g c =
-    let m = c.args.machine.now in
-    let after = c.run-turned.new.self in
+pub returns-then-not-has_turn-2-clause-led : goal.returns-then-not-has_turn-2-clause-led
+returns-then-not-has_turn-2-clause-led g c =
+    let m = c.args.machine.now.moment in
+    let after = c.run-turned.new.self.moment in
     let ran = c.run-turned.ensures.ran in
     let turns : c.turns_within-turns.result ≡ profile_turns c.args.course.now m = c.turns_within-turns.ensures ∙ ap (λ (x : Setting). turns_within m.outer.left x.sample) c.course.view_is in
     let on : has_turn m.outer.left ≡ true = search rules in
@@ -28,10 +28,10 @@ returns-then-not-has_turn-2 g c =
     profile-used_up c.args.course.now m after ran.0 c.args.lines.now.items c.push.new.self.items c.requires on c.run-turned.ensures.position c.run-turned.ensures.count told g.row.D
     (rw (turns, c.in-Went.is) at ran.1) off
 
-pub returns-in_ok-finish-in-Went : goal.returns-in_ok-finish-in-Went
-returns-in_ok-finish-in-Went g c =
-    let m = c.args.machine.now in
-    let after = c.run-turned.new.self in
+pub returns-in_ok-finish-in-Went-clause-led : goal.returns-in_ok-finish-in-Went-clause-led
+returns-in_ok-finish-in-Went-clause-led g c =
+    let m = c.args.machine.now.moment in
+    let after = c.run-turned.new.self.moment in
     let ran = c.run-turned.ensures.ran in
     let turns : c.turns_within-turns.result ≡ profile_turns c.args.course.now m = c.turns_within-turns.ensures ∙ ap (λ (x : Setting). turns_within m.outer.left x.sample) c.course.view_is in
     let on : has_turn m.outer.left ≡ true = search rules in
@@ -49,10 +49,10 @@ returns-in_ok-finish-in-Went g c =
     (subst (λ (os : List Observation). IsJudged c.args.course.now os c.push.new.self.items stage c.judge-in-Went.new.lines.items) kept (is m (profile_turns c.args.course.now m) kept)))
     c.judge-in-Went.result c.judge-in-Went.ensures
 
-pub returns-in_default : goal.returns-in_default
-returns-in_default g c =
-    let m = c.args.machine.now in
-    let after = c.run-turned.new.self in
+pub returns-in_default-clause-led : goal.returns-in_default-clause-led
+returns-in_default-clause-led g c =
+    let m = c.args.machine.now.moment in
+    let after = c.run-turned.new.self.moment in
     let ran = c.run-turned.ensures.ran in
     let turns : c.turns_within-turns.result ≡ profile_turns c.args.course.now m = c.turns_within-turns.ensures ∙ ap (λ (x : Setting). turns_within m.outer.left x.sample) c.course.view_is in
     let on : has_turn m.outer.left ≡ true = search rules in
@@ -60,5 +60,5 @@ returns-in_default g c =
     c.run-turned.ensures.position c.run-turned.ensures.count c.outer-first.ensures c.outer.ensures c.in_ok-push.ensures.items in
     let e = c.run-turned.result.0 in
     let same : c.ending_of.result ≡ ending_of e = c.ending_of.ensures.value in
-    subst (λ (x : Ending). Led {D = g.row.D} c.args.course.now Profiles m c.args.lines.now.items (Over x) after c.push.new.self.items) (sym same)
+    subst (λ (x : Ending). Led {D = g.row.D} c.args.course.now Profiles m c.args.lines.now.items (Over x) after c.push.new.self.items []) (sym same)
     (profile-stopped c.args.course.now m after ran.0 c.args.lines.now.items c.push.new.self.items c.requires on c.run-turned.ensures.position c.run-turned.ensures.count told g.row.D e c.in_default.not-Went (rw turns at ran.1))

@@ -12,23 +12,23 @@ pub after_turns-requires : goal.after_turns-requires
 after_turns-requires g c =
     let p = c.requires.placed in
     let ran = c.run-turned.ensures.ran in
-    let few = done-few c.args.course.now c.args.machine.now c.run-turned.new.self c.turns_within-turns.result ran.0 (finish_of_turned c.run-turned.result.0) p ran.1 in
-    let here : FitsSigned w64 c.args.machine.now.outer.next = next-fits c.args.course.now c.args.machine.now p in
+    let few = done-few c.args.course.now c.args.machine.now.moment c.run-turned.new.self.moment c.turns_within-turns.result ran.0 (finish_of_turned c.run-turned.result.0) p ran.1 in
+    let here : FitsSigned w64 c.args.machine.now.moment.outer.next = next-fits c.args.course.now c.args.machine.now.moment p in
     let fits : FitsSigned w64 c.outer-first.result.next = rw c.outer-first.ensures here in
-    simp to_z-of_z (rw c.outer-first.ensures (omega arith, difference-fits c.args.machine.now c.run-turned.new.self ran.0 ran.1.outer few))
+    simp to_z-of_z (rw c.outer-first.ensures (omega arith, difference-fits c.args.machine.now.moment c.run-turned.new.self.moment ran.0 ran.1.outer few))
 
-pub returns : goal.returns
-returns g c =
+pub returns-clause-led : goal.returns-clause-led
+returns-clause-led g c =
     let p = c.requires.placed in
     let ran = c.run-turned.ensures.ran in
-    let here : FitsSigned w64 c.args.machine.now.outer.next = next-fits c.args.course.now c.args.machine.now p in
+    let here : FitsSigned w64 c.args.machine.now.moment.outer.next = next-fits c.args.course.now c.args.machine.now.moment p in
     let fits : FitsSigned w64 c.outer-first.result.next = rw c.outer-first.ensures here in
     let all = rw c.turns_within-turns.ensures at ran.1 in
     if-ok _ _
     (λ stage is.
-    let lines : c.after_turns.new.lines.items ≡ c.args.lines.now.items ++ said.Plain c.args.machine.now.outer.next (c.run-turned.new.self.outer.next -ℤ c.args.machine.now.outer.next) ∷ [] =
-    (simp to_z-of_z at is.1) ∙ ap (λ (o : Outer). c.args.lines.now.items ++ said.Plain o.next (c.run-turned.new.self.outer.next -ℤ o.next) ∷ []) c.outer-first.ensures in
-    subst (λ (s : Stage g.row.D). Led c.args.course.now (Plainly c.args.turns) c.args.machine.now c.args.lines.now.items s c.run-turned.new.self c.after_turns.new.lines.items) (sym is.0)
-    (plain-led c.args.course.now c.args.turns c.args.machine.now c.run-turned.new.self ran.0 c.args.lines.now.items c.after_turns.new.lines.items p.keeps.loops_keep p c.requires.turn c.requires.some
+    let lines : c.after_turns.new.lines.items ≡ c.args.lines.now.items ++ said.Plain c.args.machine.now.moment.outer.next (c.run-turned.new.self.moment.outer.next -ℤ c.args.machine.now.moment.outer.next) ∷ [] =
+    (simp to_z-of_z at is.1) ∙ ap (λ (o : Outer). c.args.lines.now.items ++ said.Plain o.next (c.run-turned.new.self.moment.outer.next -ℤ o.next) ∷ []) c.outer-first.ensures in
+    subst (λ (s : Stage g.row.D). Led c.args.course.now (Plainly c.args.turns) c.args.machine.now.moment c.args.lines.now.items s c.run-turned.new.self.moment c.after_turns.new.lines.items []) (sym is.0)
+    (plain-led c.args.course.now c.args.turns c.args.machine.now.moment c.run-turned.new.self.moment ran.0 c.args.lines.now.items c.after_turns.new.lines.items p.keeps.loops_keep p c.requires.turn c.requires.some
     c.run-turned.ensures.position c.run-turned.ensures.count lines c.run-turned.result.0 all))
     c.after_turns.result c.after_turns.ensures

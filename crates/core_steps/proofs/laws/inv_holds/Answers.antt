@@ -1,5 +1,5 @@
-use Rattle.core_steps.proofs.Phases.{reached_sound}
+use Rattle.core_steps.proofs.Phases.{reached-sound}
 use Rattle.core_steps.proofs.laws.inv_holds.Goals as goal
 
 pub returns : goal.returns
-returns c = reached_sound
+returns c = reached-sound

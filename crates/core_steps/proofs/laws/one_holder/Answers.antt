@@ -1,5 +1,5 @@
-use Rattle.core_steps.proofs.Phases.{reached_sound, one_holder_of}
+use Rattle.core_steps.proofs.Phases.{reached-sound, one-holder-of}
 use Rattle.core_steps.proofs.laws.one_holder.Goals as goal
 
 pub returns : goal.returns
-returns c words steps s run = one_holder_of s (reached_sound words steps s run)
+returns c words steps s run = one-holder-of s (reached-sound words steps s run)

@@ -1,5 +1,5 @@
-use Rattle.core_steps.proofs.OwnLoads.{load_own_or_post}
+use Rattle.core_steps.proofs.OwnLoads.{load-own-or-post}
 use Rattle.core_steps.proofs.laws.own_loads.Goals as goal
 
 pub returns : goal.returns
-returns c = load_own_or_post
+returns c = load-own-or-post

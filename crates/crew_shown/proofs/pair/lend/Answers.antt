@@ -4,7 +4,7 @@ use Rattle.core_steps.specs.declared.plan.Plan.{Plan}
 use Rattle.core_steps.specs.declared.view.View.{View}
 use Rattle.follow_chunk.specs.Tasks.{IsTask}
 use Rattle.shared_words.specs.Seats.{memory_words}
-use Rattle.crew_shown.proofs.EmptyTiles.{none_in, none_at_all, few-empties}
+use Rattle.crew_shown.proofs.EmptyTiles.{none-in, none-at-all, few-empties}
 use Rattle.crew_shown.proofs.pair.lend.Goals as goal
 
 pub new-requires : goal.new-requires
@@ -33,9 +33,9 @@ new-requires c =
                     (
                       subst (λ (k : ℕ). IsTask 1 task.scalars task.nest.now.loops task.pred.now task.outer task.chunk (pos k)) (sym (ap (λ (u : View). length u.base) v ∙ c.requires.count)) c.requires.task,
                       (
-                        record { writes_in = λ tile a x h. absurd (none_in n tile x h); touches_in = λ tile a x h. absurd (none_in n tile x h) },
+                        record { writes_in = λ tile a x h. absurd (none-in n tile x h); touches_in = λ tile a x h. absurd (none-in n tile x h) },
                         (
-                          λ x h. absurd (none_at_all n x h),
+                          λ x h. absurd (none-at-all n x h),
                           few-empties n,
                         ),
                       ),

@@ -3,14 +3,14 @@ use Rattle.std.specs.Int.{w128}
 use Rattle.std.proofs.lemmas.Int.{to_z-of_z}
 use Rattle.dependence.specs.Terms.{term_of}
 use Rattle.dependence.specs.Comparisons.{at_most}
-use Rattle.dependence.proofs.BuiltRowLaws.{pushed_x, pushed_y, fits_x, fits_y, row_is, minus_is, same_length, within-row_for}
+use Rattle.dependence.proofs.BuiltRowLaws.{pushed-x, pushed-y, fits-x, fits-y, row-is, minus-is, same_length, within-row_for}
 use Rattle.dependence.proofs.RowLaws.{variables-row_for}
 use Rattle.affine.specs.Rows.{variables}
 use Rattle.fourier_motzkin.specs.RowSets.{IsWithin}
 use Rattle.dependence.proofs.comparison.row_for.Goals as goal
 
 pub push-requires-in-loop-counter : goal.push-requires-in-loop-counter
-push-requires-in-loop-counter g c = (lit< tt, fits_x _ _ _ _ c.loop-counter.counter c.args.x g.row.D c.loop-counter.invariant c.loop-counter-test.true c.requires.x c.requires.few)
+push-requires-in-loop-counter g c = (lit< tt, fits-x _ _ _ _ c.loop-counter.counter c.args.x g.row.D c.loop-counter.invariant c.loop-counter-test.true c.requires.x c.requires.few)
 
 pub loop-counter-preserved : goal.loop-counter-preserved
 loop-counter-preserved g c =
@@ -19,10 +19,10 @@ loop-counter-preserved g c =
     let r : FitsSigned w128 c.minus.result = search rules in
     let items = simp to_z-of_z at c.push-in-loop-counter.ensures.items in
     let value = simp to_z-of_z at c.minus.ensures.value in
-    pushed_x _ _ _ c.minus.result _ _ c.loop-counter.counter c.loop-counter.invariant items (minus_is _ _ _ _ _ value c.on_x.ensures c.on_x-in-loop-counter.ensures)
+    pushed-x _ _ _ c.minus.result _ _ c.loop-counter.counter c.loop-counter.invariant items (minus-is _ _ _ _ _ value c.on_x.ensures c.on_x-in-loop-counter.ensures)
 
 pub push-requires-in-loop-counter-2 : goal.push-requires-in-loop-counter-2
-push-requires-in-loop-counter-2 g c = (lit< tt, fits_y _ _ _ _ _ _ c.args.x c.loop-counter-2.counter c.args.y g.row.D c.loop-counter-2.invariant c.requires.x c.loop-counter-2-test.true c.requires.y c.requires.few)
+push-requires-in-loop-counter-2 g c = (lit< tt, fits-y _ _ _ _ _ _ c.args.x c.loop-counter-2.counter c.args.y g.row.D c.loop-counter-2.invariant c.requires.x c.loop-counter-2-test.true c.requires.y c.requires.few)
 
 pub loop-counter-2-preserved : goal.loop-counter-2-preserved
 loop-counter-2-preserved g c =
@@ -31,7 +31,7 @@ loop-counter-2-preserved g c =
     let r : FitsSigned w128 c.minus-in-loop-counter-2.result = search rules in
     let items = simp to_z-of_z at c.push-in-loop-counter-2.ensures.items in
     let value = simp to_z-of_z at c.minus-in-loop-counter-2.ensures.value in
-    pushed_y _ _ _ c.minus-in-loop-counter-2.result _ _ _ c.loop-counter-2.counter c.loop-counter-2.invariant items (minus_is _ _ _ _ _ value c.on_y.ensures c.on_y-in-loop-counter-2.ensures)
+    pushed-y _ _ _ c.minus-in-loop-counter-2.result _ _ _ c.loop-counter-2.counter c.loop-counter-2.invariant items (minus-is _ _ _ _ _ value c.on_y.ensures c.on_y-in-loop-counter-2.ensures)
 
 pub returns-clause-value : goal.returns-clause-value
 returns-clause-value g c =
@@ -40,8 +40,8 @@ returns-clause-value g c =
     let r : FitsSigned w128 c.minus-2.result = search rules in
     let value = simp to_z-of_z at c.minus-2.ensures.value in
     let done : c.loop-counter-2.counter ≡ c.args.y = omega (arith, c.loop-counter-2-test.false, c.loop-counter-2.auto.counter-end) in
-    row_is c.args.x c.args.y (at_most (term_of c.args.left.now) (term_of c.args.right.now)) _ c.loop-counter-2.coef.items (c.loop-counter-2.invariant ∙ same_length _ _ _ _ _ _ done) refl
-    (simp to_z-of_z (minus_is _ _ _ _ _ value c.alone.ensures c.alone-2.ensures))
+    row-is c.args.x c.args.y (at_most (term_of c.args.left.now) (term_of c.args.right.now)) _ c.loop-counter-2.coef.items (c.loop-counter-2.invariant ∙ same_length _ _ _ _ _ _ done) refl
+    (simp to_z-of_z (minus-is _ _ _ _ _ value c.alone.ensures c.alone-2.ensures))
 
 pub returns-clause-within : goal.returns-clause-within
 returns-clause-within g c =

@@ -2,7 +2,7 @@ use Rattle.std.proofs.Common.{◌≡◌, ◌∙◌, ap, ap₂, sym, subst, ◌++
 use Rattle.std.specs.List.{All, range_with_len, flat_map}
 use Rattle.nest_lang.specs.declared.tree.AccessRef.{AccessRef}
 use Rattle.dependence.specs.Systems.{IsRef, refs_of}
-use Rattle.dependence.proofs.AddedLaws.{flat_more}
+use Rattle.dependence.proofs.AddedLaws.{flat-more}
 use Rattle.dependence.proofs.PairLaws.{refs-all}
 use Rattle.dependence.proofs.pairs.refs.Goals as goal
 
@@ -12,7 +12,7 @@ loop-rank-preserved g c =
     let here : 0 + c.loop-rank.rank ≡ c.loop-rank.rank = omega arith in
     c.in_ok-push_refs.ensures
     ∙ ap₂ (λ (xs : List AccessRef) (k : ℕ). xs ++ refs_of c.args.pred.now k) c.loop-rank.invariant (sym here)
-    ∙ sym (ap (λ (n : ℕ). flat_map (refs_of c.args.pred.now) (range_with_len 0 n)) next ∙ flat_more (refs_of c.args.pred.now) 0 c.loop-rank.rank)
+    ∙ sym (ap (λ (n : ℕ). flat_map (refs_of c.args.pred.now) (range_with_len 0 n)) next ∙ flat-more (refs_of c.args.pred.now) 0 c.loop-rank.rank)
 
 pub returns-clause-value : goal.returns-clause-value
 returns-clause-value g c =

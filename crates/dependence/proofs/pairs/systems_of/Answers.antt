@@ -3,13 +3,13 @@ use Rattle.std.specs.Prelude.{if◌then◌else◌}
 use Rattle.std.proofs.lemmas.Int.{to_z-of_z}
 use Rattle.domain.specs.Tables.{depth}
 use Rattle.dependence.specs.Systems.{IsSystemOf, pairs, referred, system}
-use Rattle.dependence.proofs.PairLaws.{more_cases, systems_of-all, systems_of-is}
+use Rattle.dependence.proofs.PairLaws.{more-cases, systems_of-all, systems_of-is}
 use Rattle.dependence.proofs.pairs.systems_of.Goals as goal
 
 pub loop-case-preserved : goal.loop-case-preserved
 loop-case-preserved g c =
     let l : FitsSigned w64 c.args.length = search rules in
-    simp to_z-of_z (more_cases c.loop-case.found.items c.push.new.self.items (system c.args.pred.now c.args.length c.args.first c.args.second) c.loop-case.case c.in_ok-system_for.field-0 c.loop-case.auto.case (simp to_z-of_z at c.loop-case.invariant) c.in_ok-push.ensures.items (simp to_z-of_z at c.in_ok-system_for.ensures))
+    simp to_z-of_z (more-cases c.loop-case.found.items c.push.new.self.items (system c.args.pred.now c.args.length c.args.first c.args.second) c.loop-case.case c.in_ok-system_for.field-0 c.loop-case.auto.case (simp to_z-of_z at c.loop-case.invariant) c.in_ok-push.ensures.items (simp to_z-of_z at c.in_ok-system_for.ensures))
 
 pub returns-clause-value : goal.returns-clause-value
 returns-clause-value g c =

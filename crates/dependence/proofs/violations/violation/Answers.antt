@@ -9,7 +9,7 @@ use Rattle.dependence.specs.Sides.{is_above}
 use Rattle.dependence.specs.Legality.{joint_variables, unmoved}
 use Rattle.dependence.proofs.AddedLaws.{narrow-x, narrow-y, wider}
 use Rattle.dependence.proofs.PairLaws.{first-block, second-block}
-use Rattle.dependence.proofs.ViolationLaws.{more_unmoved, row_form-is, violation-is, violation-over}
+use Rattle.dependence.proofs.ViolationLaws.{more-unmoved, row_form-is, violation-is, violation-over}
 use Rattle.dependence.proofs.violations.violation.Goals as goal
 
 pub block-a-requires : goal.block-a-requires
@@ -25,7 +25,7 @@ pub loop-leading-preserved : goal.loop-leading-preserved
 loop-leading-preserved g c =
     let long = c.matrix_row-line.ensures.long in
     let inside : c.loop-leading.leading < length c.args.schedule.now.lines = omega arith in
-    more_unmoved (row_for c.counters.result c.counters-2.result) c.args.pred.now c.block-a.result.now c.block-b.result.now c.args.schedule.now c.loop-leading.leading c.row_sum-x.result c.row_sum-y.result _ c.loop-leading.list.rows.items c.equal.new.self.rows.items inside
+    more-unmoved (row_for c.counters.result c.counters-2.result) c.args.pred.now c.block-a.result.now c.block-b.result.now c.args.schedule.now c.loop-leading.leading c.row_sum-x.result c.row_sum-y.result _ c.loop-leading.list.rows.items c.equal.new.self.rows.items inside
     (row_form-is c.args.pred.now c.block-a.result.now (line_at c.args.schedule.now c.loop-leading.leading) c.matrix_row-line.result.now c.row_sum-x.result c.matrix_row-line.ensures.value c.row_sum-x.ensures.value)
     (row_form-is c.args.pred.now c.block-b.result.now (line_at c.args.schedule.now c.loop-leading.leading) c.matrix_row-line.result.now c.row_sum-y.result c.matrix_row-line.ensures.value c.row_sum-y.ensures.value)
     c.loop-leading.invariant c.in_ok-equal.ensures

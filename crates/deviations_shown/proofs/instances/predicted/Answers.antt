@@ -5,7 +5,7 @@ use Rattle.plain_lemmas.proofs.IntegerLaws.{int_lt-true}
 use Rattle.domain.specs.Instances.{Instance, Predicted, opening_at}
 use Rattle.domain.proofs.OriginalLaws.{opening-predicted}
 use Rattle.follow_chunk.proofs.Standing.{can-turn}
-use Rattle.compare.proofs.PredictedChains.{tasks-are_chunks}
+use Rattle.compare.proofs.PredictedChains.{tasks-are-chunks}
 use Rattle.deviations_shown.proofs.Listing.{in-chunk, all-with}
 use Rattle.deviations_shown.proofs.instances.predicted.Goals as goal
 
@@ -15,7 +15,7 @@ loop-done-init g c =
     let t = self.pred.now in
     let chunk = self.chunk in
     let task = c.requires.task in
-    let next = tasks-are_chunks g.row.D self.scalars self.nest.now.loops t self.outer chunk task.0 task.1 in
+    let next = tasks-are-chunks g.row.D self.scalars self.nest.now.loops t self.outer chunk task.0 task.1 in
     let from = next.from in
     let some = next.some in
     let soon = task.1.soon in
@@ -32,7 +32,7 @@ pub holds-requires : goal.holds-requires
 holds-requires g c =
     let self = c.args.task.now in
     let task = c.requires.task in
-    let next = tasks-are_chunks g.row.D self.scalars self.nest.now.loops self.pred.now self.outer self.chunk task.0 task.1 in
+    let next = tasks-are-chunks g.row.D self.scalars self.nest.now.loops self.pred.now self.outer self.chunk task.0 task.1 in
     let from = next.from in
     let turns = next.some in
     let soon = task.1.soon in

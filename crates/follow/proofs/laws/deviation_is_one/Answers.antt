@@ -1,5 +1,5 @@
-use Rattle.follow.proofs.Deviating.{deviation-is_one}
+use Rattle.follow.proofs.Deviating.{deviation-is-one}
 use Rattle.follow.proofs.laws.deviation_is_one.Goals as goal
 
 pub returns : goal.returns
-returns c = deviation-is_one
+returns c = deviation-is-one

@@ -1,5 +1,5 @@
-use Rattle.follow.proofs.Lawful.{follow-is_lawful}
+use Rattle.follow.proofs.Lawful.{follow-is-lawful}
 use Rattle.follow.proofs.laws.follow_is_lawful.Goals as goal
 
 pub returns : goal.returns
-returns c = follow-is_lawful
+returns c = follow-is-lawful

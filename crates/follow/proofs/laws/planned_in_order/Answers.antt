@@ -1,7 +1,7 @@
 use Rattle.follow.proofs.Ranking.{original-order}
 use Rattle.follow.proofs.Having.{planned-some}
 use Rattle.follow.proofs.Beginning.{planned-first}
-use Rattle.follow.proofs.Finding.{planned-by_instance}
+use Rattle.follow.proofs.Finding.{planned-by-instance}
 use Rattle.follow.proofs.laws.planned_in_order.Goals as goal
 
 pub returns-clause-ordered : goal.returns-clause-ordered
@@ -14,4 +14,4 @@ pub returns-clause-first : goal.returns-clause-first
 returns-clause-first c = planned-first
 
 pub returns-clause-each : goal.returns-clause-each
-returns-clause-each c = planned-by_instance
+returns-clause-each c = planned-by-instance

@@ -1,5 +1,5 @@
-use Rattle.follow_chunk.proofs.Conflicts.{instances-have_items}
+use Rattle.follow_chunk.proofs.Conflicts.{instances-have-items}
 use Rattle.follow_chunk.proofs.laws.instances_have_items.Goals as goal
 
 pub returns : goal.returns
-returns c = instances-have_items
+returns c = instances-have-items

@@ -1,5 +1,5 @@
-use Rattle.follow_chunk.proofs.Conflicts.{next-is_successor}
+use Rattle.follow_chunk.proofs.Conflicts.{next-is-successor}
 use Rattle.follow_chunk.proofs.laws.next_is_successor.Goals as goal
 
 pub returns : goal.returns
-returns c = next-is_successor
+returns c = next-is-successor

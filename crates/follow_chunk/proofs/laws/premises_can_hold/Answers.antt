@@ -1,5 +1,5 @@
-use Rattle.follow_chunk.proofs.Premises.{premises-can_hold}
+use Rattle.follow_chunk.proofs.Premises.{premises-can-hold}
 use Rattle.follow_chunk.proofs.laws.premises_can_hold.Goals as goal
 
 pub returns : goal.returns
-returns c = premises-can_hold
+returns c = premises-can-hold

@@ -2,7 +2,7 @@ use Rattle.std.proofs.Common.{◌∙◌, sym, subst}
 use Rattle.fourier_motzkin.proofs.EliminationLaws.{eliminated-is}
 use Rattle.fourier_motzkin.specs.Elimination.{MeetsSaid}
 use Rattle.fourier_motzkin.specs.declared.elimination.Eliminated.{Eliminated}
-use Rattle.fourier_motzkin.proofs.Points.{eliminated_met}
+use Rattle.fourier_motzkin.proofs.Points.{eliminated-met}
 use Rattle.fourier_motzkin.proofs.elimination.eliminate.Goals as goal
 
 pub returns-clause-value : goal.returns-clause-value
@@ -10,4 +10,4 @@ returns-clause-value c = c.judged.ensures ∙ eliminated-is c.args.variable c.ar
 
 pub returns-clause-points : goal.returns-clause-points
 returns-clause-points c = λ point met.
-    subst (λ (said : Eliminated). MeetsSaid point said) (sym (returns-clause-value c)) (eliminated_met c.requires.over.0 c.args.variable c.args.rows.now point c.requires.over.2 met)
+    subst (λ (said : Eliminated). MeetsSaid point said) (sym (returns-clause-value c)) (eliminated-met c.requires.over.0 c.args.variable c.args.rows.now point c.requires.over.2 met)

@@ -1,5 +1,5 @@
-use Rattle.fourier_motzkin.proofs.Points.{eliminated_met}
+use Rattle.fourier_motzkin.proofs.Points.{eliminated-met}
 use Rattle.fourier_motzkin.proofs.laws.eliminating_keeps_points.Goals as goal
 
 pub returns : goal.returns
-returns c = eliminated_met
+returns c = eliminated-met

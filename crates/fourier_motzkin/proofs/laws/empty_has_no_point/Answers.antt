@@ -1,5 +1,5 @@
-use Rattle.fourier_motzkin.proofs.Points.{verdict_unmet}
+use Rattle.fourier_motzkin.proofs.Points.{verdict-unmet}
 use Rattle.fourier_motzkin.proofs.laws.empty_has_no_point.Goals as goal
 
 pub returns : goal.returns
-returns c = verdict_unmet
+returns c = verdict-unmet

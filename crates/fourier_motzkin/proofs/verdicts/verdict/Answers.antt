@@ -1,5 +1,5 @@
 use Rattle.std.proofs.Common.{sym, ◌∙◌}
-use Rattle.fourier_motzkin.proofs.Points.{verdict_unmet}
+use Rattle.fourier_motzkin.proofs.Points.{verdict-unmet}
 use Rattle.fourier_motzkin.proofs.EliminationRunLaws.{verdict-bounds}
 use Rattle.fourier_motzkin.proofs.verdicts.verdict.Goals as goal
 
@@ -8,4 +8,4 @@ returns-clause-value c = verdict-bounds c.args.variables c.args.rows.now c.in_ok
 
 pub returns-clause-empty : goal.returns-clause-empty
 returns-clause-empty c = λ e point met.
-    verdict_unmet c.args.variables c.args.rows.now point c.requires.over (sym (returns-clause-value c) ∙ e) met
+    verdict-unmet c.args.variables c.args.rows.now point c.requires.over (sym (returns-clause-value c) ∙ e) met

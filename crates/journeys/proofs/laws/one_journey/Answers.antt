@@ -1,5 +1,5 @@
-use Rattle.journeys.proofs.OneJourney.{one-journey, one-nest_journey}
+use Rattle.journeys.proofs.OneJourney.{one-journey, one-nest-journey}
 use Rattle.journeys.proofs.laws.one_journey.Goals as goal
 
 pub returns : goal.returns
-returns c = record { nest = one-nest_journey; file = one-journey }
+returns c = record { nest = one-nest-journey; file = one-journey }

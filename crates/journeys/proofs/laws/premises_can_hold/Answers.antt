@@ -1,5 +1,5 @@
-use Rattle.journeys.proofs.Premises.{premises-can_meet}
+use Rattle.journeys.proofs.Premises.{premises-can-meet}
 use Rattle.journeys.proofs.laws.premises_can_hold.Goals as goal
 
 pub returns : goal.returns
-returns c = premises-can_meet
+returns c = premises-can-meet

@@ -1,5 +1,5 @@
-use Rattle.journeys.proofs.SomeWay.{chunk-leads_somewhere, plain-leads_somewhere, profile-leads_somewhere}
+use Rattle.journeys.proofs.SomeWay.{chunk-leads-somewhere, plain-leads-somewhere, profile-leads-somewhere}
 use Rattle.journeys.proofs.laws.stages_lead.Goals as goal
 
 pub returns : goal.returns
-returns c = record { profile = profile-leads_somewhere; plainly = plain-leads_somewhere; chunk = chunk-leads_somewhere }
+returns c = record { profile = profile-leads-somewhere; plainly = plain-leads-somewhere; chunk = chunk-leads-somewhere }

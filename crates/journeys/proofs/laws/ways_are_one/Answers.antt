@@ -1,7 +1,7 @@
-use Rattle.journeys.proofs.OneChunk.{chunk-leads_one_way}
-use Rattle.journeys.proofs.OneJourney.{stage-leads_one_way}
-use Rattle.journeys.proofs.OneWay.{plain-leads_one_way, profile-leads_one_way}
+use Rattle.journeys.proofs.OneChunk.{chunk-leads-one-way}
+use Rattle.journeys.proofs.OneJourney.{stage-leads-one-way}
+use Rattle.journeys.proofs.OneWay.{plain-leads-one-way, profile-leads-one-way}
 use Rattle.journeys.proofs.laws.ways_are_one.Goals as goal
 
 pub returns : goal.returns
-returns c = record { profile = profile-leads_one_way; chunk = chunk-leads_one_way; plainly = plain-leads_one_way; stage = stage-leads_one_way }
+returns c = record { profile = profile-leads-one-way; chunk = chunk-leads-one-way; plainly = plain-leads-one-way; stage = stage-leads-one-way }

@@ -4,7 +4,7 @@ use Rattle.std.proofs.lemmas.Int.{to_z-of_z}
 use Rattle.dependence.specs.Systems.{systems_of}
 use Rattle.dependence.specs.Legality.{trials_of}
 use Rattle.legality.specs.Judgements.{first_refusal, refuses, told}
-use Rattle.legality.proofs.FirstLaws.{none-more, found-here, none-at_end}
+use Rattle.legality.proofs.FirstLaws.{none-more, found-here, none-at-end}
 use Rattle.legality.proofs.RefusalLaws.{refused-is}
 use Rattle.nest_lang.specs.declared.tree.AccessRef.{AccessRef}
 use Rattle.dependence.specs.Systems.{refs}
@@ -38,6 +38,6 @@ returns g c =
     let s = c.args.schedule.now in
     let items = c.deref-first-items.result.now in
     let same : items ≡ refs t = c.deref-first-items.ensures.value ∙ c.in_ok-refs.ensures.value in
-    none-at_end (refuses t s) (told t s) (λ first. flat_map (trials_of t s) (flat_map (systems_of t c.args.length first) items)) items c.loop-first.first-index (omega (arith, c.loop-first-test.false)) (simp to_z-of_z at c.loop-first.invariant)
+    none-at-end (refuses t s) (told t s) (λ first. flat_map (trials_of t s) (flat_map (systems_of t c.args.length first) items)) items c.loop-first.first-index (omega (arith, c.loop-first-test.false)) (simp to_z-of_z at c.loop-first.invariant)
     ∙ ap (λ (xs : List AccessRef). first_refusal t s (flat_map (λ first. flat_map (trials_of t s) (flat_map (systems_of t c.args.length first) xs)) xs)) same
     ∙ refused-is t s c.args.length

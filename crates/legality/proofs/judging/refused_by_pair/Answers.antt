@@ -4,7 +4,7 @@ use Rattle.std.proofs.lemmas.Int.{to_z-of_z}
 use Rattle.dependence.specs.Systems.{System, IsSystemOf}
 use Rattle.dependence.specs.Legality.{trials_of}
 use Rattle.legality.specs.Judgements.{first_refusal, refuses, told}
-use Rattle.legality.proofs.FirstLaws.{none-more, found-here, none-at_end}
+use Rattle.legality.proofs.FirstLaws.{none-more, found-here, none-at-end}
 use Rattle.legality.proofs.judging.refused_by_pair.Goals as goal
 
 pub refused_by_system-requires : goal.refused_by_system-requires
@@ -34,5 +34,5 @@ returns g c =
     let t = c.args.pred.now in
     let s = c.args.schedule.now in
     let l : FitsSigned w64 c.args.length = search rules in
-    none-at_end (refuses t s) (told t s) (trials_of t s) c.deref-system-items.result.now c.loop-system.system-index (omega (arith, c.loop-system-test.false)) c.loop-system.invariant
+    none-at-end (refuses t s) (told t s) (trials_of t s) c.deref-system-items.result.now c.loop-system.system-index (omega (arith, c.loop-system-test.false)) c.loop-system.invariant
     ∙ ap (λ (xs : List System). first_refusal t s (flat_map (trials_of t s) xs)) (c.deref-system-items.ensures.value ∙ (simp to_z-of_z at c.in_ok-systems.ensures.value))

@@ -2,7 +2,7 @@ use Rattle.std.proofs.Common.{◌≡◌, take, ◌∙◌, ap, sym, subst, ◌+�
 use Rattle.std.specs.List.{flat_map, range_with_len}
 use Rattle.dependence.specs.Systems.{System}
 use Rattle.legality.specs.Judgements.{first_refusal, refuses, told}
-use Rattle.legality.proofs.FirstLaws.{none-more, found-here, none-at_end}
+use Rattle.legality.proofs.FirstLaws.{none-more, found-here, none-at-end}
 use Rattle.legality.proofs.RefusalLaws.{row_trials, trials_of-is, trials_of-none}
 use Rattle.std.proofs.lemmas.List.FromFn.{get_or-range_with_len, length-range_with_len}
 use Rattle.legality.proofs.judging.refused_by_system.Goals as goal
@@ -38,7 +38,7 @@ returns g c =
     let long = length-range_with_len 1 g.row.D in
     let done = c.loop-row-test.false in
     let case = ap (λ (x : System). x.case) c.system.view_is in
-    none-at_end (refuses t s) (told t s) (row_trials s c.args.system.now) (range_with_len 1 g.row.D) (c.loop-row.row - 1) (omega arith) c.loop-row.invariant
+    none-at-end (refuses t s) (told t s) (row_trials s c.args.system.now) (range_with_len 1 g.row.D) (c.loop-row.row - 1) (omega arith) c.loop-row.invariant
     ∙ ap (first_refusal t s) (trials_of-is g.row.D t s c.args.system.now c.requires.table.deep (omega (arith, case, c.if-system.false)))
 
 pub returns-then-system : goal.returns-then-system

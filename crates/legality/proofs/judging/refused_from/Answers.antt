@@ -4,7 +4,7 @@ use Rattle.std.proofs.lemmas.Int.{to_z-of_z}
 use Rattle.dependence.specs.Systems.{systems_of}
 use Rattle.dependence.specs.Legality.{trials_of}
 use Rattle.legality.specs.Judgements.{first_refusal, refuses, told}
-use Rattle.legality.proofs.FirstLaws.{none-more, found-here, none-at_end}
+use Rattle.legality.proofs.FirstLaws.{none-more, found-here, none-at-end}
 use Rattle.legality.proofs.RefusalLaws.{flat_flat}
 use Rattle.legality.proofs.judging.refused_from.Goals as goal
 
@@ -28,5 +28,5 @@ returns g c =
     let l : FitsSigned w64 c.args.length = search rules in
     let t = c.args.pred.now in
     let s = c.args.schedule.now in
-    none-at_end (refuses t s) (told t s) (λ second. flat_map (trials_of t s) (systems_of t c.args.length c.args.first second)) c.args.refs.now c.loop-second.second-index (omega (arith, c.loop-second-test.false)) (simp to_z-of_z at c.loop-second.invariant)
+    none-at-end (refuses t s) (told t s) (λ second. flat_map (trials_of t s) (systems_of t c.args.length c.args.first second)) c.args.refs.now c.loop-second.second-index (omega (arith, c.loop-second-test.false)) (simp to_z-of_z at c.loop-second.invariant)
     ∙ ap (first_refusal t s) (flat_flat (trials_of t s) (systems_of t c.args.length c.args.first) c.args.refs.now)

@@ -1,6 +1,6 @@
 use Rattle.std.proofs.Common.{sym, subst, lit<, arith}
 use Rattle.dependence.specs.Systems.{IsSystemOf}
-use Rattle.legality.proofs.MetLaws.{one_met}
+use Rattle.legality.proofs.MetLaws.{one-met}
 use Rattle.legality.proofs.listing.list_met.Goals as goal
 
 pub list_one-requires : goal.list_one-requires
@@ -9,4 +9,4 @@ list_one-requires g c =
 
 pub loop-system-preserved : goal.loop-system-preserved
 loop-system-preserved g c =
-    one_met c.args.pred.now c.args.systems.now c.loop-system.system-index c.system-item.result c.args.found.now.items c.loop-system.found.items c.list_one.new.found.items (omega (arith, c.loop-system-test.true)) (sym c.system-item.is) c.loop-system.invariant c.in_ok-list_one.ensures
+    one-met c.args.pred.now c.args.systems.now c.loop-system.system-index c.system-item.result c.args.found.now.items c.loop-system.found.items c.list_one.new.found.items (omega (arith, c.loop-system-test.true)) (sym c.system-item.is) c.loop-system.invariant c.in_ok-list_one.ensures

@@ -3,7 +3,7 @@ use Rattle.std.specs.Prelude.{None}
 use Rattle.level_walk.specs.Listed.{least_after}
 use Rattle.level_walk.specs.Listings.{items_of, listed_in}
 use Rattle.level_walk.specs.Lattices.{in_box}
-use Rattle.level_walk.proofs.ListLemmas.{listed_end, passed, taken}
+use Rattle.level_walk.proofs.ListLemmas.{listed-end, passed, taken}
 use Rattle.level_walk.proofs.listings.least.Goals as goal
 use Rattle.level_walk.proofs.listings.least.Goals.{then-is_in_box, else-is_in_box}
 
@@ -22,4 +22,4 @@ loop-point-preserved c =
     ]
 
 pub returns : goal.returns
-returns c = listed_end c.args.lows.now c.args.highs.now c.args.points.now c.loop-point.point-index (items_of c.args.last.now) (items_of c.loop-point.best) _ c.loop-point-test.false c.loop-point.invariant
+returns c = listed-end c.args.lows.now c.args.highs.now c.args.points.now c.loop-point.point-index (items_of c.args.last.now) (items_of c.loop-point.best) _ c.loop-point-test.false c.loop-point.invariant

@@ -4,7 +4,7 @@ use Rattle.std.proofs.lemmas.Int.{to_z-of_z}
 use Rattle.std.proofs.lemmas.List.{get_or_default}
 use Rattle.level_walk.specs.Stretches.{AreRunsOf, IsBehind, point_at}
 use Rattle.level_walk.specs.declared.runs.Run.{Run}
-use Rattle.level_walk.proofs.JoinLaws.{joined_apart, joined_first, joined_on, lengthened}
+use Rattle.level_walk.proofs.JoinLaws.{joined-apart, joined-first, joined-on, lengthened}
 use Rattle.level_walk.proofs.RunLaws.{split_last}
 use Rattle.level_walk.proofs.stretches.join.Goals as goal
 use Rattle.level_walk.proofs.stretches.join.Goals.{else-count-gt0-via-then-count-gt0+else-goes_on, else-count-gt0-via-else-count-gt0}
@@ -17,7 +17,7 @@ on list rs p l m changed count joined behind size some at other front next is =
     let same : l ≡ m = at ∙ get_or_default rs (count - 1) l m (omega (arith, size, some)) ∙ sym other in
     let made : changed ≡ lengthened l p.high = is ∙ ap (λ (r : Run). lengthened r p.high) (sym same) in
     subst (AreRunsOf (list ++ point_at p p.low ∷ [])) (sym (split.changed changed ∙ ap (λ (r : Run). split.front ++ r ∷ []) made))
-    (joined_on list rs p joined behind.one behind.after behind.long split.front l (split.is ∙ ap (λ (r : Run). split.front ++ r ∷ []) (sym at)) front next)
+    (joined-on list rs p joined behind.one behind.after behind.long split.front l (split.is ∙ ap (λ (r : Run). split.front ++ r ∷ []) (sym at)) front next)
 
 pub returns-then-goes_on : goal.returns-then-goes_on
 returns-then-goes_on c = λ list joined behind.
@@ -39,10 +39,10 @@ returns-in_ok-push c = λ list joined behind. subst (AreRunsOf (list ++ point_at
           let size : length c.args.runs.now.items ≡ c.len-count.result = search rules in
           let some = w.if-count-gt0.true in
           let split = split_last c.args.runs.now.items (c.len-count.result - 1) w.index.result.now (omega (arith, size, some)) in
-          joined_apart list c.args.runs.now.items c.args.next joined behind.one behind.after behind.long split.front w.index.result.now
+          joined-apart list c.args.runs.now.items c.args.next joined behind.one behind.after behind.long split.front w.index.result.now
           (split.is ∙ ap (λ (r : Run). split.front ++ r ∷ []) (sym w.index.ensures)) (w.goes_on.ensures.apart w.if-goes_on.false)
       | else-count-gt0-via-else-count-gt0 w ↦
           let size : length c.args.runs.now.items ≡ c.len-count.result = search rules in
           let past = w.if-count-gt0.false in
-          joined_first list c.args.runs.now.items c.args.next joined behind.one behind.after behind.long (none c.args.runs.now.items (omega (arith, size, past)))
+          joined-first list c.args.runs.now.items c.args.next joined behind.one behind.after behind.long (none c.args.runs.now.items (omega (arith, size, past)))
     ])

@@ -2,7 +2,7 @@ use Rattle.std.proofs.Common.{sym, subst, ◌∙◌, ◌<◌, ◌≤◌, ℤ, le
 use Rattle.std.proofs.lemmas.List.{length-set}
 use Rattle.line_fit.specs.Samples.{IsCoefficient}
 use Rattle.line_fit.specs.Lines.{largest}
-use Rattle.line_fit.proofs.CoefficientLaws.{below_set, small-fits, coefficients-whole, large-found, error-as}
+use Rattle.line_fit.proofs.CoefficientLaws.{below-set, small-fits, coefficients-whole, large-found, error-as}
 use Rattle.line_fit.proofs.line.coefficients.Goals as goal
 
 pub loop-counter-preserved : goal.loop-counter-preserved
@@ -11,8 +11,8 @@ loop-counter-preserved g c =
     let inside : c.loop-counter.counter < length c.loop-counter.found = omega arith in
     record {
       counters = length-set c.loop-counter.found c.loop-counter.counter _ ∙ c.loop-counter.invariant.counters;
-      each = below_set (λ k v. IsCoefficient k c.args.samples.now v) c.loop-counter.found c.loop-counter.counter _ inside c.loop-counter.invariant.each (subst (IsCoefficient c.loop-counter.counter c.args.samples.now) (sym kept) c.in_ok-found.ensures.is);
-      small = below_set (λ k v. unsigned_abs v ≤ largest) c.loop-counter.found c.loop-counter.counter _ inside c.loop-counter.invariant.small (subst (λ (v : ℤ). unsigned_abs v ≤ largest) (sym kept) c.in_ok-found.ensures.size);
+      each = below-set (λ k v. IsCoefficient k c.args.samples.now v) c.loop-counter.found c.loop-counter.counter _ inside c.loop-counter.invariant.each (subst (IsCoefficient c.loop-counter.counter c.args.samples.now) (sym kept) c.in_ok-found.ensures.is);
+      small = below-set (λ k v. unsigned_abs v ≤ largest) c.loop-counter.found c.loop-counter.counter _ inside c.loop-counter.invariant.small (subst (λ (v : ℤ). unsigned_abs v ≤ largest) (sym kept) c.in_ok-found.ensures.size);
     }
 
 pub returns-in_err-found : goal.returns-in_err-found

@@ -5,7 +5,7 @@ use Rattle.domain.specs.declared.prediction.What.TheVariants.{Address}
 use Rattle.domain.specs.Expected.{form_of}
 use Rattle.domain.specs.Tables.{block_at}
 use Rattle.profile.specs.Data.{tube_in}
-use Rattle.listing.proofs.FormLaws.{address-has_tube, address-tube, form-line, no-form, tube_with}
+use Rattle.listing.proofs.FormLaws.{address-has-tube, address-tube, form-line, no-form, tube_with}
 use Rattle.listing.proofs.forms.tube_in.Goals as goal
 
 pub returns-in_err-line : goal.returns-in_err-line
@@ -15,7 +15,7 @@ pub returns-in_err-low-in-Address : goal.returns-in_err-low-in-Address
 returns-in_err-low-in-Address g c =
     let t = c.args.pred.now in
     let form : form_of t c.args.rank (Address c.in-Address.access) ≡ Some c.in_ok-line.line = subst (λ (w : What). form_of t c.args.rank w ≡ Some c.in_ok-line.line) c.in-Address.is (sym c.form.ensures ∙ c.in_ok-line.was) in
-    absurd (address-has_tube t c.args.rank c.in-Address.access c.in_ok-line.line form (sym c.tube.ensures ∙ c.in_err-low-in-Address.was))
+    absurd (address-has-tube t c.args.rank c.in-Address.access c.in_ok-line.line form (sym c.tube.ensures ∙ c.in_err-low-in-Address.was))
 
 pub returns-in_ok-low-in-Address : goal.returns-in_ok-low-in-Address
 returns-in_ok-low-in-Address g c =

@@ -1,5 +1,5 @@
-use Rattle.nest_lang.proofs.RunLemmas.{finished_run-stays}
+use Rattle.nest_lang.proofs.RunLemmas.{finished-run-stays}
 use Rattle.nest_lang.proofs.laws.finished_run_stays.Goals as goal
 
 pub returns : goal.returns
-returns c = finished_run-stays
+returns c = finished-run-stays

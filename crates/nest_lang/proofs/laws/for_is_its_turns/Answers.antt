@@ -1,5 +1,5 @@
-use Rattle.nest_lang.proofs.TurnLaws.{for_is-its_turns}
+use Rattle.nest_lang.proofs.TurnLaws.{for-is-its-turns}
 use Rattle.nest_lang.proofs.laws.for_is_its_turns.Goals as goal
 
 pub returns : goal.returns
-returns c = for_is-its_turns
+returns c = for-is-its-turns

@@ -1,5 +1,5 @@
-use Rattle.nest_lang.proofs.RunLemmas.{longer_run-begins}
+use Rattle.nest_lang.proofs.RunLemmas.{longer-run-begins}
 use Rattle.nest_lang.proofs.laws.longer_run_begins.Goals as goal
 
 pub returns : goal.returns
-returns c = longer_run-begins
+returns c = longer-run-begins

@@ -1,5 +1,5 @@
-use Rattle.nest_lang.proofs.Ranks.{present_blocks-have_ranks}
+use Rattle.nest_lang.proofs.Ranks.{present_blocks-have-ranks}
 use Rattle.nest_lang.proofs.laws.present_blocks_have_ranks.Goals as goal
 
 pub returns : goal.returns
-returns c = present_blocks-have_ranks
+returns c = present_blocks-have-ranks

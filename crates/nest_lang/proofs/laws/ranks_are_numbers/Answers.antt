@@ -1,5 +1,5 @@
-use Rattle.nest_lang.proofs.Ranks.{ranks-are_numbers}
+use Rattle.nest_lang.proofs.Ranks.{ranks-are-numbers}
 use Rattle.nest_lang.proofs.laws.ranks_are_numbers.Goals as goal
 
 pub returns : goal.returns
-returns c = ranks-are_numbers
+returns c = ranks-are-numbers

@@ -1,5 +1,5 @@
-use Rattle.nest_lang.proofs.WhileTurns.{while_is-its_turns}
+use Rattle.nest_lang.proofs.WhileTurns.{while-is-its-turns}
 use Rattle.nest_lang.proofs.laws.while_is_its_turns.Goals as goal
 
 pub returns : goal.returns
-returns c = while_is-its_turns
+returns c = while-is-its-turns

@@ -9,15 +9,15 @@ use Rattle.nest_text.specs.Files.{ByGrammar}
 use Rattle.nest_text.proofs.file.read_nest.Goals as goal
 
 -- an answer of the reading is one by the grammar
-answers-by_grammar : (text : List ℕ) (r : Result File ReadRefusal) → Answers r (reading text) → ByGrammar text r
-answers-by_grammar text (Ok file) h = reading-reads text file h
-answers-by_grammar text (Err NoMemory) h = tt
-answers-by_grammar text (Err (Text fault)) h = λ file r. let e : reading text ≡ Ok file = reads-reading text file r in cc
+answers-by-grammar : (text : List ℕ) (r : Result File ReadRefusal) → Answers r (reading text) → ByGrammar text r
+answers-by-grammar text (Ok file) h = reading-reads text file h
+answers-by-grammar text (Err NoMemory) h = tt
+answers-by-grammar text (Err (Text fault)) h = λ file r. let e : reading text ≡ Ok file = reads-reading text file r in cc
 
 pub returns-in_err-file-clause-grammar : goal.returns-in_err-file-clause-grammar
 returns-in_err-file-clause-grammar c =
     let h : Answers c.from_residual.result (reading c.args.text.now) = search rules in
-    answers-by_grammar c.args.text.now c.from_residual.result h
+    answers-by-grammar c.args.text.now c.from_residual.result h
 
 pub invariant_of-result : goal.invariant_of-result
 invariant_of-result c =

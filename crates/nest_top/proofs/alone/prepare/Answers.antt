@@ -1,11 +1,11 @@
-use Rattle.std.proofs.Common.{◌≡◌, ap, sym, map, refl, rules, string_bytes, subst, ℕ, List, Option, false}
+use Rattle.std.proofs.Common.{◌≡◌, sym, map, refl, rules, string_bytes, subst, ℕ, List, Option, false}
 use Rattle.nest_grammar.specs.Contents.{reading}
 use Rattle.command_line.specs.declared.invocation.Invocation.{Invocation}
 use Rattle.command_line.specs.Invocations.{Finds, IsInvocation, IsNoInvocation}
 use Rattle.nest_top.specs.declared.unanswered.Unanswered.TheVariants.{NoMemory}
 use Rattle.nest_top.specs.Texts.{IsRead, IsTextOf}
-use Rattle.nest_top.specs.Answers.{AnswersReading, has_journey, text_for, unanswered_by}
-use Rattle.nest_top.proofs.AnswerLemmas.{invocation-prepared, options-in_range}
+use Rattle.nest_top.specs.Answers.{AnswersReading, has_journey, text_for}
+use Rattle.nest_top.proofs.AnswerLemmas.{invocation-prepared, options-in-range}
 use Rattle.nest_top.proofs.RunLemmas.{asks-not, none-alone, takes-text, text-made, text-taken, unread-made, usage-made, wanting-made}
 use Rattle.nest_top.proofs.alone.prepare.Goals as goal
 
@@ -19,7 +19,7 @@ pub answer_text-requires-clause-options : goal.answer_text-requires-clause-optio
 answer_text-requires-clause-options g c =
     let words = map string_bytes c.args.words.now in
     let is : IsInvocation words c.in-Some.invocation = subst (λ (o : Option Invocation). Finds o (IsInvocation words)) c.in-Some.is c.in_ok-invocation.ensures in
-    options-in_range words c.in-Some.invocation is
+    options-in-range words c.in-Some.invocation is
 
 pub returns-in_err-taken : goal.returns-in_err-taken
 returns-in_err-taken g c =

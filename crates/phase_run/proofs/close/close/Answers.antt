@@ -1,6 +1,6 @@
 use Rattle.std.proofs.Common.{◌∙◌, ◌<◌, vec_len, arith}
 use Rattle.verified_turns.specs.Workers.{task_state}
-use Rattle.phase_run.proofs.Closing.{ran_together, ran_broken, others_keep}
+use Rattle.phase_run.proofs.Closing.{ran-together, ran-broken, others_keep}
 use Rattle.phase_run.proofs.close.close.Goals as goal
 
 pub returns-then-settle-clause-ran : goal.returns-then-settle-clause-ran
@@ -12,7 +12,7 @@ returns-then-settle-clause-ran g c =
     let count = c.requires.count in
     let asked = c.requires.postable.some in
     let some : 0 < vec_len c.args.workers.now = omega (arith, count, asked) in
-    ran_broken {D = g.row.D} k c.args.posting.now c.args.main.now.view.base c.take_back-steps.new.main.view c.settle.new.self.view taken.base (taken.plan ∙ c.requires.posted.plan) c.requires.postable settled.view
+    ran-broken {D = g.row.D} k c.args.posting.now c.args.main.now.view.base c.take_back-steps.new.main.view c.settle.new.self.view taken.base (taken.plan ∙ c.requires.posted.plan) c.requires.postable settled.view
     (vec_len c.args.workers.now) c.take_back-steps.result c.settle.result c.if-settle.true some taken.gathered settled.step
 
 pub returns-then-settle-clause-others : goal.returns-then-settle-clause-others
@@ -31,7 +31,7 @@ returns-clause-ran g c =
     let count = c.requires.count in
     let asked = c.requires.postable.some in
     let some : 0 < vec_len c.args.workers.now = omega (arith, count, asked) in
-    ran_together {D = g.row.D} k c.args.posting.now c.args.main.now.view.base c.take_back-steps.new.main.view c.settle.new.self.view taken.base (taken.plan ∙ c.requires.posted.plan) c.requires.postable settled.view
+    ran-together {D = g.row.D} k c.args.posting.now c.args.main.now.view.base c.take_back-steps.new.main.view c.settle.new.self.view taken.base (taken.plan ∙ c.requires.posted.plan) c.requires.postable settled.view
     (vec_len c.args.workers.now) c.take_back-steps.result c.settle.result c.if-settle.false some taken.gathered settled.step
 
 pub returns-clause-others : goal.returns-clause-others

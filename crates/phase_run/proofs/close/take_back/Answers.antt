@@ -4,12 +4,12 @@ use Rattle.core_steps.specs.declared.view.View.{View}
 use Rattle.core_steps.specs.Views.{stored_at, joined_view}
 use Rattle.follow_chunk.specs.Followed.{ClosesSmall}
 use Rattle.phases.specs.Laws.{Gathered}
-use Rattle.phases.proofs.Gathering.{gathered_start}
+use Rattle.phases.proofs.Gathering.{gathered-start}
 use Rattle.verified_turns.specs.Workers.{Status, instances_of, task_state}
 use Rattle.crew.specs.Jobs.{total}
 use Rattle.phase_run.specs.Postings.{PostingState}
 use Rattle.phase_run.specs.Seats.{IsOfPhase, AreOfPhase, OnlyTheirs, OwnsWrites}
-use Rattle.phase_run.proofs.Returning.{all_but, out_but, none_out, total_but, back, owns}
+use Rattle.phase_run.proofs.Returning.{all-but, out-but, none_out, total-but, back, owns}
 use Rattle.phase_run.proofs.close.take_back.Goals as goal
 
 pub overflow_add-steps : goal.overflow_add-steps
@@ -24,7 +24,7 @@ overflow_add-steps g c =
 pub finish-seat-requires : goal.finish-seat-requires
 finish-seat-requires g c =
     let inv = c.loop-worker.invariant in
-    let done = (all_but c.loop-worker.workers.items c.pop.new.self.items c.in-Some.worker c.in-Some.ensures.items (λ (w : Status g.row.D). w.left ≡ 0) inv.done).1 in
+    let done = (all-but c.loop-worker.workers.items c.pop.new.self.items c.in-Some.worker c.in-Some.ensures.items (λ (w : Status g.row.D). w.left ≡ 0) inv.done).1 in
     search rules
 
 pub join-requires-clause-worker : goal.join-requires-clause-worker
@@ -32,7 +32,7 @@ join-requires-clause-worker g c =
     let inv = c.loop-worker.invariant in
     let t = c.args.task.now in
     let k = task_state t.scalars t.nest.now.loops t.pred.now t.outer t.chunk in
-    c.finish-seat.ensures.table ∙ ((all_but c.loop-worker.workers.items c.pop.new.self.items c.in-Some.worker c.in-Some.ensures.items (IsOfPhase k c.args.posting.now c.loop-worker.main.view.base) inv.theirs).1).same_table ∙ sym (ap (λ (q : PostingState). q.table) c.posting.view_is)
+    c.finish-seat.ensures.table ∙ ((all-but c.loop-worker.workers.items c.pop.new.self.items c.in-Some.worker c.in-Some.ensures.items (IsOfPhase k c.args.posting.now c.loop-worker.main.view.base) inv.theirs).1).same_table ∙ sym (ap (λ (q : PostingState). q.table) c.posting.view_is)
 
 pub loop-worker-preserved : goal.loop-worker-preserved
 loop-worker-preserved g c =
@@ -44,8 +44,8 @@ loop-worker-preserved g c =
     let p = c.args.posting.now in
     let m = c.loop-worker.main.view in
     let v = c.finish-seat.result.0.view in
-    let of = all_but c.loop-worker.workers.items c.pop.new.self.items w is (IsOfPhase k p m.base) inv.theirs in
-    let done = all_but c.loop-worker.workers.items c.pop.new.self.items w is (λ (u : Status g.row.D). u.left ≡ 0) inv.done in
+    let of = all-but c.loop-worker.workers.items c.pop.new.self.items w is (IsOfPhase k p m.base) inv.theirs in
+    let done = all-but c.loop-worker.workers.items c.pop.new.self.items w is (λ (u : Status g.row.D). u.left ≡ 0) inv.done in
     let view = c.join.ensures.view in
     let mine = c.steps-steps.ensures.value in
     let short = c.steps-steps.ensures.few in
@@ -60,7 +60,7 @@ loop-worker-preserved g c =
       stored = ap (λ (u : View). u.stored) view ∙ inv.stored;
       base = ap (λ (u : View). u.base) view ∙ inv.base;
       plan = ap (λ (u : View). u.plan) view ∙ inv.plan;
-      out = subst (λ (u : View). OnlyTheirs u.out c.pop.new.self.items) (sym view) (out_but c.loop-worker.workers.items c.pop.new.self.items w is m.out v.number (ap (λ (u : View). u.number) c.finish-seat.ensures.view) inv.out);
+      out = subst (λ (u : View). OnlyTheirs u.out c.pop.new.self.items) (sym view) (out-but c.loop-worker.workers.items c.pop.new.self.items w is m.out v.number (ap (λ (u : View). u.number) c.finish-seat.ensures.view) inv.out);
       theirs = subst (λ (u : View). AreOfPhase k p u.base c.pop.new.self.items) (sym view) of.0;
       done = done.0;
       count = (let le = inv.count in omega (arith, one, le));
@@ -70,7 +70,7 @@ loop-worker-preserved g c =
           (subst (λ (n : ℕ). Gathered (instances_of k m) (ClosesSmall k.pred) p.lists (joined_view m v) (vec_len c.args.workers.now - vec_len c.pop.new.self) (c.loop-worker.steps + n)) (sym mine)
           (subst (λ (n : ℕ). Gathered (instances_of k m) (ClosesSmall k.pred) p.lists (joined_view m v) n (c.loop-worker.steps + w.steps)) count more));
       owned = subst OwnsWrites (sym view) (owns k p m v w c.finish-seat.result.1 inv.plan of.1 c.finish-seat.ensures.view c.finish-seat.ensures.finished inv.owned);
-      all = (let all = inv.all in let but = total_but c.loop-worker.workers.items c.pop.new.self.items w is in omega (arith, all, but, mine));
+      all = (let all = inv.all in let but = total-but c.loop-worker.workers.items c.pop.new.self.items w is in omega (arith, all, but, mine));
     }
 
 pub returns-clause-out : goal.returns-clause-out
@@ -108,7 +108,7 @@ loop-worker-init g c =
       room = omega arith;
       few = omega arith;
       gathered = subst (λ (n : ℕ). Gathered (instances_of k c.args.main.now.view) (ClosesSmall k.pred) p.lists c.args.main.now.view n 0) (sym none)
-          (gathered_start (instances_of k c.args.main.now.view) (ClosesSmall k.pred) c.args.main.now.view p.lists c.requires.posted.held c.requires.posted.own c.requires.posted.failed);
+          (gathered-start (instances_of k c.args.main.now.view) (ClosesSmall k.pred) c.args.main.now.view p.lists c.requires.posted.held c.requires.posted.own c.requires.posted.failed);
       owned = λ a none. ap (stored_at a) c.requires.posted.own;
       all = omega arith;
     }

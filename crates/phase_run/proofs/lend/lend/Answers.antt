@@ -8,7 +8,7 @@ use Rattle.shared_words.specs.Seats.{memory_words}
 use Rattle.verified_turns.specs.Workers.{task_state, StaysWithin}
 use Rattle.phase_run.specs.Postings.{PostingState}
 use Rattle.phase_run.specs.Seats.{OnlyTheirs}
-use Rattle.phase_run.proofs.Lending.{still_below, lent_base, lent_plan, fresh, long, task, within, one_more, theirs_more}
+use Rattle.phase_run.proofs.Lending.{still-below, lent-base, lent-plan, fresh, long, task, within, one-more, theirs-more}
 use Rattle.phase_run.proofs.lend.lend.Goals as goal
 
 pub new-requires : goal.new-requires
@@ -61,13 +61,13 @@ loop-number-preserved g c =
       count = (let more = c.push_reserved.ensures.len in let count = inv.count in omega (arith, more, count));
       few = (let below = c.loop-number-test.true in let asked = ap (λ (q : PostingState). q.workers) c.posting.view_is in omega (arith, below, asked));
       room = (let room = inv.room in let kept = c.push_reserved.ensures.capacity in omega (arith, room, kept));
-      below = λ n h. still_below m.out c.loop-number.number inv.below n (subst (λ (o : List ℕ). has n o ≡ true) out h);
-      out = subst (λ (o : List ℕ). OnlyTheirs o c.push_reserved.new.self.items) (sym out) (theirs_more c.loop-number.workers.items c.push_reserved.new.self.items w is m.out number (ap (λ (u : View). u.number) (seat.1 ∙ lent)) inv.out);
-      lent = one_more c.loop-number.workers.items c.push_reserved.new.self.items w is k p first.base inv.lent (record {
+      below = λ n h. still-below m.out c.loop-number.number inv.below n (subst (λ (o : List ℕ). has n o ≡ true) out h);
+      out = subst (λ (o : List ℕ). OnlyTheirs o c.push_reserved.new.self.items) (sym out) (theirs-more c.loop-number.workers.items c.push_reserved.new.self.items w is m.out number (ap (λ (u : View). u.number) (seat.1 ∙ lent)) inv.out);
+      lent = one-more c.loop-number.workers.items c.push_reserved.new.self.items w is k p first.base inv.lent (record {
         same_table = seat.0 ∙ c.split-seat.ensures.table.1 ∙ inv.table ∙ c.requires.table;
         same_task = c.new.ensures.task;
         same_lists = c.new.ensures.lists ∙ same;
-        same_base = ap (λ (u : View). u.base) seat.1 ∙ lent_base {D = g.row.D} k p first m v number inv.main c.requires.posted may lent;
-        same_plan = ap (λ (u : View). u.plan) seat.1 ∙ lent_plan {D = g.row.D} k p first m v number inv.main c.requires.posted may lent;
+        same_base = ap (λ (u : View). u.base) seat.1 ∙ lent-base {D = g.row.D} k p first m v number inv.main c.requires.posted may lent;
+        same_plan = ap (λ (u : View). u.plan) seat.1 ∙ lent-plan {D = g.row.D} k p first m v number inv.main c.requires.posted may lent;
       });
     }

@@ -3,7 +3,7 @@ use Rattle.core_steps.specs.declared.view.View.{View}
 use Rattle.verified_turns.specs.Workers.{task_state}
 use Rattle.phase_run.specs.Postings.{PostingState, IsPostable}
 use Rattle.phase_run.specs.Seats.{AreOfPhase, IsPosted}
-use Rattle.phase_run.proofs.Handing.{still_of_phase, are_done, still_theirs, tiles_are, gains}
+use Rattle.phase_run.proofs.Handing.{still-of-phase, are-done, still-theirs, tiles-are, gains}
 use Rattle.phase_run.proofs.run.run_phase.Goals as goal
 
 pub close-requires-after_bounds : goal.close-requires-after_bounds
@@ -31,9 +31,9 @@ close-requires-after_bounds g c κs inside =
     let new = c.work.new.jobs.ok.0 in
     let lent = c.lend.ensures.count in
     let count : vec_len c.work.new.jobs ≡ p.workers = omega (arith, long, old, new, lent) in
-    let out = still_theirs c.lend.new.workers.items c.work.new.jobs.items ran m.out c.lend.ensures.out in
-    let theirs = still_of_phase c.lend.new.workers.items c.work.new.jobs.items ran k p m.base (subst (λ (b : List ℕ). AreOfPhase k p b c.lend.new.workers.items) (sym (ap (λ (u : View). u.base) lending)) c.lend.ensures.lent) in
-    let done = are_done c.lend.new.workers.items c.work.new.jobs.items ran in
+    let out = still-theirs c.lend.new.workers.items c.work.new.jobs.items ran m.out c.lend.ensures.out in
+    let theirs = still-of-phase c.lend.new.workers.items c.work.new.jobs.items ran k p m.base (subst (λ (b : List ℕ). AreOfPhase k p b c.lend.new.workers.items) (sym (ap (λ (u : View). u.base) lending)) c.lend.ensures.lent) in
+    let done = are-done c.lend.new.workers.items c.work.new.jobs.items ran in
     search rules
 
 pub returns-clause-handed : goal.returns-clause-handed
@@ -47,4 +47,4 @@ returns-clause-handed g c =
     let some : 0 < length c.lend.new.workers.items = omega (arith, old, lent, asked) in
     let first : to_z w64 (of_z w64 t.chunk.first) ≡ t.chunk.first = search rules in
     gains k p c.close.result (g.C.Crew.handed c.args.crew.now) (g.C.Crew.handed c.work.new.self) _ _ _ _ _ c.work.ensures.handed first (ap (λ (q : PostingState). q.number) c.posting.view_is) lent
-    (tiles_are c.lend.new.workers.items k p c.post.new.self.view.base some c.lend.ensures.lent) c.close.ensures.steps
+    (tiles-are c.lend.new.workers.items k p c.post.new.self.view.base some c.lend.ensures.lent) c.close.ensures.steps

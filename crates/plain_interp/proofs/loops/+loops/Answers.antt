@@ -14,9 +14,9 @@ use Rattle.block_exec.proofs.RunLaws.{finish-err, kept-trans}
 use Rattle.plain_interp.specs.Levels.{level_trace}
 use Rattle.plain_interp.proofs.Blocks.{instance-steps}
 use Rattle.plain_interp.proofs.Keeps.{loop_keeps-strides, loop_keeps-body}
-use Rattle.plain_interp.proofs.LevelLaws.{stride-not_0, inward-same, head-at, for-cut, while-cut, for_turns-moved}
+use Rattle.plain_interp.proofs.LevelLaws.{stride-not-0, inward-same, head-at, for-cut, while-cut, for-turns-moved}
 use Rattle.plain_interp.proofs.Rans.{ran-ends, turns-next, turns-out, turns-end, while-next, while-out, while-end}
-use Rattle.plain_interp.proofs.Turns.{for_turns, for-yields, turn-ran-before, turn-ran-inside, turn-moved, inner-moved, ran-no_loops, turn-ran-behind, while_frames, while_turns}
+use Rattle.plain_interp.proofs.Turns.{for_turns, for-yields, turn-ran-before, turn-ran-inside, turn-moved, inner-moved, ran-no-loops, turn-ran-behind, while_frames, while_turns}
 use Rattle.plain_interp.proofs.loops.+loops.Goals as goal
 use Rattle.plain_interp.proofs.loops.+loops.Goals.{run_turn-in-Some+in_ok-run_loop, run_turn-in_default}
 
@@ -84,7 +84,7 @@ pub run_loop-bounds-requires-clause-stride : goal.run_loop-bounds-requires-claus
 run_loop-bounds-requires-clause-stride g t c = λ zero.
     let stride : FitsSigned w64 c.in-For.stride = search rules in
     let same : to_z w64 (of_z w64 c.in-For.stride) ≡ c.in-For.stride = to_z-of_z w64 c.in-For.stride stride in
-    stride-not_0 _ _ _ _ c.in-For.is (loop_keeps-strides c.args.at.now.first.now c.args.at.now.rest.now c.requires.level.keeps) (sym same ∙ zero)
+    stride-not-0 _ _ _ _ c.in-For.is (loop_keeps-strides c.args.at.now.first.now c.args.at.now.rest.now c.requires.level.keeps) (sym same ∙ zero)
 
 pub run_loop-returns-in_err-bounds-in-For-clause-ran : goal.run_loop-returns-in_err-bounds-in-For-clause-ran
 run_loop-returns-in_err-bounds-in-For-clause-ran g t c = λ k more.
@@ -111,7 +111,7 @@ run_loop-returns-in_ok-bounds-in-For-clause-ran g t c = λ k more.
     let same : bounds.stride ≡ c.in-For.stride = simp to_z-of_z at c.in_ok-bounds-in-For.ensures.turns.0 in
     let turns = c.run_for.ensures.ran k (omega (arith, more, c.in_ok-bounds-in-For.ensures.kept.fewer)) in
     for-yields g.W.Watch.may x k (at.depth + 1) at.first.now at.rest.now place _ _ c.in-For.stride bounds.lower bounds.trip start here (outside g.P.Port.memory c.run_for.new.run) _ c.in-For.is head
-    (for_turns-moved g.W.Watch.may _ x k (at.depth + 1) at.first.now at.rest.now place bounds.stride c.in-For.stride bounds.lower bounds.trip here (outside g.P.Port.memory c.run_for.new.run) _ c.in_ok-bounds-in-For.ensures.kept.expects_same same turns)
+    (for-turns-moved g.W.Watch.may _ x k (at.depth + 1) at.first.now at.rest.now place bounds.stride c.in-For.stride bounds.lower bounds.trip here (outside g.P.Port.memory c.run_for.new.run) _ c.in_ok-bounds-in-For.ensures.kept.expects_same same turns)
 
 pub run_turn-returns-in_err-run_part-clause-ran : goal.run_turn-returns-in_err-run_part-clause-ran
 run_turn-returns-in_err-run_part-clause-ran g t c = λ k more.
@@ -160,7 +160,7 @@ run_turn-returns-clause-ran g t c = λ k more.
           let expects = ap (λ r. g.P.Port.expects r.port.now) w.run-is ∙ c.in_ok-run_part.ensures.kept.expects_same in
           let around = ap (around_at (at.depth + 1)) w.places-is in
           turn-ran-behind g.W.Watch.may _ x (at.depth + 1) at.first.now inner _ place c.as_slice-2.result.now start here last here end _ expects around c.as_slice-2.ensures (ap (outside g.P.Port.memory) w.run-is) before
-          (ran-no_loops g.W.Watch.may x k (at.depth + 1 + 1) at.rest.now place here none) c.run_part-2.ensures.ran
+          (ran-no-loops g.W.Watch.may x k (at.depth + 1 + 1) at.rest.now place here none) c.run_part-2.ensures.ran
     ]
 
 pub run_turn-returns-clause-stepped : goal.run_turn-returns-clause-stepped

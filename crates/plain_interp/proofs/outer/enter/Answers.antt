@@ -3,7 +3,7 @@ use Rattle.std.proofs.lemmas.Int.{to_z-of_z}
 use Rattle.nest_lang.specs.declared.state.Outer.{Outer}
 use Rattle.nest_lang.specs.Loops.{outside}
 use Rattle.block_exec.specs.Runs as run
-use Rattle.plain_interp.proofs.LevelLaws.{stride-not_0, head-at}
+use Rattle.plain_interp.proofs.LevelLaws.{stride-not-0, head-at}
 use Rattle.plain_interp.proofs.Positions.{loops_keep-found, loops_keep-strides, position-entered, entry-for, entered-trapped}
 use Rattle.plain_interp.proofs.outer.enter.Goals as goal
 
@@ -14,7 +14,7 @@ pub bounds-requires-clause-stride : goal.bounds-requires-clause-stride
 bounds-requires-clause-stride g c = λ zero.
     let stride : FitsSigned w64 c.in-For.stride = search rules in
     let same : to_z w64 (of_z w64 c.in-For.stride) ≡ c.in-For.stride = to_z-of_z w64 c.in-For.stride stride in
-    stride-not_0 _ _ _ _ c.in-For.is (loops_keep-strides c.args.nest.now.loops c.in-Some.first.now (rw c.in-Some.is at c.get.ensures.value) c.requires.rules) (sym same ∙ zero)
+    stride-not-0 _ _ _ _ c.in-For.is (loops_keep-strides c.args.nest.now.loops c.in-Some.first.now (rw c.in-Some.is at c.get.ensures.value) c.requires.rules) (sym same ∙ zero)
 
 pub returns-in-Ok-clause-entry : goal.returns-in-Ok-clause-entry
 returns-in-Ok-clause-entry g c =

@@ -7,7 +7,7 @@ use Rattle.block_exec.specs.Runs.{outside}
 use Rattle.block_exec.proofs.RunLaws.{kept-trans}
 use Rattle.plain_interp.proofs.Nests.{loops_keep-some, nest-level}
 use Rattle.plain_interp.proofs.Positions.{position-outermost, position-nest, position-next}
-use Rattle.plain_interp.proofs.OuterTurns.{turns-moved, turns_later-none, turns_later-more, ran-no_turns, number-more, number-kept, finish_of_turned-not, ran-turns-more, ran-turns-out, whole-turns-all, whole-turns-some}
+use Rattle.plain_interp.proofs.OuterTurns.{turns-moved, turns_later-none, turns_later-more, ran-no-turns, number-more, number-kept, finish_of_turned-not, ran-turns-more, ran-turns-out, whole-turns-all, whole-turns-some}
 use Rattle.plain_interp.proofs.outer.run_turns.Goals as goal
 
 pub unreachable-requires : goal.unreachable-requires
@@ -44,7 +44,7 @@ loop-done-init g c =
         quiet = λ plain trap. tt;
       };
       halt = tt;
-      so_far = λ k more. ran-no_turns g.W.Watch.may (g.P.Port.expects c.args.run.now.port.now) k c.args.nest.now.loops c.args.outer.now next.0 next.1 (outside g.P.Port.memory c.args.run.now);
+      so_far = λ k more. ran-no-turns g.W.Watch.may (g.P.Port.expects c.args.run.now.port.now) k c.args.nest.now.loops c.args.outer.now next.0 next.1 (outside g.P.Port.memory c.args.run.now);
     }
 
 pub loop-done-preserved : goal.loop-done-preserved

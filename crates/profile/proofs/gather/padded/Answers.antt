@@ -2,7 +2,7 @@ use Rattle.std.proofs.Common.{◌≡◌, ◌<◌, ◌∙◌, sym, pos, length, s
 use Rattle.std.proofs.Math.ListN.{length-set}
 use Rattle.std.proofs.lemmas.Int.{to_z-of_z}
 use Rattle.std.proofs.lemmas.List.{take_all}
-use Rattle.affine.proofs.MatrixLemmas.{map-range_step}
+use Rattle.affine.proofs.MatrixLemmas.{map-range-step}
 use Rattle.profile.proofs.gather.padded.Goals as goal
 
 pub loop-place-preserved : goal.loop-place-preserved
@@ -12,7 +12,7 @@ loop-place-preserved g c =
     let read = to_z-of_z w64 c.counter_at.result fits in
     record {
       long = simp length-set (c.loop-place.invariant.long);
-      done = map-range_step (λ k. slice_index_or c.args.counters.now k (pos 0)) c.loop-place.at c.loop-place.place _ room (read ∙ c.counter_at.ensures) c.loop-place.invariant.done;
+      done = map-range-step (λ k. slice_index_or c.args.counters.now k (pos 0)) c.loop-place.at c.loop-place.place _ room (read ∙ c.counter_at.ensures) c.loop-place.invariant.done;
     }
 
 pub returns : goal.returns

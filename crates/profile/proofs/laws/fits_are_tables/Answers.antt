@@ -1,5 +1,5 @@
-use Rattle.profile.proofs.BoundsLaws.{fits-are_tables}
+use Rattle.profile.proofs.BoundsLaws.{fits-are-tables}
 use Rattle.profile.proofs.laws.fits_are_tables.Goals as goal
 
 pub returns : goal.returns
-returns c = fits-are_tables
+returns c = fits-are-tables

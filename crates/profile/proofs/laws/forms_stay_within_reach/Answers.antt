@@ -1,5 +1,5 @@
-use Rattle.profile.proofs.FormReach.{forms-stay_within_reach}
+use Rattle.profile.proofs.FormReach.{forms-stay-within-reach}
 use Rattle.profile.proofs.laws.forms_stay_within_reach.Goals as goal
 
 pub returns : goal.returns
-returns c = forms-stay_within_reach
+returns c = forms-stay-within-reach

@@ -1,5 +1,5 @@
-use Rattle.profile.proofs.OneUnfitLaws.{one-first_unfit}
+use Rattle.profile.proofs.OneUnfitLaws.{one-first-unfit}
 use Rattle.profile.proofs.laws.one_first_unfit.Goals as goal
 
 pub returns : goal.returns
-returns c = one-first_unfit
+returns c = one-first-unfit

@@ -1,5 +1,5 @@
-use Rattle.profile.proofs.FitLaws.{samples-lie_in_tubes}
+use Rattle.profile.proofs.FitLaws.{samples-lie-in-tubes}
 use Rattle.profile.proofs.laws.samples_lie_in_tubes.Goals as goal
 
 pub returns : goal.returns
-returns c = samples-lie_in_tubes
+returns c = samples-lie-in-tubes

@@ -6,7 +6,7 @@ use Rattle.nest_lang.specs.Blocks.{block_ref, present_blocks}
 use Rattle.domain.proofs.ShapeLaws.{accesses-short}
 use Rattle.profile.specs.Parts.{AreBlockFits}
 use Rattle.profile.specs.Fits.{IsFitEnd}
-use Rattle.profile.proofs.EndLaws.{handed_on}
+use Rattle.profile.proofs.EndLaws.{handed-on}
 use Rattle.profile.proofs.WholeLaws.{more-block, block-end}
 use Rattle.profile.proofs.nest_fit.fit_blocks.Goals as goal
 
@@ -27,7 +27,7 @@ returns-in_err-fit g c =
     let o = c.args.samples.now in
     let items : c.as_slice-block-items.result.now ≡ present_blocks loops = c.as_slice-block-items.ensures.value ∙ c.blocks-2.ensures in
     let at = found (present_blocks loops) c.as_slice-block-items.result.now c.loop-rank.rank items c.loop-rank-test.true in
-    handed_on c.from_residual.result _ (IsFitEnd g.row.D c.args.scalars loops o) c.in_err-fit.field-0.0 c.from_residual.ensures
+    handed-on c.from_residual.result _ (IsFitEnd g.row.D c.args.scalars loops o) c.in_err-fit.field-0.0 c.from_residual.ensures
     (block-end g.row.D c.args.scalars loops o c.loop-rank.rank c.loop-rank.blocks.items c.loop-rank.bounds.items _ c.in_err-fit.field-0.0 c.loop-rank.invariant at c.in_err-fit.ensures)
 
 pub loop-rank-preserved : goal.loop-rank-preserved

@@ -1,7 +1,7 @@
 use Rattle.std.proofs.Common.{◌≡◌, ◌<◌, ◌+◌, FitsSigned, Some, [], false, true, arith, rules, to_z-of_z, w64}
 use Rattle.nest_lang.specs.Stores.{store_of}
 use Rattle.profiling.specs.FirstProfiles.{goes_on}
-use Rattle.profiling.proofs.ProfileLaws.{run_of, short_profile, whole_profile}
+use Rattle.profiling.proofs.ProfileLaws.{run_of, short-profile, whole-profile}
 use Rattle.profiling.proofs.run.profile_from.Goals as goal
 
 pub returns-then-not-goes_on : goal.returns-then-not-goes_on
@@ -13,7 +13,7 @@ returns-then-not-goes_on c =
     let run = run_of c.args.nest.now.loops c.args.turns _ _ c.args.start.steps.left _ _ _ c.args.start.outer c.run_turns-turned.new.outer c.run_turns-turned.result _ ran c.run_turns-turned.ensures.outer.1 whole in
     let off : goes_on c.run_turns-turned.result c.run_turns-turned.new.outer.left ≡ false = search rules in
     let fits : FitsSigned w64 c.run_turns-turned.new.outer.next = search rules in
-    simp to_z-of_z (short_profile c.args.nest.now.loops c.args.turns (store_of c.args.memory.now c.args.scalars.now []) c.args.start.steps.left c.args.start.outer c.run_turns-turned.new.outer c.run_turns-turned.result c.requires.first run off)
+    simp to_z-of_z (short-profile c.args.nest.now.loops c.args.turns (store_of c.args.memory.now c.args.scalars.now []) c.args.start.steps.left c.args.start.outer c.run_turns-turned.new.outer c.run_turns-turned.result c.requires.first run off)
 
 pub returns : goal.returns
 returns c =
@@ -26,4 +26,4 @@ returns c =
     let on : goes_on c.run_turns-turned.result c.run_turns-turned.new.outer.left ≡ true = search rules in
     let begun : c.new-watch.result ≡ Some [] = search rules in
     let kept : c.run_turns-turned.new.run.watch.now ≡ Some c.in_ok-finish.field-0 = search rules in
-    whole_profile c.args.nest.now.loops c.args.turns (store_of c.args.memory.now c.args.scalars.now []) c.args.start.steps.left c.args.start.outer c.run_turns-turned.new.outer c.run_turns-turned.result c.in_ok-finish.field-0 run on (rw (begun, kept) at shown)
+    whole-profile c.args.nest.now.loops c.args.turns (store_of c.args.memory.now c.args.scalars.now []) c.args.start.steps.left c.args.start.outer c.run_turns-turned.new.outer c.run_turns-turned.result c.in_ok-finish.field-0 run on (rw (begun, kept) at shown)

@@ -4,7 +4,7 @@ use Rattle.std.proofs.lemmas.Result.{on_ok_weaker}
 use Rattle.nest_text.specs.Files.{scalar_names}
 use Rattle.report.specs.Words.{block_word, datum_phrase}
 use Rattle.report.specs.Lines.{listing_phrase, tube_words}
-use Rattle.report.proofs.Phrases.{form_phrase}
+use Rattle.report.proofs.Phrases.{form-phrase}
 use Rattle.report.proofs.written.push_listed_phrase.Goals as goal
 
 pub returns-in_ok-push_datum-in-Form : goal.returns-in_ok-push_datum-in-Form
@@ -16,4 +16,4 @@ returns-in_ok-push_datum-in-Form c =
     let high : FitsSigned w64 c.in-Form.high = search rules in
     let numbers = simp to_z-of_z at (rw c.as_slice.ensures.value at c.push_form.ensures) in
     rw c.in-Form.is
-    (on_ok_weaker c.push_form.result (λ so. form_phrase (codes "form") (block_word c.in-Form.block) (datum_phrase (scalar_names c.args.file.now) c.in-Form.what) words _ _ _ _ _ _ c.in_ok-push_str-in-Form.ensures.bytes c.in_ok-push_block-in-Form.ensures c.in_ok-push_str-in-Form-2.ensures.bytes c.in_ok-push_datum-in-Form.ensures so) numbers)
+    (on_ok_weaker c.push_form.result (λ so. form-phrase (codes "form") (block_word c.in-Form.block) (datum_phrase (scalar_names c.args.file.now) c.in-Form.what) words _ _ _ _ _ _ c.in_ok-push_str-in-Form.ensures.bytes c.in_ok-push_block-in-Form.ensures c.in_ok-push_str-in-Form-2.ensures.bytes c.in_ok-push_datum-in-Form.ensures so) numbers)

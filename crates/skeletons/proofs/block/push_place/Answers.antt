@@ -19,23 +19,23 @@ returns g c =
     ∙ ap (λ (xs : List Row). xs ++ c.below.result ∷ []) c.in_ok-push.ensures.items)) in
     place-rows g.row.D t c.args.scope.now.chunk b columns c.args.place _ _ c.above.result c.below.result c.box_above.result c.box_below.result c.requires.deep c.requires.rows
     (record {
-      over_a = c.above.ensures.over;
-      over_b = c.below.ensures.over;
-      over_c = c.box_above.ensures.over;
-      over_d = c.box_below.ensures.over;
-      within_a = c.above.ensures.within;
-      within_b = c.below.ensures.within;
-      within_c = c.box_above.ensures.within;
-      within_d = c.box_below.ensures.within;
-      meets_a = λ z long. subst (λ (v : ℤ). Meets z c.above.result ↔ (v ≤ℤ counter (across g.row.D columns z) c.args.place))
+      over-a = c.above.ensures.over;
+      over-b = c.below.ensures.over;
+      over-c = c.box_above.ensures.over;
+      over-d = c.box_below.ensures.over;
+      within-a = c.above.ensures.within;
+      within-b = c.below.ensures.within;
+      within-c = c.box_above.ensures.within;
+      within-d = c.box_below.ensures.within;
+      meets-a = λ z long. subst (λ (v : ℤ). Meets z c.above.result ↔ (v ≤ℤ counter (across g.row.D columns z) c.args.place))
           (ap (λ (s : Affine). value_at s (across g.row.D columns z)) c.least-low.ensures.value ∙ least-value t c.args.scope.now.chunk b c.args.place (across g.row.D columns z)) (c.above.ensures.meets z long);
-      meets_b = λ z long. subst (λ (v : ℤ). Meets z c.below.result ↔ (counter (across g.row.D columns z) c.args.place ≤ℤ v))
+      meets-b = λ z long. subst (λ (v : ℤ). Meets z c.below.result ↔ (counter (across g.row.D columns z) c.args.place ≤ℤ v))
           (ap (λ (s : Affine). value_at s (across g.row.D columns z)) c.greatest-high.ensures.value ∙ greatest-value t c.args.scope.now.chunk b c.args.place (across g.row.D columns z)) (c.below.ensures.meets z long);
-      meets_c = c.box_above.ensures.meets;
-      meets_d = c.box_below.ensures.meets;
-      alone_c = c.box_above.ensures.alone;
-      alone_d = c.box_below.ensures.alone;
-      side_c = c.box_above.ensures.side;
-      side_d = c.box_below.ensures.side;
+      meets-c = c.box_above.ensures.meets;
+      meets-d = c.box_below.ensures.meets;
+      alone-c = c.box_above.ensures.alone;
+      alone-d = c.box_below.ensures.alone;
+      side-c = c.box_above.ensures.side;
+      side-d = c.box_below.ensures.side;
     })
     items

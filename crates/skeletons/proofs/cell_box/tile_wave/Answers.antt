@@ -3,7 +3,7 @@ use Rattle.std.specs.Prelude.{if◌then◌else◌}
 use Rattle.std.specs.Int.{w64, w128}
 use Rattle.std.proofs.lemmas.Int.{fits_signed_from_abs, to_z-of_z}
 use Rattle.plain_lemmas.proofs.IntegerLaws.{unsigned_abs-add}
-use Rattle.skeletons.proofs.BoxLaws.{wave_more, wave_done}
+use Rattle.skeletons.proofs.BoxLaws.{wave-more, wave-done}
 use Rattle.skeletons.proofs.cell_box.tile_wave.Goals as goal
 
 pub overflow_add-wave : goal.overflow_add-wave
@@ -26,8 +26,8 @@ loop-row-preserved g c =
     simp to_z-of_z (record {
       size = omega (arith, both, size, c.loop-row.invariant.size);
       from = let f = c.loop-row.invariant.from in omega (arith, f);
-      sum = λ p e. wave_more g.row.D c.args.schedule.now c.requires.is p c.args.tile.now c.loop-row.row (to_z w128 c.loop-row.wave-bits) c.share-wave.result e c.loop-row.invariant.from (omega arith) (value ∙ ap (λ (b : Bool). if b then pos 0 else get_or c.args.tile.now c.loop-row.row (pos 0)) c.is_parallel.ensures) (c.loop-row.invariant.sum p e);
+      sum = λ p e. wave-more g.row.D c.args.schedule.now c.requires.is p c.args.tile.now c.loop-row.row (to_z w128 c.loop-row.wave-bits) c.share-wave.result e c.loop-row.invariant.from (omega arith) (value ∙ ap (λ (b : Bool). if b then pos 0 else get_or c.args.tile.now c.loop-row.row (pos 0)) c.is_parallel.ensures) (c.loop-row.invariant.sum p e);
     })
 
 pub returns : goal.returns
-returns g c = λ p e. wave_done g.row.D c.args.schedule.now c.requires.is p c.loop-row.row _ (omega arith) (c.loop-row.invariant.sum p e)
+returns g c = λ p e. wave-done g.row.D c.args.schedule.now c.requires.is p c.loop-row.row _ (omega arith) (c.loop-row.invariant.sum p e)

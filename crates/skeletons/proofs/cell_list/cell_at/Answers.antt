@@ -4,7 +4,7 @@ use Rattle.std.proofs.lemmas.Int.{to_z-of_z}
 use Rattle.affine.specs.Matrices.{product}
 use Rattle.domain.specs.Tables.{cut}
 use Rattle.domain.specs.Instances.{counter, padded}
-use Rattle.domain.proofs.PointLaws.{cut_same}
+use Rattle.domain.proofs.PointLaws.{cut-same}
 use Rattle.transform.specs.Schedules.{wave, wide_lead, wide_tile}
 use Rattle.skeletons.specs.Cells.{Extent}
 use Rattle.skeletons.specs.CellLists.{cell_at}
@@ -14,7 +14,7 @@ use Rattle.skeletons.proofs.ListLaws.{padded-fits, point-is}
 use Rattle.skeletons.proofs.cell_list.cell_at.Goals as goal
 
 uncut : (n : ℕ) (xs : List ℤ) → length xs ≡ n → cut n xs ≡ xs
-uncut n xs long = cut_same n xs (λ k a b. absurd (omega (arith, long, a, b)))
+uncut n xs long = cut-same n xs (λ k a b. absurd (omega (arith, long, a, b)))
 
 pub counters_of-point-requires : goal.counters_of-point-requires
 counters_of-point-requires g c =

@@ -3,7 +3,7 @@ use Rattle.std.proofs.lemmas.List.Filters.{dedup_is}
 use Rattle.std.proofs.lemmas.List.Kept.{Contains-dedup, Contains-from_dedup, IsStrictlySortedBy-dedup}
 use Rattle.std.proofs.lemmas.List.Sorted.{Contains-permutation, IsPermutation-sym}
 use Rattle.orders.specs.Orders.{Has, Ordered}
-use Rattle.orders.proofs.Lists.{contains_from_has, has_from_contains}
+use Rattle.orders.proofs.Lists.{contains-from-has, has-from-contains}
 use Rattle.skeletons.specs.Cells.{CellComes}
 use Rattle.skeletons.specs.contracts.cell.CellOrd.TheImpl.Laws.{total-law, matches_eq-law}
 use Rattle.skeletons.proofs.CellListLaws.{cell-exact, equivalence-of, ordered-sorted}
@@ -19,7 +19,7 @@ returns-clause-has g c =
     let is = dedup_is _ _ _ c.dedup.ensures.filtered in
     let moved = c.sort_unstable.ensures.permutation in
     λ cell. (
-      λ h. has_from_contains c.args.cells.items cell (Contains-permutation _ _ cell (IsPermutation-sym _ _ moved) (Contains-from_dedup _ _ cell (contains_from_has _ cell (subst (λ cs. Has cs cell) is h)))),
-      λ h. subst (λ cs. Has cs cell) (sym is) (has_from_contains _ cell (Contains-dedup (equivalence-of _ _ (total-law g.row.D g.D.fits) (matches_eq-law g.row.D g.D.fits)) (λ x y e. cell-exact x y (sym (matches_eq-law g.row.D g.D.fits x y) ∙ e)) _ cell
-          (Contains-permutation _ _ cell moved (contains_from_has c.args.cells.items cell h)))),
+      λ h. has-from-contains c.args.cells.items cell (Contains-permutation _ _ cell (IsPermutation-sym _ _ moved) (Contains-from_dedup _ _ cell (contains-from-has _ cell (subst (λ cs. Has cs cell) is h)))),
+      λ h. subst (λ cs. Has cs cell) (sym is) (has-from-contains _ cell (Contains-dedup (equivalence-of _ _ (total-law g.row.D g.D.fits) (matches_eq-law g.row.D g.D.fits)) (λ x y e. cell-exact x y (sym (matches_eq-law g.row.D g.D.fits x y) ∙ e)) _ cell
+          (Contains-permutation _ _ cell moved (contains-from-has c.args.cells.items cell h)))),
     )

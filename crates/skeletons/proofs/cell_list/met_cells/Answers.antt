@@ -2,7 +2,7 @@ use Rattle.std.proofs.Common.{rules, ◌≡◌, ◌∙◌, ◌<◌, ◌^◌, ℕ
 use Rattle.std.specs.Prelude.{◌↔◌}
 use Rattle.std.specs.List.{AllByRecursion}
 use Rattle.orders.specs.Orders.{Has}
-use Rattle.orders.proofs.Lists.{all_from}
+use Rattle.orders.proofs.Lists.{all-from}
 use Rattle.level_walk.specs.Walks.{IsBlock}
 use Rattle.level_walk.specs.declared.runs.Run.{Run as Stretch}
 use Rattle.level_walk.specs.declared.scans.BlockScan.{BlockScan}
@@ -39,7 +39,7 @@ push_block-requires g c =
     let block : IsBlock g.row.D b = item-at (IsBlock g.row.D) scans rank b is.scans.all inside at in
     let stretches = c.in_ok-stretches.stretches.items in
     let all : AllByRecursion (IsStretch e rank) c.as_slice.result.now = subst (AllByRecursion (IsStretch e rank)) (sym c.as_slice.ensures.value)
-    (all_from (IsStretch e rank) stretches (λ s h. far-stretch g.row.D e f.inverse scans is (replicate g.row.D (neg_ℤ (pos (2 ^ 59)))) (replicate g.row.D (pos (2 ^ 59))) refl refl rank b (finds-at g.row.D e rank scans b is.finds inside at) block s ((c.in_ok-stretches.ensures.has s).0 h))) in
+    (all-from (IsStretch e rank) stretches (λ s h. far-stretch g.row.D e f.inverse scans is (replicate g.row.D (neg_ℤ (pos (2 ^ 59)))) (replicate g.row.D (pos (2 ^ 59))) refl refl rank b (finds-at g.row.D e rank scans b is.finds inside at) block s ((c.in_ok-stretches.ensures.has s).0 h))) in
     search (rules, all)
 
 pub loop-rank-init : goal.loop-rank-init

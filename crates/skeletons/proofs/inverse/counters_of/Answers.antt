@@ -2,7 +2,7 @@ use Rattle.std.proofs.Common.{◌∙◌, ◌<◌, pos, length, get_or, refl, Fit
 use Rattle.std.specs.Int.{w128}
 use Rattle.std.proofs.Math.ListN.{length-set}
 use Rattle.std.proofs.lemmas.Int.{to_z-of_z}
-use Rattle.transform.proofs.LineLaws.{set_kept, set_more}
+use Rattle.transform.proofs.LineLaws.{set-kept, set-more}
 use Rattle.domain.specs.Instances.{counter}
 use Rattle.skeletons.proofs.FrameLaws.{is-cut}
 use Rattle.skeletons.proofs.inverse.counters_of.Goals as goal
@@ -16,8 +16,8 @@ loop-place-preserved g c =
     let inside : c.loop-place.place < length c.loop-place.at = omega arith in
     simp to_z-of_z (record {
       long = length-set c.loop-place.at c.loop-place.place (get_or c.args.point.now c.loop-place.place (pos 0)) ∙ i.long;
-      done = λ k l. set_more c.loop-place.at c.loop-place.place (get_or c.args.point.now c.loop-place.place (pos 0)) 0 (λ j. counter c.args.point.now j) inside refl (λ j from below. i.done j below) k (omega arith) l;
-      rest = λ k l. set_kept c.loop-place.at c.loop-place.place (get_or c.args.point.now c.loop-place.place (pos 0)) (pos 0) k (λ e. omega arith) (i.rest k (omega arith));
+      done = λ k l. set-more c.loop-place.at c.loop-place.place (get_or c.args.point.now c.loop-place.place (pos 0)) 0 (λ j. counter c.args.point.now j) inside refl (λ j from below. i.done j below) k (omega arith) l;
+      rest = λ k l. set-kept c.loop-place.at c.loop-place.place (get_or c.args.point.now c.loop-place.place (pos 0)) (pos 0) k (λ e. omega arith) (i.rest k (omega arith));
     })
 
 pub returns : goal.returns

@@ -5,12 +5,12 @@ use Rattle.std.proofs.lemmas.Int.{fits_signed_from_abs, ints}
 use Rattle.domain.specs.Instances.{IsInstance, block_of, counter, padded}
 use Rattle.domain.specs.Instances.{place as number}
 use Rattle.domain.proofs.CounterLaws.{launched_places}
-use Rattle.domain.proofs.PointLaws.{cut_same}
+use Rattle.domain.proofs.PointLaws.{cut-same}
 use Rattle.transform.specs.Schedules.{place}
 use Rattle.skeletons.specs.Cells.{Extent}
 use Rattle.skeletons.proofs.BoxLaws.{length-place}
 use Rattle.skeletons.proofs.CellListLaws.{near-fits, past, zero-fits}
-use Rattle.skeletons.proofs.ListLaws.{near-places_of}
+use Rattle.skeletons.proofs.ListLaws.{near-places-of}
 use Rattle.skeletons.proofs.place_list.place_point.Goals as goal
 
 pub padded-point-requires : goal.padded-point-requires
@@ -35,7 +35,7 @@ counters_of-place-requires g c =
     let same = c.place_of.ensures.value ∙ ap (place s) c.padded-point.ensures in
     let long = length-place g.row.D s c.requires.schedule (padded t x) in
     let fits : (k : ℕ) → FitsSigned w64 (counter c.place_of.result k) = λ k. subst (λ (zs : List ℤ). FitsSigned w64 (counter zs k)) (sym same)
-    (⊎_elim (λ l. near-fits (counter (place s (padded t x)) k) (near-places_of g.row.D e few c.requires.table c.requires.schedule c.requires.launch x c.requires.predicted k l))
+    (⊎_elim (λ l. near-fits (counter (place s (padded t x)) k) (near-places-of g.row.D e few c.requires.table c.requires.schedule c.requires.launch x c.requires.predicted k l))
     (λ l. subst (FitsSigned w64) (sym (past (place s (padded t x)) k (omega (arith, l, long)))) zero-fits) (cases_lt k g.row.D)) in
     search (rules, fits)
 
@@ -46,4 +46,4 @@ returns g c =
     let x = c.args.inst.now in
     let same = c.place_of.ensures.value ∙ ap (place s) c.padded-point.ensures in
     let long = ap length same ∙ length-place g.row.D s c.requires.schedule (padded t x) in
-    c.copied.ensures ∙ c.counters_of-place.ensures ∙ cut_same g.row.D c.place_of.result (λ k a b. absurd (omega (arith, long, a, b))) ∙ same
+    c.copied.ensures ∙ c.counters_of-place.ensures ∙ cut-same g.row.D c.place_of.result (λ k a b. absurd (omega (arith, long, a, b))) ∙ same

@@ -1,6 +1,6 @@
 use Rattle.std.proofs.Common.{rules, ◌≡◌, ◌∙◌, ◌<◌, ◌≤◌, ◌+◌, ◌-◌, ℤ, List, [], ◌++◌, map, length, get_or, sym, ap, subst}
 use Rattle.std.specs.List.{AllByRecursion}
-use Rattle.orders.proofs.Lists.{all_from}
+use Rattle.orders.proofs.Lists.{all-from}
 use Rattle.level_walk.specs.Walks.{IsBlock}
 use Rattle.level_walk.specs.declared.runs.Run.{Run as Stretch}
 use Rattle.level_walk.specs.declared.scans.BlockScan.{BlockScan}
@@ -44,7 +44,7 @@ push_runs-requires g c =
     let finds : Finds g.row.D e rank b = finds-at g.row.D e rank scans b is.finds inside at in
     let stretches = c.in_ok-stretches.stretches.items in
     let all : AllByRecursion (IsStretch e rank) c.as_slice.result.now = subst (AllByRecursion (IsStretch e rank)) (sym c.as_slice.ensures.value)
-    (all_from (IsStretch e rank) stretches (λ s h. is-stretch g.row.D e f.inverse scans is direction last c.args.cell.now c.cell_box-found.result.lows c.cell_box-found.result.highs c.cell_box-found.ensures rank b finds (item-at (IsBlock g.row.D) scans rank b is.scans.all inside at) s ((c.in_ok-stretches.ensures.has s).0 h))) in
+    (all-from (IsStretch e rank) stretches (λ s h. is-stretch g.row.D e f.inverse scans is direction last c.args.cell.now c.cell_box-found.result.lows c.cell_box-found.result.highs c.cell_box-found.ensures rank b finds (item-at (IsBlock g.row.D) scans rank b is.scans.all inside at) s ((c.in_ok-stretches.ensures.has s).0 h))) in
     search (rules, all)
 
 pub returns : goal.returns

@@ -10,13 +10,13 @@ raised-requires-clause-low g c =
     let low : FitsSigned w64 c.access.inside.low = search rules in
     let a : Access = record { stores = c.access.inside.stores; line = c.access.inside.line; low = c.access.inside.low; high = c.access.inside.high } in
     let below : c.args.place < offset_count a = subst (λ (x : Access). c.args.place < offset_count x) (sym c.access.view_is) c.requires in
-    simp to_z-of_z (tube-offset a c.args.place c.access.invariant below).low_near
+    simp to_z-of_z (tube-offset a c.args.place c.access.invariant below).low-near
 
 pub raised-requires-clause-place : goal.raised-requires-clause-place
 raised-requires-clause-place g c =
     let a : Access = record { stores = c.access.inside.stores; line = c.access.inside.line; low = c.access.inside.low; high = c.access.inside.high } in
     let below : c.args.place < offset_count a = subst (λ (x : Access). c.args.place < offset_count x) (sym c.access.view_is) c.requires in
-    (tube-offset a c.args.place c.access.invariant below).place_near
+    (tube-offset a c.args.place c.access.invariant below).place-near
 
 pub returns-clause-is : goal.returns-clause-is
 returns-clause-is g c =

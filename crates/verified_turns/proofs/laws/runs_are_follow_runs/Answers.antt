@@ -1,5 +1,5 @@
-use Rattle.verified_turns.proofs.Following.{runs-are_follow_runs}
+use Rattle.verified_turns.proofs.Following.{runs-are-follow-runs}
 use Rattle.verified_turns.proofs.laws.runs_are_follow_runs.Goals as goal
 
 pub returns : goal.returns
-returns c = runs-are_follow_runs
+returns c = runs-are-follow-runs

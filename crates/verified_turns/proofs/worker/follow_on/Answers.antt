@@ -9,7 +9,7 @@ use Rattle.follow_chunk.specs.Tasks.{IsTask}
 use Rattle.follow_chunk.specs.Verifies.{VerifiesInstance}
 use Rattle.verified_turns.specs.Ports.{own_expectation, MayTouch}
 use Rattle.verified_turns.proofs.Shown.{length-shown}
-use Rattle.verified_turns.proofs.Touching.{may_touch, verifies_instance}
+use Rattle.verified_turns.proofs.Touching.{may-touch, verifies-instance}
 use Rattle.verified_turns.proofs.worker.follow_on.Goals as goal
 
 pub new-port-requires : goal.new-port-requires
@@ -21,7 +21,7 @@ new-port-requires g c =
     let f = c.foreseen-foreseen.result in
     let found = c.foreseen-foreseen.ensures in
     let at : f.forms.now ≡ block_of t x = f.block ∙ ap (λ (s : Table). block_of s f.inst.now) found.pred ∙ ap (λ (z : Instance). block_of t z) found.inst in
-    let may : MayTouch f.forms.now (interval_at t x) v = may_touch g.row.D self.scalars (length v.base) self.nest.now.loops t self.outer self.chunk x c.requires.task c.requires.predicted f.forms.now v at refl c.requires.may in
+    let may : MayTouch f.forms.now (interval_at t x) v = may-touch g.row.D self.scalars (length v.base) self.nest.now.loops t self.outer self.chunk x c.requires.task c.requires.predicted f.forms.now v at refl c.requires.may in
     let asked : MayTouch f.forms.now (interval_at f.pred.now f.inst.now) v =
     subst (λ (s : Table). MayTouch f.forms.now (interval_at s f.inst.now) v) (sym found.pred)
     (subst (λ (y : Instance). MayTouch f.forms.now (interval_at t y) v) (sym found.inst) may) in
@@ -38,7 +38,7 @@ follow_verified-requires g c =
     let at : f.forms.now ≡ block_of t y = f.block ∙ ap (λ (s : Table). block_of s y) found.pred in
     let predicted : Predicted t self.chunk y = subst (λ (z : Instance). Predicted t self.chunk z) (sym found.inst) c.requires.predicted in
     let closes : scalars_at t f.next ≡ scalars_at t (next t y) = found.next ∙ ap (λ (z : Instance). scalars_at t (next t z)) (sym found.inst) in
-    let verifies = verifies_instance g.row.D self.scalars (length v.base) self.nest.now.loops t self.outer self.chunk y c.requires.task predicted f.forms.now at in
+    let verifies = verifies-instance g.row.D self.scalars (length v.base) self.nest.now.loops t self.outer self.chunk y c.requires.task predicted f.forms.now at in
     let port = c.new-port.result in
     let forms : port.foreseen.now.forms.now ≡ f.forms.now = ap (λ z. z.forms.now) c.new-port.ensures.foreseen in
     let pred : port.foreseen.now.pred.now ≡ t = ap (λ z. z.pred.now) c.new-port.ensures.foreseen ∙ found.pred in

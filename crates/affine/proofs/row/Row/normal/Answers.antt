@@ -1,7 +1,7 @@
 use Rattle.std.proofs.Common.{FitsSigned, rules}
 use Rattle.std.specs.Int.{w128}
 use Rattle.std.proofs.lemmas.Int.{to_z-of_z}
-use Rattle.affine.proofs.NormalLemmas.{normal_from_quotients}
+use Rattle.affine.proofs.NormalLemmas.{normal-from-quotients}
 use Rattle.affine.proofs.row.Row.normal.Goals as goal
 
 pub returns : goal.returns
@@ -11,4 +11,4 @@ returns c =
     let quotient : FitsSigned w128 c.floor.result = search rules in
     let coef = rw c.as_slice.ensures.value at (simp to_z-of_z at c.quotients.ensures) in
     let cst = simp to_z-of_z at c.floor.ensures in
-    simp to_z-of_z (normal_from_quotients c.args.self.now c.divisor-divisor.result c.quotients.result.items c.floor.result c.divisor-divisor.ensures coef cst)
+    simp to_z-of_z (normal-from-quotients c.args.self.now c.divisor-divisor.result c.quotients.result.items c.floor.result c.divisor-divisor.ensures coef cst)

@@ -1,9 +1,9 @@
 use Rattle.std.proofs.Common.{◌≡◌, length, rules}
-use Rattle.block_exec.proofs.BlockLaws.{ran-instance, ran-no_instance}
+use Rattle.block_exec.proofs.BlockLaws.{ran-instance, ran-no-instance}
 use Rattle.block_exec.proofs.context.Run.block.Goals as goal
 
 pub returns-then-is_empty-clause-ran : goal.returns-then-is_empty-clause-ran
-returns-then-is_empty-clause-ran g c = ran-no_instance g.P.Port.memory g.P.Port.expects g.W.Watch.may c.args.site.now c.args.block.now c.args.self.now (search rules)
+returns-then-is_empty-clause-ran g c = ran-no-instance g.P.Port.memory g.P.Port.expects g.W.Watch.may c.args.site.now c.args.block.now c.args.self.now (search rules)
 
 pub returns-clause-ran : goal.returns-clause-ran
 returns-clause-ran g c =

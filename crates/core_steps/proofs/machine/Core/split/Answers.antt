@@ -5,7 +5,7 @@ use Rattle.core_steps.specs.Numbers.{has}
 use Rattle.core_steps.specs.States.{State}
 use Rattle.core_steps.specs.Invariant.{Inv}
 use Rattle.core_steps.proofs.NumberLists.{not_both}
-use Rattle.core_steps.proofs.Applied.{split_done}
+use Rattle.core_steps.proofs.Applied.{split-done}
 use Rattle.core_steps.proofs.machine.Core.split.Goals as goal
 
 pub invariant_of-self : goal.invariant_of-self
@@ -16,10 +16,10 @@ pub invariant_of-self-2 : goal.invariant_of-self-2
 invariant_of-self-2 c = let it = c.self.inside in let s : State = record { words = it.words.items; main = it.main; seats = it.seats.items } in
     let fresh : has c.args.worker c.args.self.now.main.out ≡ false = false_from_ne_true (has c.args.worker c.args.self.now.main.out) (λ t. not_both c.is_out.result (c.is_out.ensures.1 t) c.if-is_out.false) in
     let here : has c.args.worker s.main.out ≡ false = rw (← c.self.view_is) at fresh in
-    (split_done s c.args.worker c.in_ok-out.out c.push.new.self.items c.in_ok-seat.seat c.self.invariant.0 c.self.invariant.1 c.if-not-self.false (omega arith) here c.in_ok-out.ensures c.in_ok-seat.ensures c.in_ok-push.ensures.items).sound
+    (split-done s c.args.worker c.in_ok-out.out c.push.new.self.items c.in_ok-seat.seat c.self.invariant.0 c.self.invariant.1 c.if-not-self.false (omega arith) here c.in_ok-out.ensures c.in_ok-seat.ensures c.in_ok-push.ensures.items).sound
 
 pub returns : goal.returns
 returns c = let it = c.self.inside in let s : State = record { words = it.words.items; main = it.main; seats = it.seats.items } in
     let fresh : has c.args.worker c.args.self.now.main.out ≡ false = false_from_ne_true (has c.args.worker c.args.self.now.main.out) (λ t. not_both c.is_out.result (c.is_out.ensures.1 t) c.if-is_out.false) in
     let here : has c.args.worker s.main.out ≡ false = rw (← c.self.view_is) at fresh in
-    rw (← c.self.view_is) (split_done s c.args.worker c.in_ok-out.out c.push.new.self.items c.in_ok-seat.seat c.self.invariant.0 c.self.invariant.1 c.if-not-self.false (omega arith) here c.in_ok-out.ensures c.in_ok-seat.ensures c.in_ok-push.ensures.items).applied
+    rw (← c.self.view_is) (split-done s c.args.worker c.in_ok-out.out c.push.new.self.items c.in_ok-seat.seat c.self.invariant.0 c.self.invariant.1 c.if-not-self.false (omega arith) here c.in_ok-out.ensures c.in_ok-seat.ensures c.in_ok-push.ensures.items).applied

@@ -2,9 +2,9 @@ use Rattle.std.proofs.Common.{◌≡◌, List, sym, ◌∙◌, ap}
 use Rattle.std.specs.List.{list_all}
 use Rattle.core_steps.specs.declared.plan.Tile.{Tile}
 use Rattle.core_steps.specs.Plans.{keeps_inside}
-use Rattle.core_steps.proofs.PlanTests.{all_inside_fact, all_inside_test}
+use Rattle.core_steps.proofs.PlanTests.{all-inside-fact, all-inside-test}
 use Rattle.core_steps.proofs.plan.Plan.is_inside.Goals as goal
 
 pub returns : goal.returns
 returns c = let test : c.are_inside.result ≡ list_all (keeps_inside c.args.count) c.args.self.now.tiles = c.are_inside.ensures ∙ ap (λ (l : List Tile). list_all (keeps_inside c.args.count) l) c.as_slice.ensures in
-    ((λ t. all_inside_fact c.args.count c.args.self.now.tiles (sym test ∙ t)), λ h. test ∙ all_inside_test c.args.count c.args.self.now.tiles h)
+    ((λ t. all-inside-fact c.args.count c.args.self.now.tiles (sym test ∙ t)), λ h. test ∙ all-inside-test c.args.count c.args.self.now.tiles h)

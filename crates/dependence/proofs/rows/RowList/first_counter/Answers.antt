@@ -2,7 +2,7 @@ use Rattle.std.proofs.Common.{◌≤◌, ◌^◌, ◌∙◌, ap, ◌++◌, ℤ, 
 use Rattle.std.proofs.lemmas.Result.{on_ok_weaker}
 use Rattle.affine.specs.declared.row.Row.{Row}
 use Rattle.dependence.specs.Comparisons.{row_for}
-use Rattle.dependence.proofs.AddedLaws.{below-seven, narrow-member, narrow-turn, wider, two_more, first_counter-is, one-less, one-less-size}
+use Rattle.dependence.proofs.AddedLaws.{below-seven, narrow-member, narrow-turn, wider, two-more, first_counter-is, one-less, one-less-size}
 use Rattle.dependence.proofs.rows.RowList.first_counter.Goals as goal
 
 pub at_most-requires-2 : goal.at_most-requires-2
@@ -14,6 +14,6 @@ pub returns : goal.returns
 returns g c =
     let e = one-less c.args.length c.from.result c.from.ensures c.ranges.length in
     on_ok_weaker c.at_most-2.result
-    (λ last. two_more _ _ _ _ _ c.in_ok-at_most.ensures last
+    (λ last. two-more _ _ _ _ _ c.in_ok-at_most.ensures last
     ∙ ap (λ (rows : List Row). c.args.self.now.rows.items ++ rows) (first_counter-is (row_for c.args.over.x c.args.over.y) c.args.pred.now c.args.length c.args.member g.row.D c.counter.result _ _ c.requires.table.deep c.counter.ensures.value c.at-counter.ensures e))
     c.at_most-2.ensures

@@ -4,7 +4,7 @@ use Rattle.dependence.specs.Comparisons.{row_for}
 use Rattle.dependence.specs.Systems.{inner_counter}
 use Rattle.dependence.specs.Terms.{at_member}
 use Rattle.domain.specs.Tables.{counters}
-use Rattle.dependence.proofs.AddedLaws.{below-seven, inner_counter-is, narrow-member, narrow-number, wider, more_of_range, two_more, ended}
+use Rattle.dependence.proofs.AddedLaws.{below-seven, inner_counter-is, narrow-member, narrow-number, wider, more-of-range, two-more, ended}
 use Rattle.dependence.proofs.rows.RowList.inner_counters.Goals as goal
 
 pub at_most-requires : goal.at_most-requires
@@ -18,8 +18,8 @@ loop-place-preserved g c =
     let count = c.counters-place-end.ensures.value in
     record {
       rows =
-          more_of_range c.args.self.now.rows.items c.loop-place.self.rows.items c.at_most-in-loop-place.new.self.rows.items (row_for c.args.over.x c.args.over.y) (inner_counter c.args.pred.now c.args.block.now (at_member c.args.member)) 1 c.loop-place.place _
-          c.loop-place.auto.place c.loop-place.invariant.rows (two_more _ _ _ _ _ c.in_ok-at_most.ensures c.in_ok-at_most-2.ensures)
+          more-of-range c.args.self.now.rows.items c.loop-place.self.rows.items c.at_most-in-loop-place.new.self.rows.items (row_for c.args.over.x c.args.over.y) (inner_counter c.args.pred.now c.args.block.now (at_member c.args.member)) 1 c.loop-place.place _
+          c.loop-place.auto.place c.loop-place.invariant.rows (two-more _ _ _ _ _ c.in_ok-at_most.ensures c.in_ok-at_most-2.ensures)
           (inner_counter-is c.args.pred.now c.args.block.now c.args.member g.row.D c.loop-place.place c.counter.result c.greatest_sum.result _ _ c.requires.table.deep c.counter.ensures.value c.greatest_sum.ensures.value c.at-counter.ensures c.at-greatest.ensures);
       inside = inr (omega (arith, count, c.loop-place-test.true));
     }

@@ -5,7 +5,7 @@ use Rattle.affine.specs.declared.row.Row.{Row}
 use Rattle.domain.specs.Tables.{Access}
 use Rattle.dependence.specs.Comparisons.{row_for}
 use Rattle.dependence.specs.Systems.{meeting}
-use Rattle.dependence.proofs.AddedLaws.{meeting-is, narrow-x, narrow-y, two_more, wider}
+use Rattle.dependence.proofs.AddedLaws.{meeting-is, narrow-x, narrow-y, two-more, wider}
 use Rattle.dependence.proofs.rows.RowList.meeting.Goals as goal
 
 pub at_most-requires : goal.at_most-requires
@@ -30,7 +30,7 @@ returns g c =
     let b : Access = record { stores = c.b.inside.stores; line = c.b.inside.line; low = c.b.inside.low; high = c.b.inside.high } in
     let h = row_for c.args.over.x c.args.over.y in
     on_ok_weaker c.at_most-2.result
-    (λ last. two_more _ _ _ _ _ c.in_ok-at_most.ensures last
+    (λ last. two-more _ _ _ _ _ c.in_ok-at_most.ensures last
     ∙ ap (λ (rows : List Row). c.args.self.now.rows.items ++ rows)
     (meeting-is h g.row.D a b _ _ _ _ _ _ c.form_or_zero-x.ensures.value c.form_or_zero-y.ensures.value (simp to_z-of_z at c.shifted.ensures.value) (simp to_z-of_z at c.shifted-2.ensures.value) (simp to_z-of_z at c.shifted-3.ensures.value) (simp to_z-of_z at c.shifted-4.ensures.value))
     ∙ ap₂ (λ (p q : Access). c.args.self.now.rows.items ++ map h (meeting g.row.D p q)) c.a.view_is c.b.view_is)

@@ -89,8 +89,8 @@ follow_head_verified-requires-clause-strides g c =
     let task = c.requires.task in
     let x = c.args.foreseen.now.inst.now in
     let p = c.requires.predicted in
-    let head_is = ap (λ (r : BlockRef). head_at self.nest.now.loops r.level) (sym c.block-block.ensures) ∙ sym c.head.ensures ∙ ap (option_map (λ head. head.now)) c.in-Some-head.is in
-    subst (λ (h : Head). strides h ≡ _) (head-same g.row.D self.scalars self.nest.now.loops self.pred.now self.outer self.chunk task.0 task.1 x p c.in-Some-head.head.now head_is) (strides-here g.row.D self.scalars self.nest.now.loops self.pred.now self.outer self.chunk task.0 task.1 x p)
+    let head-is = ap (λ (r : BlockRef). head_at self.nest.now.loops r.level) (sym c.block-block.ensures) ∙ sym c.head.ensures ∙ ap (option_map (λ head. head.now)) c.in-Some-head.is in
+    subst (λ (h : Head). strides h ≡ _) (head-same g.row.D self.scalars self.nest.now.loops self.pred.now self.outer self.chunk task.0 task.1 x p c.in-Some-head.head.now head-is) (strides-here g.row.D self.scalars self.nest.now.loops self.pred.now self.outer self.chunk task.0 task.1 x p)
 
 pub returns-clause-run : goal.returns-clause-run
 returns-clause-run g c =
@@ -107,12 +107,12 @@ returns-clause-run g c =
     let each = λ (access : ℕ). ap (λ (u : Table). interval_at u x access) (sym c.requires.pred) in
     let begins = c.requires.begins in
     let closes = ap (λ (u : Table). scalars_at u c.args.foreseen.now.next) c.requires.pred ∙ c.requires.next in
-    let head_is = ap (λ (r : BlockRef). head_at loops r.level) (sym c.block-block.ensures) ∙ sym c.head.ensures ∙ ap (option_map (λ head. head.now)) c.in-Some-head.is in
+    let head-is = ap (λ (r : BlockRef). head_at loops r.level) (sym c.block-block.ensures) ∙ sym c.head.ensures ∙ ap (option_map (λ head. head.now)) c.in-Some-head.is in
     let none = ap (statements_of loops) (sym c.block-block.ensures) ∙ sym c.statements.ensures ∙ ap (option_map (λ ss. ss.now)) c.in_default-statements.is in
     let part = none-head g.row.D self.scalars self.nest.now.loops self.pred.now self.outer self.chunk task.0 task.1 x p none in
-    let owned : VerifiesOwn _ intervals (head_accesses c.in-Some-head.head.now) = subst (λ (u : Table). VerifiesOwn (g.P.Port.expects c.args.port.now) (interval_at u x) (head_accesses c.in-Some-head.head.now)) (sym c.requires.pred) (own-head g.row.D self.scalars task.0 loops t self.outer self.chunk x task.1 p (g.P.Port.expects c.args.port.now) c.requires.own c.in-Some-head.head.now head_is part) in
+    let owned : VerifiesOwn _ intervals (head_accesses c.in-Some-head.head.now) = subst (λ (u : Table). VerifiesOwn (g.P.Port.expects c.args.port.now) (interval_at u x) (head_accesses c.in-Some-head.head.now)) (sym c.requires.pred) (own-head g.row.D self.scalars task.0 loops t self.outer self.chunk x task.1 p (g.P.Port.expects c.args.port.now) c.requires.own c.in-Some-head.head.now head-is part) in
     run-head g.row.D self.scalars self.nest.now.loops self.pred.now self.outer self.chunk task.0 task.1 x p c.site-site.result frames intervals each (g.P.Port.memory c.args.port.now) (g.P.Port.memory c.follow_head_verified.new.port) c.follow_head_verified.result
-    c.args.scalars.now (scalars_at c.args.foreseen.now.pred.now c.args.foreseen.now.next) c.in-Some-head.head.now c.turning-turning.result begins closes head_is part c.turning-turning.ensures (λ r nx told turning. c.follow_head_verified.ensures.followed r nx told owned turning)
+    c.args.scalars.now (scalars_at c.args.foreseen.now.pred.now c.args.foreseen.now.next) c.in-Some-head.head.now c.turning-turning.result begins closes head-is part c.turning-turning.ensures (λ r nx told turning. c.follow_head_verified.ensures.followed r nx told owned turning)
 
 pub returns-in-Some-statements-clause-closes : goal.returns-in-Some-statements-clause-closes
 returns-in-Some-statements-clause-closes g c = λ ok.

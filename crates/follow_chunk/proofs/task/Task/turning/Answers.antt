@@ -24,17 +24,17 @@ returns-in-For g c =
     let task = c.requires.task in
     let x = c.args.inst.now in
     let p = c.requires.predicted in
-    let part_is = sym (ap (λ (r : BlockRef). r.part) c.requires.block) ∙ c.requires.part in
+    let part-is = sym (ap (λ (r : BlockRef). r.part) c.requires.block) ∙ c.requires.part in
     let trip_is =
     c.unwrap_or-trip.ensures
     ∙ ap (λ (v : Option ℤ). unwrap_or v (pos 0))
     (c.expected.ensures ∙ ap₂ (λ (b : ℕ) (at : List ℤ). expected_of self.pred.now (instance b at) Trip) (ap (λ (y : Instance). y.block) c.inst.view_is) (c.cut.ensures ∙ ap₂ cut (ap (λ (r : BlockRef). r.level - 1) c.requires.block) (ap (λ (y : Instance). y.at) c.inst.view_is)))
-    ∙ trip-here g.row.D self.scalars self.nest.now.loops self.pred.now self.outer self.chunk task.0 task.1 x p part_is in
-    let head_is : head_at self.nest.now.loops (block_of self.pred.now x).level ≡ Some (For c.in-For.field-0 c.in-For.field-1 c.in-For.field-2) = ap (λ (r : BlockRef). head_at self.nest.now.loops r.level) (sym c.requires.block) ∙ c.requires.head ∙ ap (λ (h : Head). Some h) c.in-For.is in
+    ∙ trip-here g.row.D self.scalars self.nest.now.loops self.pred.now self.outer self.chunk task.0 task.1 x p part-is in
+    let head-is : head_at self.nest.now.loops (block_of self.pred.now x).level ≡ Some (For c.in-For.field-0 c.in-For.field-1 c.in-For.field-2) = ap (λ (r : BlockRef). head_at self.nest.now.loops r.level) (sym c.requires.block) ∙ c.requires.head ∙ ap (λ (h : Head). Some h) c.in-For.is in
     let low = c.unwrap_or.ensures ∙ ap (λ (v : Option ℤ). unwrap_or v (pos 0)) c.expected-in-For.ensures in
     let both = ap₂ Bounds (to_z-of_z w128 c.unwrap_or.result (search rules) ∙ low) (to_z-of_z w128 c.unwrap_or-trip.result (search rules) ∙ trip_is) in
     subst (λ (h : Head). IsTurning (forecast_of self.pred.now) (occurrence_of self.pred.now x) h (Bounds (to_z w128 (of_z w128 c.unwrap_or.result)) (to_z w128 (of_z w128 c.unwrap_or-trip.result)))) (sym c.in-For.is)
-    (both ∙ bounds-here g.row.D self.scalars self.nest.now.loops self.pred.now self.outer self.chunk task.0 task.1 x p c.in-For.field-0 c.in-For.field-1 c.in-For.field-2 head_is part_is)
+    (both ∙ bounds-here g.row.D self.scalars self.nest.now.loops self.pred.now self.outer self.chunk task.0 task.1 x p c.in-For.field-0 c.in-For.field-1 c.in-For.field-2 head-is part-is)
 
 pub returns-then-block-le1 : goal.returns-then-block-le1
 returns-then-block-le1 g c =
@@ -42,20 +42,20 @@ returns-then-block-le1 g c =
     let task = c.requires.task in
     let x = c.args.inst.now in
     let p = c.requires.predicted in
-    let part_is = sym (ap (λ (r : BlockRef). r.part) c.requires.block) ∙ c.requires.part in
+    let part-is = sym (ap (λ (r : BlockRef). r.part) c.requires.block) ∙ c.requires.part in
     let trip_is =
     c.unwrap_or-trip.ensures
     ∙ ap (λ (v : Option ℤ). unwrap_or v (pos 0))
     (c.expected.ensures ∙ ap₂ (λ (b : ℕ) (at : List ℤ). expected_of self.pred.now (instance b at) Trip) (ap (λ (y : Instance). y.block) c.inst.view_is) (c.cut.ensures ∙ ap₂ cut (ap (λ (r : BlockRef). r.level - 1) c.requires.block) (ap (λ (y : Instance). y.at) c.inst.view_is)))
-    ∙ trip-here g.row.D self.scalars self.nest.now.loops self.pred.now self.outer self.chunk task.0 task.1 x p part_is in
-    let head_is : head_at self.nest.now.loops (block_of self.pred.now x).level ≡ Some (While c.in-While.field-0) = ap (λ (r : BlockRef). head_at self.nest.now.loops r.level) (sym c.requires.block) ∙ c.requires.head ∙ ap (λ (h : Head). Some h) c.in-While.is in
+    ∙ trip-here g.row.D self.scalars self.nest.now.loops self.pred.now self.outer self.chunk task.0 task.1 x p part-is in
+    let head-is : head_at self.nest.now.loops (block_of self.pred.now x).level ≡ Some (While c.in-While.field-0) = ap (λ (r : BlockRef). head_at self.nest.now.loops r.level) (sym c.requires.block) ∙ c.requires.head ∙ ap (λ (h : Head). Some h) c.in-While.is in
     let test = c.if-block-le1.true in
     let first : nat_le c.args.block.level 1 ≡ true = grind (arith, nat_tests) in
     let second : nat_le (block_of self.pred.now x).level 1 ≡ true = sym (ap (λ (r : BlockRef). nat_le r.level 1) c.requires.block) ∙ first in
     let or : nat_le c.args.block.level 1 ≡ (nat_le (block_of self.pred.now x).level 1 || int_lt (counter x.at ((block_of self.pred.now x).level - 1)) (trip self.pred.now ((block_of self.pred.now x).level - 1) x.at)) =
     first ∙ sym (ap (λ (b : Bool). b || int_lt (counter x.at ((block_of self.pred.now x).level - 1)) (trip self.pred.now ((block_of self.pred.now x).level - 1) x.at)) second) in
     subst (λ (h : Head). IsTurning (forecast_of self.pred.now) (occurrence_of self.pred.now x) h (Holds (nat_le c.args.block.level 1))) (sym c.in-While.is)
-    (ap Holds or ∙ holds-here g.row.D self.scalars self.nest.now.loops self.pred.now self.outer self.chunk task.0 task.1 x p c.in-While.field-0 head_is part_is)
+    (ap Holds or ∙ holds-here g.row.D self.scalars self.nest.now.loops self.pred.now self.outer self.chunk task.0 task.1 x p c.in-While.field-0 head-is part-is)
 
 pub returns-else-block-le1 : goal.returns-else-block-le1
 returns-else-block-le1 g c =
@@ -63,13 +63,13 @@ returns-else-block-le1 g c =
     let task = c.requires.task in
     let x = c.args.inst.now in
     let p = c.requires.predicted in
-    let part_is = sym (ap (λ (r : BlockRef). r.part) c.requires.block) ∙ c.requires.part in
+    let part-is = sym (ap (λ (r : BlockRef). r.part) c.requires.block) ∙ c.requires.part in
     let trip_is =
     c.unwrap_or-trip.ensures
     ∙ ap (λ (v : Option ℤ). unwrap_or v (pos 0))
     (c.expected.ensures ∙ ap₂ (λ (b : ℕ) (at : List ℤ). expected_of self.pred.now (instance b at) Trip) (ap (λ (y : Instance). y.block) c.inst.view_is) (c.cut.ensures ∙ ap₂ cut (ap (λ (r : BlockRef). r.level - 1) c.requires.block) (ap (λ (y : Instance). y.at) c.inst.view_is)))
-    ∙ trip-here g.row.D self.scalars self.nest.now.loops self.pred.now self.outer self.chunk task.0 task.1 x p part_is in
-    let head_is : head_at self.nest.now.loops (block_of self.pred.now x).level ≡ Some (While c.in-While.field-0) = ap (λ (r : BlockRef). head_at self.nest.now.loops r.level) (sym c.requires.block) ∙ c.requires.head ∙ ap (λ (h : Head). Some h) c.in-While.is in
+    ∙ trip-here g.row.D self.scalars self.nest.now.loops self.pred.now self.outer self.chunk task.0 task.1 x p part-is in
+    let head-is : head_at self.nest.now.loops (block_of self.pred.now x).level ≡ Some (While c.in-While.field-0) = ap (λ (r : BlockRef). head_at self.nest.now.loops r.level) (sym c.requires.block) ∙ c.requires.head ∙ ap (λ (h : Head). Some h) c.in-While.is in
     let test = c.if-block-le1.false in
     let first : nat_le c.args.block.level 1 ≡ false = grind (arith, nat_tests) in
     let second : nat_le (block_of self.pred.now x).level 1 ≡ false = sym (ap (λ (r : BlockRef). nat_le r.level 1) c.requires.block) ∙ first in
@@ -82,4 +82,4 @@ returns-else-block-le1 g c =
     let or : int_lt (counter x.at ((block_of self.pred.now x).level - 1)) (trip self.pred.now ((block_of self.pred.now x).level - 1) x.at) ≡ (nat_le (block_of self.pred.now x).level 1 || int_lt (counter x.at ((block_of self.pred.now x).level - 1)) (trip self.pred.now ((block_of self.pred.now x).level - 1) x.at)) =
     sym (ap (λ (b : Bool). b || int_lt (counter x.at ((block_of self.pred.now x).level - 1)) (trip self.pred.now ((block_of self.pred.now x).level - 1) x.at)) second) in
     subst (λ (h : Head). IsTurning (forecast_of self.pred.now) (occurrence_of self.pred.now x) h (Holds (int_lt (to_z w128 (of_z w128 c.from.result)) (to_z w128 (of_z w128 c.unwrap_or-trip.result))))) (sym c.in-While.is)
-    (ap Holds (less ∙ or) ∙ holds-here g.row.D self.scalars self.nest.now.loops self.pred.now self.outer self.chunk task.0 task.1 x p c.in-While.field-0 head_is part_is)
+    (ap Holds (less ∙ or) ∙ holds-here g.row.D self.scalars self.nest.now.loops self.pred.now self.outer self.chunk task.0 task.1 x p c.in-While.field-0 head-is part-is)

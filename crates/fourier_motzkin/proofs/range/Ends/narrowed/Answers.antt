@@ -1,7 +1,7 @@
 use Rattle.std.proofs.Common.{◌<ℤ◌, pos, FitsSigned, arith, rules}
 use Rattle.std.specs.Int.{w128}
 use Rattle.std.proofs.lemmas.Int.{to_z-of_z, ints}
-use Rattle.fourier_motzkin.proofs.Ends.{narrowed_above, narrowed_below}
+use Rattle.fourier_motzkin.proofs.Ends.{narrowed-above, narrowed-below}
 use Rattle.fourier_motzkin.proofs.range.Ends.narrowed.Goals as goal
 
 pub returns-then-coefficient-gt0-clause-some : goal.returns-then-coefficient-gt0-clause-some
@@ -15,7 +15,7 @@ returns-then-coefficient-gt0-clause-some c =
     let quotient = simp to_z-of_z at c.floor.ensures in
     let is = simp to_z-of_z at c.negated.ensures.value in
     let raised = simp to_z-of_z at c.raised.ensures.value in
-    narrowed_below c.args.self.least c.args.self.greatest c.raised.result.least c.raised.result.greatest c.args.coefficient c.args.rest c.negated.result c.floor.result some quotient is raised
+    narrowed-below c.args.self.least c.args.self.greatest c.raised.result.least c.raised.result.greatest c.args.coefficient c.args.rest c.negated.result c.floor.result some quotient is raised
 
 pub returns-then-coefficient-lt0-clause-some : goal.returns-then-coefficient-lt0-clause-some
 returns-then-coefficient-lt0-clause-some c =
@@ -28,4 +28,4 @@ returns-then-coefficient-lt0-clause-some c =
     let quotient = simp to_z-of_z at c.floor-then-coefficient-lt0.ensures in
     let is = simp to_z-of_z at c.negated-then-coefficient-lt0.ensures.value in
     let lowered = simp to_z-of_z at c.lowered.ensures.value in
-    narrowed_above c.args.self.least c.args.self.greatest c.lowered.result.least c.lowered.result.greatest c.args.coefficient c.args.rest c.floor-then-coefficient-lt0.result c.negated-then-coefficient-lt0.result some is quotient lowered
+    narrowed-above c.args.self.least c.args.self.greatest c.lowered.result.least c.lowered.result.greatest c.args.coefficient c.args.rest c.floor-then-coefficient-lt0.result c.negated-then-coefficient-lt0.result some is quotient lowered

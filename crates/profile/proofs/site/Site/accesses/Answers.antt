@@ -7,7 +7,7 @@ use Rattle.domain.specs.Tables.{Access}
 use Rattle.profile.specs.Data.{samples_at, tube_about}
 use Rattle.profile.specs.Fits.{HasFitAt}
 use Rattle.profile.specs.Parts.{IsEndIn}
-use Rattle.profile.proofs.EndLaws.{handed_on, ranged-end}
+use Rattle.profile.proofs.EndLaws.{handed-on, ranged-end}
 use Rattle.profile.proofs.FitParts.{fit-tube, forms-length, more-access}
 use Rattle.nest_lang.specs.declared.tree.Access.{Access as NestAccess}
 use Rattle.nest_lang.specs.declared.tree.AccessKind.TheVariants.{Load}
@@ -29,7 +29,7 @@ returns-in_err-fit g c =
     let each = c.loop-before.invariant.each in
     let within = c.loop-before-test.true in
     let size = forms-length g.row.D o s.block c.args.accesses.now forms n c.loop-before.invariant within in
-    handed_on c.from_residual.result _ (IsEndIn g.row.D o s.rank s.block (map (λ (k : ℕ). Address k) (range_with_len 1 (length c.args.accesses.now)))) c.in_err-fit.field-0.0 c.from_residual.ensures
+    handed-on c.from_residual.result _ (IsEndIn g.row.D o s.rank s.block (map (λ (k : ℕ). Address k) (range_with_len 1 (length c.args.accesses.now)))) c.in_err-fit.field-0.0 c.from_residual.ensures
     (ranged-end g.row.D o s.rank s.block (λ (k : ℕ). Address k) 1 (length c.args.accesses.now) n (n + 1) c.in_err-fit.field-0.0 within (omega arith)
     (λ k l. let a = get_or forms k unseen in (
       tube_about a.line a.low a.high,

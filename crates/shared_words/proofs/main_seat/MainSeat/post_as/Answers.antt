@@ -1,7 +1,7 @@
 use Rattle.std.proofs.Common.{arith, ap, ◌∙◌, sym}
 use Rattle.core_steps.specs.declared.plan.Plan.{Plan}
 use Rattle.core_steps.specs.Views.{posted_view}
-use Rattle.shared_words.proofs.SeatLaws.{keeps_posted}
+use Rattle.shared_words.proofs.SeatLaws.{keeps-posted}
 use Rattle.shared_words.proofs.MainSteps.{posts}
 use Rattle.shared_words.proofs.main_seat.MainSeat.post_as.Goals as goal
 
@@ -15,4 +15,4 @@ load-requires g c =
 pub invariant_of-self : goal.invariant_of-self
 invariant_of-self g c = let it = c.self.inside in let told = c.load.ensures in let inside = rw (← c.self.view_is) at c.requires.inside in
     let now = told.2.0 ∙ ap (λ (p : Plan). (posted_view it.seat.me.0 it.seat.me.0.base p, it.seat.me.1)) (sym c.requires.picked) in
-    (keeps_posted it.seat.table_id c.load.new.seat.table_id it.seat.me c.load.new.seat.me it.epoch c.args.plan.now c.self.invariant.0 told.0 now c.requires.few inside, told.1 ∙ c.self.invariant.1)
+    (keeps-posted it.seat.table_id c.load.new.seat.table_id it.seat.me c.load.new.seat.me it.epoch c.args.plan.now c.self.invariant.0 told.0 now c.requires.few inside, told.1 ∙ c.self.invariant.1)

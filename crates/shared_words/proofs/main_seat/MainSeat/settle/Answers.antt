@@ -2,7 +2,7 @@ use Rattle.std.proofs.Common.{length, arith, ap, ◌∙◌}
 use Rattle.atomic_table.specs.Table.{Me}
 use Rattle.core_steps.specs.declared.view.View.{View}
 use Rattle.core_steps.proofs.StoreLists.{length-overlaid}
-use Rattle.shared_words.proofs.SeatLaws.{keeps_settled}
+use Rattle.shared_words.proofs.SeatLaws.{keeps-settled}
 use Rattle.shared_words.proofs.MainSteps.{settles}
 use Rattle.shared_words.proofs.main_seat.MainSeat.settle.Goals as goal
 
@@ -15,7 +15,7 @@ load-requires c =
 
 pub invariant_of-self : goal.invariant_of-self
 invariant_of-self c = let it = c.self.inside in let told = c.load.ensures in
-    (keeps_settled it.seat.table_id c.load.new.seat.table_id it.seat.me c.load.new.seat.me it.epoch c.self.invariant.0 told.0 told.2.0, told.1 ∙ c.self.invariant.1)
+    (keeps-settled it.seat.table_id c.load.new.seat.table_id it.seat.me c.load.new.seat.me it.epoch c.self.invariant.0 told.0 told.2.0, told.1 ∙ c.self.invariant.1)
 
 pub returns-clause-length : goal.returns-clause-length
 returns-clause-length c = let it = c.self.inside in let told = c.load.ensures in let now = ap (λ (p : Me (Unit {0}) View). length p.0.base) told.2.0 in

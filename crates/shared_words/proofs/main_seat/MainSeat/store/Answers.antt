@@ -1,5 +1,5 @@
 use Rattle.std.proofs.Common.{arith, ap}
-use Rattle.shared_words.proofs.MainSteps.{main_stores}
+use Rattle.shared_words.proofs.MainSteps.{main-stores}
 use Rattle.shared_words.proofs.main_seat.MainSeat.store.Goals as goal
 
 pub store-requires : goal.store-requires
@@ -7,4 +7,4 @@ store-requires c =
     let it = c.self.inside in let keeps = c.self.invariant.0 in let width = keeps.words in
     let table = rw (← c.words.view_is) at (rw (← c.self.view_is) at c.requires.table) in let same = ap (λ z. z.words) table in
     let off = rw (← c.self.view_is) at c.requires.unposted in let word = rw (← c.self.view_is) at c.requires.word in
-    (table, omega arith, main_stores c.words.inside.table.shared.table_id.slots it.seat.id c.args.address c.cast_unsigned.result it.seat.me c.self.invariant.1 off word)
+    (table, omega arith, main-stores c.words.inside.table.shared.table_id.slots it.seat.id c.args.address c.cast_unsigned.result it.seat.me c.self.invariant.1 off word)

@@ -3,12 +3,12 @@ use Rattle.affine.specs.Inverses.{across}
 use Rattle.affine.specs.Forms.{Affine, value_at}
 use Rattle.affine.proofs.InverseLaws.{length-across}
 use Rattle.skeletons.specs.Places.{IsNarrow, less_place, turned}
-use Rattle.skeletons.proofs.SideLaws.{above-meets, turned-narrow, less-narrow_at}
+use Rattle.skeletons.proofs.SideLaws.{above-meets, turned-narrow, less-narrow-at}
 use Rattle.skeletons.proofs.side.Side.above.Goals as goal
 
 pub row-requires : goal.row-requires
 row-requires g c =
-    let n : IsNarrow (2 ^ 41) c.turned.result = subst (IsNarrow (2 ^ 41)) (sym (c.turned.ensures ∙ ap turned c.less_place.ensures.value)) (turned-narrow (less_place c.args.place c.args.self.now) (less-narrow_at c.args.place c.args.self.now (omega (arith, c.less_place.ensures.long)) c.requires.narrow)) in
+    let n : IsNarrow (2 ^ 41) c.turned.result = subst (IsNarrow (2 ^ 41)) (sym (c.turned.ensures ∙ ap turned c.less_place.ensures.value)) (turned-narrow (less_place c.args.place c.args.self.now) (less-narrow-at c.args.place c.args.self.now (omega (arith, c.less_place.ensures.long)) c.requires.narrow)) in
     search (rules, n)
 
 pub returns-clause-meets : goal.returns-clause-meets

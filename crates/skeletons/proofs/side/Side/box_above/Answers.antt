@@ -4,12 +4,12 @@ use Rattle.affine.specs.Forms.{Affine}
 use Rattle.affine.specs.Rows.{row_of, coefficient}
 use Rattle.affine.specs.declared.row.Row.{Row}
 use Rattle.skeletons.specs.Places.{IsNarrow, less_place, turned}
-use Rattle.skeletons.proofs.SideLaws.{box_above-meets, turned-narrow, less-narrow_at, turned-alone, turned-side}
+use Rattle.skeletons.proofs.SideLaws.{box_above-meets, turned-narrow, less-narrow-at, turned-alone, turned-side}
 use Rattle.skeletons.proofs.side.Side.box_above.Goals as goal
 
 pub plain_row-requires : goal.plain_row-requires
 plain_row-requires g c =
-    let n : IsNarrow (2 ^ 41) c.turned.result = subst (IsNarrow (2 ^ 41)) (sym (c.turned.ensures ∙ ap turned c.less_place.ensures.value)) (turned-narrow (less_place c.args.place c.number-least.result) (less-narrow_at c.args.place c.number-least.result (omega (arith, c.less_place.ensures.long)) c.number-least.ensures.narrow)) in
+    let n : IsNarrow (2 ^ 41) c.turned.result = subst (IsNarrow (2 ^ 41)) (sym (c.turned.ensures ∙ ap turned c.less_place.ensures.value)) (turned-narrow (less_place c.args.place c.number-least.result) (less-narrow-at c.args.place c.number-least.result (omega (arith, c.less_place.ensures.long)) c.number-least.ensures.narrow)) in
     search (rules, n)
 
 pub returns-clause-meets : goal.returns-clause-meets

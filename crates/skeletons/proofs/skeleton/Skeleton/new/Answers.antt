@@ -5,7 +5,7 @@ use Rattle.level_walk.specs.Walks.{IsBlock}
 use Rattle.transform.specs.Schedules.{place}
 use Rattle.skeletons.specs.Cells.{Extent}
 use Rattle.skeletons.specs.Frames.{AllFind, Finds}
-use Rattle.skeletons.proofs.SkeletonLaws.{block-more, find-more, there_of}
+use Rattle.skeletons.proofs.SkeletonLaws.{block-more, find-more, there-of}
 use Rattle.skeletons.proofs.skeleton.Skeleton.new.Goals as goal
 
 pub loop-rank-preserved : goal.loop-rank-preserved
@@ -38,7 +38,7 @@ invariant_of-result g c =
       schedule = c.matrix-matrix.ensures.schedule;
       launch = c.requires.launch;
       there = λ p long. ap (λ (m : List (List ℤ)). product m (place c.args.schedule.now p)) c.transposed.ensures
-          ∙ there_of g.row.D e few c.block_count-rank-end.ensures.table c.matrix-matrix.ensures.schedule c.requires.launch c.columns-columns.result.now c.columns-columns.ensures.inverse p long;
+          ∙ there-of g.row.D e few c.block_count-rank-end.ensures.table c.matrix-matrix.ensures.schedule c.requires.launch c.columns-columns.result.now c.columns-columns.ensures.inverse p long;
       count = omega (arith, n, v, past, auto);
       scans = record { few = omega (arith, n, v, s, past, auto); all = i.are };
       finds = i.find;

@@ -1,7 +1,7 @@
 use Rattle.std.proofs.Common.{ap, subst, ℤ, pos, List, map, replicate, arith}
 use Rattle.level_walk.specs.declared.merges.Best.{Best}
 use Rattle.orders.specs.Orders.{Has}
-use Rattle.level_walk.proofs.NewLemmas.{IsEnded, ended_ordered, ended_stands, nothing_merged, zeros_box}
+use Rattle.level_walk.proofs.NewLemmas.{IsEnded, ended-ordered, ended-stands, nothing-merged, zeros-box}
 use Rattle.skeletons.specs.Cells.{Extent}
 use Rattle.skeletons.specs.Frames.{instance_at}
 use Rattle.skeletons.proofs.tile_walk.Places.new.Goals as goal
@@ -13,10 +13,10 @@ returns-clause-stands g c =
     record {
       frame = c.requires.frame;
       few = let f = c.requires.few in omega (arith, f);
-      inside = zeros_box g.row.D;
-      stand = ended_stands g.row.D zeros zeros c.args.frame.now.blocks.items _ c.requires.frame.scans.all (e, (e, (e, (e, (e, (e, (e, (e, (e, (e, (e, (e, (e, (e, (e, (e, (e, (e, tt))))))))))))))))));
-      ordered = ended_ordered zeros zeros c.args.frame.now.blocks.items _ (e, (e, (e, (e, (e, (e, (e, (e, (e, (e, (e, (e, (e, (e, (e, (e, (e, (e, tt))))))))))))))))));
-      places = λ best h. absurd (subst (λ (xs : List Best). Has xs best) (nothing_merged zeros zeros c.args.frame.now.blocks.items _ (e, (e, (e, (e, (e, (e, (e, (e, (e, (e, (e, (e, (e, (e, (e, (e, (e, (e, tt))))))))))))))))))) h);
+      inside = zeros-box g.row.D;
+      stand = ended-stands g.row.D zeros zeros c.args.frame.now.blocks.items _ c.requires.frame.scans.all (e, (e, (e, (e, (e, (e, (e, (e, (e, (e, (e, (e, (e, (e, (e, (e, (e, (e, tt))))))))))))))))));
+      ordered = ended-ordered zeros zeros c.args.frame.now.blocks.items _ (e, (e, (e, (e, (e, (e, (e, (e, (e, (e, (e, (e, (e, (e, (e, (e, (e, (e, tt))))))))))))))))));
+      places = λ best h. absurd (subst (λ (xs : List Best). Has xs best) (nothing-merged zeros zeros c.args.frame.now.blocks.items _ (e, (e, (e, (e, (e, (e, (e, (e, (e, (e, (e, (e, (e, (e, (e, (e, (e, (e, tt))))))))))))))))))) h);
     }
 
 pub returns-clause-rest : goal.returns-clause-rest
@@ -25,4 +25,4 @@ returns-clause-rest g c =
     let zeros : List ℤ = replicate g.row.D (pos 0) in
     let f = c.args.frame.now in
     let extent : Extent = record { table = f.pred.now; schedule = f.schedule.now; chunk = f.chunk } in
-    ap (map (instance_at extent f.inverse)) (nothing_merged zeros zeros f.blocks.items _ (e, (e, (e, (e, (e, (e, (e, (e, (e, (e, (e, (e, (e, (e, (e, (e, (e, (e, tt)))))))))))))))))))
+    ap (map (instance_at extent f.inverse)) (nothing-merged zeros zeros f.blocks.items _ (e, (e, (e, (e, (e, (e, (e, (e, (e, (e, (e, (e, (e, (e, (e, (e, (e, (e, tt)))))))))))))))))))

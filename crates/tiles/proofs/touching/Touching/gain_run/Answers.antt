@@ -8,7 +8,7 @@ use Rattle.skeletons.specs.Runs.{Run}
 use Rattle.tiles.specs.declared.strip.Strip.{Strip}
 use Rattle.tiles.specs.Strips.{IsWordOf, load_strips, store_strips, strip_of}
 use Rattle.tiles.proofs.WordLaws.{flat-all, flat-more, get_or-has, strips-append, words-more}
-use Rattle.tiles.proofs.CountLaws.{has_flat_map}
+use Rattle.tiles.proofs.CountLaws.{has-flat-map}
 use Rattle.tiles.proofs.touching.Touching.gain_run.Goals as goal
 
 pub gain_access-requires : goal.gain_access-requires
@@ -24,7 +24,7 @@ gain_access-requires g c =
           c.requires.few,
           (
             c.requires.planned.small,
-            λ strip h. c.requires.planned.stores strip (has_flat_map (store_strips c.args.run.now) (block_of c.args.pred.now c.args.run.now.first).accesses c.access-item.result strip there h),
+            λ strip h. c.requires.planned.stores strip (has-flat-map (store_strips c.args.run.now) (block_of c.args.pred.now c.args.run.now.first).accesses c.access-item.result strip there h),
           ),
         ),
       ),

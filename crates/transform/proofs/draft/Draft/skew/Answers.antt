@@ -3,7 +3,7 @@ use Rattle.std.proofs.Math.ListN.{length-set}
 use Rattle.std.proofs.lemmas.Int.{ints, to_z-of_z}
 use Rattle.affine.specs.Inverses.{Inverted}
 use Rattle.transform.proofs.DraftLaws.{drafted-skew}
-use Rattle.transform.proofs.EntryLaws.{EntriesWithin-next, row_fits-skew}
+use Rattle.transform.proofs.EntryLaws.{EntriesWithin-next, row-fits-skew}
 use Rattle.transform.proofs.draft.Draft.skew.Goals as goal
 
 pub skew-requires : goal.skew-requires
@@ -30,8 +30,8 @@ skew-requires g c =
             (
               simp to_z-of_z (omega (arith, factor)),
               (
-                simp to_z-of_z (row_fits-skew c.self.inside.skews rows a b c.args.m few (omega (arith, kept.many, below-a)) (omega (arith, kept.many, below-b)) factor kept.small),
-                simp to_z-of_z (row_fits-skew c.self.inside.skews columns b a (neg_ℤ c.args.m) few (omega (arith, kept.many_columns, below-b)) (omega (arith, kept.many_columns, below-a)) turned kept.small_columns),
+                simp to_z-of_z (row-fits-skew c.self.inside.skews rows a b c.args.m few (omega (arith, kept.many, below-a)) (omega (arith, kept.many, below-b)) factor kept.small),
+                simp to_z-of_z (row-fits-skew c.self.inside.skews columns b a (neg_ℤ c.args.m) few (omega (arith, kept.many_columns, below-b)) (omega (arith, kept.many_columns, below-a)) turned kept.small_columns),
               ),
             ),
           ),

@@ -1,6 +1,6 @@
 use Rattle.std.proofs.Common.{◌≡◌, ◌∙◌, pos, ap, length, get_or, arith}
 use Rattle.transform.specs.Scripts.{schedule_from}
-use Rattle.transform.proofs.LineLaws.{get_or-place, length-lines_of, wide_lead_is}
+use Rattle.transform.proofs.LineLaws.{get_or-place, length-lines_of, wide-lead-is}
 use Rattle.transform.proofs.schedule.Schedule.lead_at.Goals as goal
 
 pub returns : goal.returns
@@ -17,6 +17,6 @@ returns g c =
     let lines = length-lines_of rows sizes marks first second in
     let before = c.loop-row.invariant in
     rw (← c.self.view_is)
-    (λ p e. wide_lead_is s p c.loop-row.lead (omega (arith, lines, many, c.self.invariant.leads)) (omega (arith, lines, many, before.long))
+    (λ p e. wide-lead-is s p c.loop-row.lead (omega (arith, lines, many, c.self.invariant.leads)) (omega (arith, lines, many, before.long))
     (λ k below. before.values k (omega arith) ∙ ap (λ l. get_or l k (pos 0)) e ∙ get_or-place s p k (omega (arith, lines, many, c.self.invariant.leads, below)))
     (λ k from below. before.zeros k (omega arith) (omega (arith, lines, many, below))))

@@ -1,6 +1,6 @@
 use Rattle.std.proofs.Common.{◌≡◌, ◌∙◌, sym, ap, length, arith}
 use Rattle.affine.specs.Matrices.{product}
-use Rattle.transform.proofs.LineLaws.{map_along-lines_of}
+use Rattle.transform.proofs.LineLaws.{map-along-lines_of}
 use Rattle.transform.proofs.schedule.Schedule.place_of.Goals as goal
 
 pub returns-clause-value : goal.returns-clause-value
@@ -13,4 +13,4 @@ returns-clause-value g c =
     let told2 = c.self.told2 in
     let first : length sizes ≡ length rows = omega (arith, many, told, told2) in
     let second : length marks ≡ length rows = omega (arith, many, told, told2) in
-    rw (← c.self.view_is) (c.map.ensures.value ∙ ap (λ r. product r c.args.point.now) c.matrix.ensures.value ∙ sym (map_along-lines_of c.args.point.now rows sizes marks first second))
+    rw (← c.self.view_is) (c.map.ensures.value ∙ ap (λ r. product r c.args.point.now) c.matrix.ensures.value ∙ sym (map-along-lines_of c.args.point.now rows sizes marks first second))

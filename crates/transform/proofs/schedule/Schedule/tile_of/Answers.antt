@@ -3,7 +3,7 @@ use Rattle.std.specs.Int.{w128, int_div_euclid}
 use Rattle.std.proofs.Math.ListN.{length-set}
 use Rattle.std.proofs.lemmas.Int.{to_z-of_z}
 use Rattle.transform.specs.Scripts.{schedule_from}
-use Rattle.transform.proofs.LineLaws.{length-lines_of, set_kept, set_more, tile_along-lines_of, wide_tile_is}
+use Rattle.transform.proofs.LineLaws.{length-lines_of, set-kept, set-more, tile_along-lines_of, wide-tile-is}
 use Rattle.transform.proofs.schedule.Schedule.tile_of.Goals as goal
 
 pub loop-row-preserved : goal.loop-row-preserved
@@ -15,8 +15,8 @@ loop-row-preserved g c =
     let is = simp to_z-of_z at c.floor.ensures.value in
     simp to_z-of_z (record {
       long = length-set c.loop-row.tile c.loop-row.row c.floor.result ∙ before.long;
-      zeros = λ k h. set_kept c.loop-row.tile c.loop-row.row c.floor.result (pos 0) k (omega arith) (before.zeros k h);
-      values = set_more c.loop-row.tile c.loop-row.row c.floor.result c.self.inside.seq (λ k. int_div_euclid (get_or c.place_of-place.result k (pos 0)) (pos (get_or c.self.inside.size k 0))) inside is before.values;
+      zeros = λ k h. set-kept c.loop-row.tile c.loop-row.row c.floor.result (pos 0) k (omega arith) (before.zeros k h);
+      values = set-more c.loop-row.tile c.loop-row.row c.floor.result c.self.inside.seq (λ k. int_div_euclid (get_or c.place_of-place.result k (pos 0)) (pos (get_or c.self.inside.size k 0))) inside is before.values;
     })
 
 pub returns : goal.returns
@@ -33,7 +33,7 @@ returns g c =
     let lines = length-lines_of rows sizes marks first second in
     let before = c.loop-row.invariant in
     rw (← c.self.view_is)
-    (wide_tile_is s c.args.point.now c.loop-row.tile (omega (arith, lines, many, c.self.invariant.leads)) (omega (arith, lines, many, before.long)) before.zeros
+    (wide-tile-is s c.args.point.now c.loop-row.tile (omega (arith, lines, many, c.self.invariant.leads)) (omega (arith, lines, many, before.long)) before.zeros
     (λ k from below.
     let under : k < length rows = omega (arith, lines, below) in
     let still : k < c.loop-row.row = omega arith in

@@ -2,7 +2,7 @@ use Rattle.std.proofs.Common.{◌≡◌, ◌<◌, pos, ◌+ℤ◌, length, get_o
 use Rattle.std.specs.Int.{w128}
 use Rattle.std.proofs.lemmas.Int.{fits_signed_from_abs, ints, to_z-of_z}
 use Rattle.plain_lemmas.proofs.IntegerLaws.{unsigned_abs-add}
-use Rattle.transform.proofs.LineLaws.{wave_more}
+use Rattle.transform.proofs.LineLaws.{wave-more}
 use Rattle.transform.proofs.schedule.Schedule.wave_at.Goals as goal
 
 pub overflow_add-wave : goal.overflow_add-wave
@@ -39,6 +39,6 @@ loop-row-preserved g c =
       size = omega (arith, small, both, size, c.loop-row.invariant.size);
       sum = λ p e.
           let before = c.loop-row.invariant.sum p e in
-          let more = wave_more p rows c.self.inside.seq sizes marks c.loop-row.row c.args.numbers.now c.share-wave.result first second (omega (arith, many)) e value in
+          let more = wave-more p rows c.self.inside.seq sizes marks c.loop-row.row c.args.numbers.now c.share-wave.result first second (omega (arith, many)) e value in
           omega (arith, ints, before, more);
     })

@@ -2,9 +2,9 @@ use Rattle.std.proofs.Common.{◌≡◌, ◌∙◌, refl, ap, ◌+◌, ◌-◌, 
 use Rattle.core_steps.specs.declared.view.View.{View}
 use Rattle.core_steps.specs.Views.{holding_view, knowing_view}
 use Rattle.phases.specs.Workers.{looked_view}
-use Rattle.phases.proofs.WorkerSteps.{told_of}
+use Rattle.phases.proofs.WorkerSteps.{told-of}
 use Rattle.verified_turns.specs.Workers.{Status, task_state, origin_of}
-use Rattle.verified_turns.proofs.Turned.{status, at_work, won_keeps, lost_keeps, end_keeps, stop_keeps, origin_kept, more_left}
+use Rattle.verified_turns.proofs.Turned.{status, at-work, won-keeps, lost-keeps, end-keeps, stop-keeps, origin-kept, more-left}
 use Rattle.verified_turns.proofs.worker.Worker.look.Goals as goal
 
 pub invariant_of-self : goal.invariant_of-self
@@ -13,11 +13,11 @@ invariant_of-self g c =
     let k = task_state it.task.now.scalars it.task.now.nest.now.loops it.task.now.pred.now it.task.now.outer it.task.now.chunk in
     let v : Status g.row.D = status it.number k (g.W.Walk.lists it.walk) it.seat.table it.seat.view (g.W.Walk.rest it.walk) it.next it.steps it.left it.end in
     let some : 0 < it.left = rw (← c.self.view_is) at c.requires.left in
-    let is = at_work v.lists v.rest v.next v.steps v.left v.end c.self.invariant.lasts some in
+    let is = at-work v.lists v.rest v.next v.steps v.left v.end c.self.invariant.lasts some in
     let none : g.W.Walk.rest it.walk ≡ [] = rw (← c.self.view_is) at c.requires.rest in
-    let told = told_of c.raised.ensures.step.2.step.state it.seat.view c.raised.ensures.step.2.holds in
+    let told = told-of c.raised.ensures.step.2.step.state it.seat.view c.raised.ensures.step.2.holds in
     let view = c.raised.ensures.view ∙ ap (λ (b : Bool). looked_view it.seat.view b) c.if-raised.true in
-    stop_keeps it.words.now v _ c.self.invariant is none refl c.raised.ensures.table refl view told refl refl refl
+    stop-keeps it.words.now v _ c.self.invariant is none refl c.raised.ensures.table refl view told refl refl refl
 
 pub invariant_of-self-then-tiles-tile : goal.invariant_of-self-then-tiles-tile
 invariant_of-self-then-tiles-tile g c =
@@ -25,14 +25,14 @@ invariant_of-self-then-tiles-tile g c =
     let k = task_state it.task.now.scalars it.task.now.nest.now.loops it.task.now.pred.now it.task.now.outer it.task.now.chunk in
     let v : Status g.row.D = status it.number k (g.W.Walk.lists it.walk) it.seat.table it.seat.view (g.W.Walk.rest it.walk) it.next it.steps it.left it.end in
     let some : 0 < it.left = rw (← c.self.view_is) at c.requires.left in
-    let is = at_work v.lists v.rest v.next v.steps v.left v.end c.self.invariant.lasts some in
+    let is = at-work v.lists v.rest v.next v.steps v.left v.end c.self.invariant.lasts some in
     let none : g.W.Walk.rest it.walk ≡ [] = rw (← c.self.view_is) at c.requires.rest in
-    let told = told_of c.raised.ensures.step.2.step.state it.seat.view c.raised.ensures.step.2.holds in
+    let told = told-of c.raised.ensures.step.2.step.state it.seat.view c.raised.ensures.step.2.holds in
     let calm : c.raised.new.self.view ≡ looked_view it.seat.view false = c.raised.ensures.view ∙ ap (λ (b : Bool). looked_view it.seat.view b) c.if-raised.false in
     let tiles = c.tiles.ensures in
     let past = c.if-tiles-tile.true in
     let all : length v.lists ≤ it.next = omega (arith, tiles, past) in
-    end_keeps it.words.now v _ c.self.invariant is none refl c.raised.ensures.table refl calm all told refl refl refl
+    end-keeps it.words.now v _ c.self.invariant is none refl c.raised.ensures.table refl calm all told refl refl refl
 
 pub invariant_of-self-then-not-claim : goal.invariant_of-self-then-not-claim
 invariant_of-self-then-not-claim g c =
@@ -40,7 +40,7 @@ invariant_of-self-then-not-claim g c =
     let k = task_state it.task.now.scalars it.task.now.nest.now.loops it.task.now.pred.now it.task.now.outer it.task.now.chunk in
     let v : Status g.row.D = status it.number k (g.W.Walk.lists it.walk) it.seat.table it.seat.view (g.W.Walk.rest it.walk) it.next it.steps it.left it.end in
     let some : 0 < it.left = rw (← c.self.view_is) at c.requires.left in
-    let is = at_work v.lists v.rest v.next v.steps v.left v.end c.self.invariant.lasts some in
+    let is = at-work v.lists v.rest v.next v.steps v.left v.end c.self.invariant.lasts some in
     let none : g.W.Walk.rest it.walk ≡ [] = rw (← c.self.view_is) at c.requires.rest in
     let calm : c.raised.new.self.view ≡ looked_view it.seat.view false = c.raised.ensures.view ∙ ap (λ (b : Bool). looked_view it.seat.view b) c.if-raised.false in
     let tiles = c.tiles.ensures in
@@ -50,7 +50,7 @@ invariant_of-self-then-not-claim g c =
     let fewer : it.left - 1 + 1 ≡ it.left = omega (arith, some) in
     let view : c.claim.new.self.view ≡ knowing_view (looked_view it.seat.view false) it.next = c.claim.ensures.lost c.if-not-claim.true ∙ ap (λ (u : View). knowing_view u it.next) calm in
     let w : Status g.row.D = status it.number k (g.W.Walk.lists it.walk) c.claim.new.self.table c.claim.new.self.view (g.W.Walk.rest it.walk) (it.next + 1) it.steps (it.left - 1) it.end in
-    let kept = lost_keeps it.words.now v w c.self.invariant is none below refl table refl view none refl refl fewer is in
+    let kept = lost-keeps it.words.now v w c.self.invariant is none below refl table refl view none refl refl fewer is in
     kept
 
 pub returns-then-not-claim-clause-origin : goal.returns-then-not-claim-clause-origin
@@ -59,7 +59,7 @@ returns-then-not-claim-clause-origin g c =
     let k = task_state it.task.now.scalars it.task.now.nest.now.loops it.task.now.pred.now it.task.now.outer it.task.now.chunk in
     let v : Status g.row.D = status it.number k (g.W.Walk.lists it.walk) it.seat.table it.seat.view (g.W.Walk.rest it.walk) it.next it.steps it.left it.end in
     let some : 0 < it.left = rw (← c.self.view_is) at c.requires.left in
-    let is = at_work v.lists v.rest v.next v.steps v.left v.end c.self.invariant.lasts some in
+    let is = at-work v.lists v.rest v.next v.steps v.left v.end c.self.invariant.lasts some in
     let none : g.W.Walk.rest it.walk ≡ [] = rw (← c.self.view_is) at c.requires.rest in
     let calm : c.raised.new.self.view ≡ looked_view it.seat.view false = c.raised.ensures.view ∙ ap (λ (b : Bool). looked_view it.seat.view b) c.if-raised.false in
     let tiles = c.tiles.ensures in
@@ -69,8 +69,8 @@ returns-then-not-claim-clause-origin g c =
     let fewer : it.left - 1 + 1 ≡ it.left = omega (arith, some) in
     let view : c.claim.new.self.view ≡ knowing_view (looked_view it.seat.view false) it.next = c.claim.ensures.lost c.if-not-claim.true ∙ ap (λ (u : View). knowing_view u it.next) calm in
     let w : Status g.row.D = status it.number k (g.W.Walk.lists it.walk) c.claim.new.self.table c.claim.new.self.view (g.W.Walk.rest it.walk) (it.next + 1) it.steps (it.left - 1) it.end in
-    let kept = lost_keeps it.words.now v w c.self.invariant is none below refl table refl view none refl refl fewer is in
-    origin_kept v w refl refl refl table (ap (λ (u : View). u.number) view) (ap (λ (u : View). u.epoch) view) (ap (λ (u : View). u.base) view) (ap (λ (u : View). u.plan) view) ∙ ap origin_of c.self.view_is
+    let kept = lost-keeps it.words.now v w c.self.invariant is none below refl table refl view none refl refl fewer is in
+    origin-kept v w refl refl refl table (ap (λ (u : View). u.number) view) (ap (λ (u : View). u.epoch) view) (ap (λ (u : View). u.base) view) (ap (λ (u : View). u.plan) view) ∙ ap origin_of c.self.view_is
 
 pub returns-then-not-claim-clause-more : goal.returns-then-not-claim-clause-more
 returns-then-not-claim-clause-more g c =
@@ -78,7 +78,7 @@ returns-then-not-claim-clause-more g c =
     let k = task_state it.task.now.scalars it.task.now.nest.now.loops it.task.now.pred.now it.task.now.outer it.task.now.chunk in
     let v : Status g.row.D = status it.number k (g.W.Walk.lists it.walk) it.seat.table it.seat.view (g.W.Walk.rest it.walk) it.next it.steps it.left it.end in
     let some : 0 < it.left = rw (← c.self.view_is) at c.requires.left in
-    let is = at_work v.lists v.rest v.next v.steps v.left v.end c.self.invariant.lasts some in
+    let is = at-work v.lists v.rest v.next v.steps v.left v.end c.self.invariant.lasts some in
     let none : g.W.Walk.rest it.walk ≡ [] = rw (← c.self.view_is) at c.requires.rest in
     let calm : c.raised.new.self.view ≡ looked_view it.seat.view false = c.raised.ensures.view ∙ ap (λ (b : Bool). looked_view it.seat.view b) c.if-raised.false in
     let tiles = c.tiles.ensures in
@@ -88,8 +88,8 @@ returns-then-not-claim-clause-more g c =
     let fewer : it.left - 1 + 1 ≡ it.left = omega (arith, some) in
     let view : c.claim.new.self.view ≡ knowing_view (looked_view it.seat.view false) it.next = c.claim.ensures.lost c.if-not-claim.true ∙ ap (λ (u : View). knowing_view u it.next) calm in
     let w : Status g.row.D = status it.number k (g.W.Walk.lists it.walk) c.claim.new.self.table c.claim.new.self.view (g.W.Walk.rest it.walk) (it.next + 1) it.steps (it.left - 1) it.end in
-    let kept = lost_keeps it.words.now v w c.self.invariant is none below refl table refl view none refl refl fewer is in
-    (λ _. more_left it.words.now w kept is, λ _. refl)
+    let kept = lost-keeps it.words.now v w c.self.invariant is none below refl table refl view none refl refl fewer is in
+    (λ _. more-left it.words.now w kept is, λ _. refl)
 
 pub invariant_of-self-2 : goal.invariant_of-self-2
 invariant_of-self-2 g c =
@@ -97,7 +97,7 @@ invariant_of-self-2 g c =
     let k = task_state it.task.now.scalars it.task.now.nest.now.loops it.task.now.pred.now it.task.now.outer it.task.now.chunk in
     let v : Status g.row.D = status it.number k (g.W.Walk.lists it.walk) it.seat.table it.seat.view (g.W.Walk.rest it.walk) it.next it.steps it.left it.end in
     let some : 0 < it.left = rw (← c.self.view_is) at c.requires.left in
-    let is = at_work v.lists v.rest v.next v.steps v.left v.end c.self.invariant.lasts some in
+    let is = at-work v.lists v.rest v.next v.steps v.left v.end c.self.invariant.lasts some in
     let none : g.W.Walk.rest it.walk ≡ [] = rw (← c.self.view_is) at c.requires.rest in
     let calm : c.raised.new.self.view ≡ looked_view it.seat.view false = c.raised.ensures.view ∙ ap (λ (b : Bool). looked_view it.seat.view b) c.if-raised.false in
     let tiles = c.tiles.ensures in
@@ -107,7 +107,7 @@ invariant_of-self-2 g c =
     let fewer : it.left - 1 + 1 ≡ it.left = omega (arith, some) in
     let view : c.claim.new.self.view ≡ holding_view (looked_view it.seat.view false) it.next = c.claim.ensures.won c.if-not-claim.false ∙ ap (λ (u : View). holding_view u it.next) calm in
     let w : Status g.row.D = status it.number k (g.W.Walk.lists c.enter.new.self) c.claim.new.self.table c.claim.new.self.view (g.W.Walk.rest c.enter.new.self) (it.next + 1) it.steps (it.left - 1) it.end in
-    let kept = won_keeps it.words.now v w c.self.invariant is none below refl table c.enter.ensures.lists view c.enter.ensures.rest refl refl fewer is in
+    let kept = won-keeps it.words.now v w c.self.invariant is none below refl table c.enter.ensures.lists view c.enter.ensures.rest refl refl fewer is in
     kept
 
 pub returns-clause-origin : goal.returns-clause-origin
@@ -116,7 +116,7 @@ returns-clause-origin g c =
     let k = task_state it.task.now.scalars it.task.now.nest.now.loops it.task.now.pred.now it.task.now.outer it.task.now.chunk in
     let v : Status g.row.D = status it.number k (g.W.Walk.lists it.walk) it.seat.table it.seat.view (g.W.Walk.rest it.walk) it.next it.steps it.left it.end in
     let some : 0 < it.left = rw (← c.self.view_is) at c.requires.left in
-    let is = at_work v.lists v.rest v.next v.steps v.left v.end c.self.invariant.lasts some in
+    let is = at-work v.lists v.rest v.next v.steps v.left v.end c.self.invariant.lasts some in
     let none : g.W.Walk.rest it.walk ≡ [] = rw (← c.self.view_is) at c.requires.rest in
     let calm : c.raised.new.self.view ≡ looked_view it.seat.view false = c.raised.ensures.view ∙ ap (λ (b : Bool). looked_view it.seat.view b) c.if-raised.false in
     let tiles = c.tiles.ensures in
@@ -126,8 +126,8 @@ returns-clause-origin g c =
     let fewer : it.left - 1 + 1 ≡ it.left = omega (arith, some) in
     let view : c.claim.new.self.view ≡ holding_view (looked_view it.seat.view false) it.next = c.claim.ensures.won c.if-not-claim.false ∙ ap (λ (u : View). holding_view u it.next) calm in
     let w : Status g.row.D = status it.number k (g.W.Walk.lists c.enter.new.self) c.claim.new.self.table c.claim.new.self.view (g.W.Walk.rest c.enter.new.self) (it.next + 1) it.steps (it.left - 1) it.end in
-    let kept = won_keeps it.words.now v w c.self.invariant is none below refl table c.enter.ensures.lists view c.enter.ensures.rest refl refl fewer is in
-    origin_kept v w refl refl c.enter.ensures.lists table (ap (λ (u : View). u.number) view) (ap (λ (u : View). u.epoch) view) (ap (λ (u : View). u.base) view) (ap (λ (u : View). u.plan) view) ∙ ap origin_of c.self.view_is
+    let kept = won-keeps it.words.now v w c.self.invariant is none below refl table c.enter.ensures.lists view c.enter.ensures.rest refl refl fewer is in
+    origin-kept v w refl refl c.enter.ensures.lists table (ap (λ (u : View). u.number) view) (ap (λ (u : View). u.epoch) view) (ap (λ (u : View). u.base) view) (ap (λ (u : View). u.plan) view) ∙ ap origin_of c.self.view_is
 
 pub returns-clause-more : goal.returns-clause-more
 returns-clause-more g c =
@@ -135,7 +135,7 @@ returns-clause-more g c =
     let k = task_state it.task.now.scalars it.task.now.nest.now.loops it.task.now.pred.now it.task.now.outer it.task.now.chunk in
     let v : Status g.row.D = status it.number k (g.W.Walk.lists it.walk) it.seat.table it.seat.view (g.W.Walk.rest it.walk) it.next it.steps it.left it.end in
     let some : 0 < it.left = rw (← c.self.view_is) at c.requires.left in
-    let is = at_work v.lists v.rest v.next v.steps v.left v.end c.self.invariant.lasts some in
+    let is = at-work v.lists v.rest v.next v.steps v.left v.end c.self.invariant.lasts some in
     let none : g.W.Walk.rest it.walk ≡ [] = rw (← c.self.view_is) at c.requires.rest in
     let calm : c.raised.new.self.view ≡ looked_view it.seat.view false = c.raised.ensures.view ∙ ap (λ (b : Bool). looked_view it.seat.view b) c.if-raised.false in
     let tiles = c.tiles.ensures in
@@ -145,5 +145,5 @@ returns-clause-more g c =
     let fewer : it.left - 1 + 1 ≡ it.left = omega (arith, some) in
     let view : c.claim.new.self.view ≡ holding_view (looked_view it.seat.view false) it.next = c.claim.ensures.won c.if-not-claim.false ∙ ap (λ (u : View). holding_view u it.next) calm in
     let w : Status g.row.D = status it.number k (g.W.Walk.lists c.enter.new.self) c.claim.new.self.table c.claim.new.self.view (g.W.Walk.rest c.enter.new.self) (it.next + 1) it.steps (it.left - 1) it.end in
-    let kept = won_keeps it.words.now v w c.self.invariant is none below refl table c.enter.ensures.lists view c.enter.ensures.rest refl refl fewer is in
-    (λ _. more_left it.words.now w kept is, λ _. refl)
+    let kept = won-keeps it.words.now v w c.self.invariant is none below refl table c.enter.ensures.lists view c.enter.ensures.rest refl refl fewer is in
+    (λ _. more-left it.words.now w kept is, λ _. refl)

@@ -1,6 +1,6 @@
 use Rattle.std.proofs.Common.{arith}
 use Rattle.verified_turns.specs.Workers.{task_state}
-use Rattle.verified_turns.proofs.Turned.{new_keeps}
+use Rattle.verified_turns.proofs.Turned.{new-keeps}
 use Rattle.verified_turns.proofs.worker.Worker.new.Goals as goal
 
 pub invariant_of-result : goal.invariant_of-result
@@ -9,5 +9,5 @@ invariant_of-result g c =
     let k = task_state t.scalars t.nest.now.loops t.pred.now t.outer t.chunk in
     let tiles = c.tiles.ensures in
     let from = c.from-left.ensures in
-    new_keeps c.args.words.now k (g.W.Walk.lists c.args.walk) c.args.seat.view c.requires.task c.requires.predicted c.requires.within c.args.number c.args.seat.table (g.W.Walk.rest c.args.walk) _
+    new-keeps c.args.words.now k (g.W.Walk.lists c.args.walk) c.args.seat.view c.requires.task c.requires.predicted c.requires.within c.args.number c.args.seat.table (g.W.Walk.rest c.args.walk) _
     c.requires.table c.requires.counted c.requires.few c.requires.lists c.requires.fresh c.requires.rest c.requires.short (omega (arith, tiles, from))

@@ -1,0 +1,5 @@
+use Rattle.chunk_run.proofs.Counts.{one-tile-counts}
+use Rattle.chunk_run.proofs.laws.one_tile_counts.Goals as goal
+
+pub returns : goal.returns
+returns c = one-tile-counts

@@ -1,0 +1,5 @@
+use Rattle.nest_top.proofs.FileNumbers.{are-i64s}
+use Rattle.nest_top.proofs.laws.files_are_of_i64s.Goals as goal
+
+pub returns : goal.returns
+returns c = λ text file reads. are-i64s file (text, reads)
