@@ -14,5 +14,6 @@ pub mod ReorderLaws
 pub mod Intervals
 pub mod Verifies
 pub mod Hows
+pub mod Told
 pub mod Turnings
 pub mod Followed

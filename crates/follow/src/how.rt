@@ -1,9 +1,10 @@
 //! How a run differs from what is expected of it.
 
-ghost use Rattle.std.specs.Prelude.{◌≡◌, ◌<◌, ◌≤◌, ℕ, pos, Err, IsNone, length, slice_index_or, FitsSigned};
+ghost use Rattle.std.specs.Prelude.{◌≡◌, ◌<◌, ◌≤◌, ℕ, pos, Err, IsNone, IsOk, length, slice_index_or, FitsSigned};
 ghost use Rattle.std.specs.Int.{w64};
 ghost use Rattle.block_exec.specs.Halts.{finish_of};
 ghost use Rattle.follow.specs.Hows.{how_of_finish, scalars_differ};
+ghost use Rattle.follow.specs.Told.{told, first_said};
 ghost use Rattle.follow.specs.Turnings.{turns_differ};
 
 use crate::expected::Expected;
@@ -107,11 +108,50 @@ impl How {
     }
 }
 
+/// A run differs; how is said apart, so that one which doesn't makes no room for it.
+#[derive(Clone, Copy, Debug, PartialEq, Eq)]
+pub struct Differs;
+
 /// A run that was cut short differs. Out of line, so that one which isn't makes no room for how.
 #[cold]
 #[inline(never)]
-pub(crate) fn cut_short(cut: Cut, halt: Halt) -> Result<u64, How>
-    ensures { result ≡ Err (how_of_finish (finish_of (Err cut) halt)) }
+pub(crate) fn cut_short(cut: Cut, halt: &Halt, how: &mut How) -> Result<u64, Differs>
+    ensures { told result how.new ≡ Err (how_of_finish (finish_of (Err cut) halt.now)) }
 {
-    Err(How::of_cut(cut, halt))
+    *how = How::of_cut(cut, *halt);
+    Err(Differs)
+}
+
+/// Compares the scalars with those expected after an instance, and says how the first differs that does. Where there is
+/// none, each of these is expected to be an i64.
+#[inline(always)]
+pub(crate) fn compare_scalars<E: Expected>(
+    expected: &E,
+    scalars: &[i64],
+    how: &mut How,
+) -> Result<(), Differs>
+    requires { length scalars.now ≤ 256 }
+    ensures first { first_said result how.new ≡ scalars_differ (E.after expected.now) 0 scalars.now }
+    ensures fits { IsOk result → (k : ℕ) → k < length scalars.now → FitsSigned w64 (slice_index_or (E.after expected.now) k (pos 0)) }
+{
+    if scalars.is_empty() {
+        return Ok(());
+    }
+    compare_some(expected, scalars, how)
+}
+
+/// The same where there are scalars. Out of line, so that where there are none no room is made for how.
+#[inline(never)]
+fn compare_some<E: Expected>(expected: &E, scalars: &[i64], how: &mut How) -> Result<(), Differs>
+    requires { length scalars.now ≤ 256 }
+    ensures first { first_said result how.new ≡ scalars_differ (E.after expected.now) 0 scalars.now }
+    ensures fits { IsOk result → (k : ℕ) → k < length scalars.now → FitsSigned w64 (slice_index_or (E.after expected.now) k (pos 0)) }
+{
+    match How::of_scalars(expected, scalars) {
+        Some(first) => {
+            *how = first;
+            Err(Differs)
+        }
+        None => Ok(()),
+    }
 }

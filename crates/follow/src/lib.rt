@@ -25,7 +25,7 @@ mod verify;
 
 pub use expected::Expected;
 pub use head::follow_head;
-pub use how::{How, Turning};
+pub use how::{Differs, How, Turning};
 pub use instance::follow_block;
 pub use verified::{follow_block_verified, follow_head_verified};
 pub use verify::{Interval, VerifyingPort};

@@ -1,6 +1,6 @@
 //! Runs an instance of a block as often as its input says: plainly, or followed against its prediction, alone or in a
-//! list of eight. Each line of its input has one of `plain`, `instance` and `list`, and a number. It writes the steps. It
-//! stands on `follow_chunk`, and is what bench/follow.sh measures.
+//! list of eight. Each line of its input has one of `plain`, `instance` and `list`, and a number. It writes the steps, or
+//! what differs. It stands on `follow_chunk`, and is what bench/follow.sh measures.
 #![tactic(auto)]
 
 ghost use Rattle.std.specs.Prelude.{◌≡◌, pos, Some, [], ◌∷◌, IfOk, length};
@@ -34,13 +34,18 @@ fn main(rt: HostRuntime) -> io::Result<()> {
         let mut words = line.as_str().split(' ');
         let kind = words.next().unwrap_or("");
         let times = words.next().map_or(0, number);
-        let steps = match kind {
-            "plain" => plain(&nest, times),
+        let followed = match kind {
+            "plain" => Followed::Same {
+                steps: plain(&nest, times),
+            },
             "instance" => alone(&nest, &pred, times),
             "list" => listed(&nest, &pred, times),
-            _ => 0,
+            _ => Followed::Same { steps: 0 },
         };
-        println!(rt; "{steps}")?;
+        match followed {
+            Followed::Same { steps } => println!(rt; "{steps}")?,
+            Followed::Differs(deviation) => println!(rt; "{:?}", deviation)?,
+        }
     }
     Ok(())
 }
@@ -86,8 +91,8 @@ fn plain_once(block: &[Stmt], words: &mut [i64]) -> u64 {
     }
 }
 
-/// The steps of so many followed runs of it.
-fn alone(nest: &Nest, pred: &Prediction<1>, times: u32) -> u64
+/// The steps of so many followed runs of it, or how one differs.
+fn alone(nest: &Nest, pred: &Prediction<1>, times: u32) -> Followed<1>
     requires nest { nest.now.loops ≡ one_row }
     requires pred { pred.now ≡ row }
 {
@@ -95,23 +100,26 @@ fn alone(nest: &Nest, pred: &Prediction<1>, times: u32) -> u64
     let mut words = [0; 40];
     let mut steps: u64 = 0;
     for _ in 0..times {
-        steps = steps.wrapping_add(alone_once(&task, &mut words));
+        match alone_once(&task, &mut words) {
+            Followed::Same { steps: more } => steps = steps.wrapping_add(more),
+            Followed::Differs(deviation) => return Followed::Differs(deviation),
+        }
     }
-    steps
+    Followed::Same { steps }
 }
 
-/// The steps of one.
-fn alone_once(task: &Task<'_, 1>, words: &mut [i64]) -> u64
+/// One.
+fn alone_once(task: &Task<'_, 1>, words: &mut [i64]) -> Followed<1>
     requires task { IsTask 1 task.now.scalars task.now.nest.now.loops task.now.pred.now task.now.outer task.now.chunk (pos 40) }
     requires first { Predicted task.now.pred.now task.now.chunk (instance 0 (pos 0 ∷ [])) }
     requires words { length words.old ≡ 40 }
 {
     let mut port = MemoryPort::new(words);
-    steps_of(follow_instance(task, &first(), &mut port))
+    follow_instance(task, &first(), &mut port)
 }
 
-/// The steps of so many lists of eight.
-fn listed(nest: &Nest, pred: &Prediction<1>, times: u32) -> u64
+/// The steps of so many lists of eight, or how an instance of one differs.
+fn listed(nest: &Nest, pred: &Prediction<1>, times: u32) -> Followed<1>
     requires nest { nest.now.loops ≡ one_row }
     requires pred { pred.now ≡ row }
 {
@@ -119,13 +127,16 @@ fn listed(nest: &Nest, pred: &Prediction<1>, times: u32) -> u64
     let mut words = [0; 40];
     let mut steps: u64 = 0;
     for _ in 0..times {
-        steps = steps.wrapping_add(listed_once(&task, &mut words));
+        match listed_once(&task, &mut words) {
+            Followed::Same { steps: more } => steps = steps.wrapping_add(more),
+            Followed::Differs(deviation) => return Followed::Differs(deviation),
+        }
     }
-    steps
+    Followed::Same { steps }
 }
 
-/// The steps of one.
-fn listed_once(task: &Task<'_, 1>, words: &mut [i64]) -> u64
+/// One.
+fn listed_once(task: &Task<'_, 1>, words: &mut [i64]) -> Followed<1>
     requires task { IsTask 1 task.now.scalars task.now.nest.now.loops task.now.pred.now task.now.outer task.now.chunk (pos 40) }
     requires first { Predicted task.now.pred.now task.now.chunk (instance 0 (pos 0 ∷ [])) }
     requires words { length words.old ≡ 40 }
@@ -133,7 +144,7 @@ fn listed_once(task: &Task<'_, 1>, words: &mut [i64]) -> u64
     let mut port = MemoryPort::new(words);
     let inst = first();
     let list = [inst, inst, inst, inst, inst, inst, inst, inst];
-    steps_of(follow_list(task, &list, &mut port))
+    follow_list(task, &list, &mut port)
 }
 
 /// The first turn of the nest, with what is predicted of it.
@@ -162,14 +173,6 @@ fn first() -> Instance<1>
     ensures { result ≡ instance 0 (pos 0 ∷ []) }
 {
     Instance { block: 0, at: [0] }
-}
-
-/// The steps that were followed to the end.
-fn steps_of(followed: Followed<1>) -> u64 {
-    match followed {
-        Followed::Same { steps } => steps,
-        Followed::Differs(_) => 0,
-    }
 }
 
 /// `for i = 0 below 40 { [i] = 1 }`.

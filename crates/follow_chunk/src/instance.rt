@@ -6,7 +6,7 @@ ghost use Rattle.nest_lang.specs.Blocks.{block_ref, head_at};
 ghost use Rattle.domain.specs.Instances.{block_of, Predicted};
 ghost use Rattle.domain.specs.Steps.{next};
 ghost use Rattle.follow.specs.Turnings.{IsTurning};
-ghost use Rattle.follow_chunk.specs.declared.task.Followed.TheVariants.{Differs};
+ghost use Rattle.follow.specs.Told.{told};
 ghost use Rattle.follow_chunk.specs.Predicted.{occurrence_of, scalars_at, forecast_of};
 ghost use Rattle.follow_chunk.specs.Tasks.{IsTask, IsSomeTask};
 ghost use Rattle.follow_chunk.specs.Followed.{IsRun, IsInstanceFollowed, ChangesWrites, ClosesSmall, IsClosedSmall};
@@ -16,7 +16,7 @@ use crate::place::cut;
 use crate::task::{Deviation, Followed, Task};
 use block_exec::Port;
 use domain::{Instance, What, expected, successor};
-use follow::{How, Turning, VerifyingPort};
+use follow::{Differs, How, Turning, VerifyingPort};
 use nest_lang::{BlockRef, Head};
 
 impl<const D: usize> Task<'_, D> {
@@ -102,13 +102,20 @@ impl<const D: usize> Task<'_, D> {
         }
     }
 
-    /// Runs an instance from its expected scalars, and compares it with what is predicted of it.
-    fn follow<P: Port>(&self, inst: &Instance<D>, port: &mut P) -> Result<u64, How>
+    /// Runs an instance from its expected scalars, and compares it with what is predicted of it; where it differs, `how`
+    /// says how.
+    #[inline(always)]
+    fn follow<P: Port>(
+        &self,
+        inst: &Instance<D>,
+        port: &mut P,
+        how: &mut How,
+    ) -> Result<u64, Differs>
         requires few { D < 7 }
         requires task { IsSomeTask D self.now.scalars self.now.nest.now.loops self.now.pred.now self.now.outer self.now.chunk }
         requires predicted { Predicted self.now.pred.now self.now.chunk inst.now }
         requires plain { (P.expects port.old).verifies ≡ false }
-        ensures run { IsRun self.now.pred.now self.now.nest.now.loops self.now.outer inst.now (P.memory port.old) result (P.memory port.new) }
+        ensures run { IsRun self.now.pred.now self.now.nest.now.loops self.now.outer inst.now (P.memory port.old) (told result how.new) (P.memory port.new) }
         ensures changes { ChangesWrites self.now.pred.now inst.now (P.memory port.old) (P.memory port.new) }
         ensures closes { IsOk result → ClosesSmall self.now.pred.now inst.now }
         ensures expects { P.expects port.new ≡ P.expects port.old }
@@ -116,14 +123,16 @@ impl<const D: usize> Task<'_, D> {
     {
         let foreseen = self.foreseen(inst);
         let mut verified = VerifyingPort::new(port, &foreseen);
-        self.follow_own(&foreseen, &mut verified)
+        self.follow_own(&foreseen, &mut verified, how)
     }
 }
 
 /// Runs one instance from its expected scalars, and compares it with what is predicted of it: each address before the
 /// port is asked, what a head yields, and after the last step each scalar with that expected of the instance's
 /// successor, which is then an i64. Whether it differs or not, it changes no word that is none of its writes. The instance
-/// is predicted in the task's chunk, and the port doesn't verify.
+/// is predicted in the task's chunk, and the port doesn't verify. In line with what it calls, down to the run of a block, so
+/// that the answer of an instance which follows is put nowhere.
+#[inline(always)]
 pub fn follow_instance<P: Port, const D: usize>(
     task: &Task<'_, D>,
     inst: &Instance<D>,
@@ -139,17 +148,9 @@ pub fn follow_instance<P: Port, const D: usize>(
     ensures expects { P.expects port.new ≡ P.expects port.old }
     ensures basis { P.basis port.new ≡ P.basis port.old }
 {
-    match task.follow(inst, port) {
+    let mut how = How::Limit;
+    match task.follow(inst, port, &mut how) {
         Ok(steps) => Followed::Same { steps },
-        Err(how) => differs(inst, how),
+        Err(_) => Followed::Differs(Deviation { at: *inst, how }),
     }
-}
-
-/// An instance differs so. Out of line, so that one which follows makes no room for it.
-#[cold]
-#[inline(never)]
-pub(crate) fn differs<const D: usize>(inst: &Instance<D>, how: How) -> Followed<D>
-    ensures { result ≡ Differs (record { at = inst.now; how = how }) }
-{
-    Followed::Differs(Deviation { at: *inst, how })
 }

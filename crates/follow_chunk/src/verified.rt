@@ -3,44 +3,48 @@
 ghost use Rattle.std.specs.Prelude.{◌≡◌, ◌<◌, ◌^◌, pos, length, IsOk};
 ghost use Rattle.domain.specs.Instances.{Predicted};
 ghost use Rattle.domain.specs.Steps.{next};
+ghost use Rattle.follow.specs.Told.{told};
+ghost use Rattle.follow_chunk.specs.declared.task.Followed.TheVariants as followed;
 ghost use Rattle.follow_chunk.specs.Predicted.{scalars_at};
 ghost use Rattle.follow_chunk.specs.Tasks.{IsTask, IsSomeTask};
 ghost use Rattle.follow_chunk.specs.Verifies.{VerifiesInstance, IsShort};
 ghost use Rattle.follow_chunk.specs.Followed.{IsRun, IsInstanceFollowed, ChangesWrites, ClosesSmall, IsClosedSmall};
 
 use crate::expect::{Foreseen, begin};
-use crate::instance::differs;
-use crate::task::{Followed, Task};
+use crate::task::{Deviation, Followed, Task};
 use block_exec::Port;
-use follow::{How, follow_block_verified, follow_head_verified};
+use domain::Instance;
+use follow::{Differs, How, follow_block_verified, follow_head_verified};
 
 /// More steps than an instance has: its block has fewer than 2^20 statements.
 const MOST_STEPS: u64 = 1 << 32;
 
 impl<const D: usize> Task<'_, D> {
     /// Runs the instance of which this is expected from its expected scalars, over a port that verifies its accesses, and
-    /// compares it with what is expected of it.
+    /// compares it with what is expected of it; where it differs, `how` says how.
+    #[inline(always)]
     pub(crate) fn follow_own<P: Port>(
         &self,
         foreseen: &Foreseen<'_, D>,
         port: &mut P,
-    ) -> Result<u64, How>
+        how: &mut How,
+    ) -> Result<u64, Differs>
         requires few { D < 7 }
         requires pred { foreseen.now.pred.now ≡ self.now.pred.now }
         requires next { scalars_at self.now.pred.now foreseen.now.next ≡ scalars_at self.now.pred.now (next self.now.pred.now foreseen.now.inst.now) }
         requires task { IsSomeTask D self.now.scalars self.now.nest.now.loops self.now.pred.now self.now.outer self.now.chunk }
         requires predicted { Predicted self.now.pred.now self.now.chunk foreseen.now.inst.now }
         requires own { VerifiesInstance (P.expects port.old) self.now.pred.now foreseen.now.inst.now }
-        ensures run { IsRun self.now.pred.now self.now.nest.now.loops self.now.outer foreseen.now.inst.now (P.memory port.old) result (P.memory port.new) }
+        ensures run { IsRun self.now.pred.now self.now.nest.now.loops self.now.outer foreseen.now.inst.now (P.memory port.old) (told result how.new) (P.memory port.new) }
         ensures changes { ChangesWrites self.now.pred.now foreseen.now.inst.now (P.memory port.old) (P.memory port.new) }
         ensures closes { IsOk result → ClosesSmall self.now.pred.now foreseen.now.inst.now }
         ensures expects { P.expects port.new ≡ P.expects port.old }
         ensures basis { P.basis port.new ≡ P.basis port.old }
     {
         if self.scalars == 0 {
-            return self.follow_from(foreseen, &mut [], port);
+            return self.follow_from(foreseen, &mut [], port, how);
         }
-        self.follow_with_scalars(foreseen, port)
+        self.follow_with_scalars(foreseen, port, how)
     }
 
     /// The same where there may be scalars. Out of line, so that an instance of a nest without any makes no room for them.
@@ -49,14 +53,15 @@ impl<const D: usize> Task<'_, D> {
         &self,
         foreseen: &Foreseen<'_, D>,
         port: &mut P,
-    ) -> Result<u64, How>
+        how: &mut How,
+    ) -> Result<u64, Differs>
         requires few { D < 7 }
         requires pred { foreseen.now.pred.now ≡ self.now.pred.now }
         requires next { scalars_at self.now.pred.now foreseen.now.next ≡ scalars_at self.now.pred.now (next self.now.pred.now foreseen.now.inst.now) }
         requires task { IsSomeTask D self.now.scalars self.now.nest.now.loops self.now.pred.now self.now.outer self.now.chunk }
         requires predicted { Predicted self.now.pred.now self.now.chunk foreseen.now.inst.now }
         requires own { VerifiesInstance (P.expects port.old) self.now.pred.now foreseen.now.inst.now }
-        ensures run { IsRun self.now.pred.now self.now.nest.now.loops self.now.outer foreseen.now.inst.now (P.memory port.old) result (P.memory port.new) }
+        ensures run { IsRun self.now.pred.now self.now.nest.now.loops self.now.outer foreseen.now.inst.now (P.memory port.old) (told result how.new) (P.memory port.new) }
         ensures changes { ChangesWrites self.now.pred.now foreseen.now.inst.now (P.memory port.old) (P.memory port.new) }
         ensures closes { IsOk result → ClosesSmall self.now.pred.now foreseen.now.inst.now }
         ensures expects { P.expects port.new ≡ P.expects port.old }
@@ -65,7 +70,7 @@ impl<const D: usize> Task<'_, D> {
         let mut room = [0; 16];
         let scalars = &mut room[..self.scalars as usize];
         begin(self.pred, foreseen.inst, scalars);
-        self.follow_from(foreseen, scalars, port)
+        self.follow_from(foreseen, scalars, port, how)
     }
 
     /// The same from these scalars, which are the expected ones.
@@ -75,7 +80,8 @@ impl<const D: usize> Task<'_, D> {
         foreseen: &Foreseen<'_, D>,
         scalars: &mut [i64],
         port: &mut P,
-    ) -> Result<u64, How>
+        how: &mut How,
+    ) -> Result<u64, Differs>
         requires few { D < 7 }
         requires pred { foreseen.now.pred.now ≡ self.now.pred.now }
         requires next { scalars_at self.now.pred.now foreseen.now.next ≡ scalars_at self.now.pred.now (next self.now.pred.now foreseen.now.inst.now) }
@@ -83,7 +89,7 @@ impl<const D: usize> Task<'_, D> {
         requires predicted { Predicted self.now.pred.now self.now.chunk foreseen.now.inst.now }
         requires own { VerifiesInstance (P.expects port.old) self.now.pred.now foreseen.now.inst.now }
         requires begins { scalars.old ≡ scalars_at self.now.pred.now foreseen.now.inst.now }
-        ensures run { IsRun self.now.pred.now self.now.nest.now.loops self.now.outer foreseen.now.inst.now (P.memory port.old) result (P.memory port.new) }
+        ensures run { IsRun self.now.pred.now self.now.nest.now.loops self.now.outer foreseen.now.inst.now (P.memory port.old) (told result how.new) (P.memory port.new) }
         ensures changes { ChangesWrites self.now.pred.now foreseen.now.inst.now (P.memory port.old) (P.memory port.new) }
         ensures closes { IsOk result → ClosesSmall self.now.pred.now foreseen.now.inst.now }
         ensures expects { P.expects port.new ≡ P.expects port.old }
@@ -97,13 +103,17 @@ impl<const D: usize> Task<'_, D> {
         let values = self.values(inst, loops as usize);
         let site = self.site(block, inst, &values, loops as usize);
         if let Some(statements) = self.nest.statements(block) {
-            return follow_block_verified(&site, statements, foreseen, scalars, port, MOST_STEPS);
+            return follow_block_verified(
+                &site, statements, foreseen, scalars, port, MOST_STEPS, how,
+            );
         }
         let Some(head) = self.nest.head(block.level) else {
             unreachable!()
         };
         let turning = self.turning(inst, block, head);
-        follow_head_verified(&site, head, foreseen, turning, scalars, port, MOST_STEPS)
+        follow_head_verified(
+            &site, head, foreseen, turning, scalars, port, MOST_STEPS, how,
+        )
     }
 }
 
@@ -127,8 +137,21 @@ pub fn follow_verified<P: Port, const D: usize>(
     ensures expects { P.expects port.new ≡ P.expects port.old }
     ensures basis { P.basis port.new ≡ P.basis port.old }
 {
-    match task.follow_own(foreseen, port) {
+    let mut how = How::Limit;
+    match task.follow_own(foreseen, port, &mut how) {
         Ok(steps) => Followed::Same { steps },
-        Err(how) => differs(foreseen.inst, how),
+        Err(_) => differs(foreseen.inst, &how),
     }
+}
+
+/// An instance differs so. Out of line, so that one which follows makes no room for it.
+#[cold]
+#[inline(never)]
+fn differs<const D: usize>(inst: &Instance<D>, how: &How) -> Followed<D>
+    ensures { result ≡ followed.Differs (record { at = inst.now; how = how.now }) }
+{
+    Followed::Differs(Deviation {
+        at: *inst,
+        how: *how,
+    })
 }

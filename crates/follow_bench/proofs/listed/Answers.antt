@@ -2,14 +2,14 @@ use Rattle.std.proofs.Common.{refl, ap, ◌∙◌}
 use Rattle.follow_bench.proofs.FirstTurn.{predicted-is, task-is}
 use Rattle.follow_bench.proofs.listed.Goals as goal
 
-pub listed_once-steps-requires-clause-task : goal.listed_once-steps-requires-clause-task
-listed_once-steps-requires-clause-task c =
+pub listed_once-requires-clause-task : goal.listed_once-requires-clause-task
+listed_once-requires-clause-task c =
     let task = c.task-task.result in
     let is = c.task-task.ensures in
     task-is task.scalars 40 task.nest.now.loops task.pred.now task.outer task.chunk is.scalars (ap (λ n. n.loops) is.nest ∙ c.requires.nest) (is.pred ∙ c.requires.pred) is.outer is.chunk refl
 
-pub listed_once-steps-requires-clause-first : goal.listed_once-steps-requires-clause-first
-listed_once-steps-requires-clause-first c =
+pub listed_once-requires-clause-first : goal.listed_once-requires-clause-first
+listed_once-requires-clause-first c =
     let task = c.task-task.result in
     let is = c.task-task.ensures in
     predicted-is task.pred.now task.chunk _ (is.pred ∙ c.requires.pred) is.chunk refl

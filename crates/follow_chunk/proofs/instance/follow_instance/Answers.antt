@@ -1,7 +1,7 @@
-use Rattle.std.proofs.Common.{refl, sym, subst, Result, ℕ, length, pos}
-use Rattle.follow.specs.declared.how.How.{How}
-use Rattle.follow_chunk.specs.declared.task.Followed.{Followed}
-use Rattle.follow_chunk.specs.Followed.{IsRun, IsInstanceFollowed, IsClosedSmall}
+use Rattle.std.proofs.Common.{refl, subst, Result, ℕ, length, pos}
+use Rattle.follow.specs.declared.how.Differs.{Differs}
+use Rattle.follow.specs.Told.{told}
+use Rattle.follow_chunk.specs.Followed.{IsRun}
 use Rattle.follow_chunk.proofs.Whole.{follows-by, deviates-by}
 use Rattle.follow_chunk.proofs.instance.follow_instance.Goals as goal
 
@@ -10,16 +10,13 @@ returns-in-Ok-clause-followed g c =
     let self = c.args.task.now in
     let m = g.P.Port.memory c.args.port.now in
     follows-by g.row.D self.scalars self.nest.now.loops self.pred.now self.outer self.chunk (pos (length m)) c.requires.task c.args.inst.now c.requires.predicted m (g.P.Port.memory c.follow.new.port) c.in-Ok.steps
-    (subst (λ (r : Result ℕ How). IsRun self.pred.now self.nest.now.loops self.outer c.args.inst.now m r (g.P.Port.memory c.follow.new.port)) c.in-Ok.is c.follow.ensures.run)
+    (subst (λ (r : Result ℕ Differs). IsRun self.pred.now self.nest.now.loops self.outer c.args.inst.now m (told r c.follow.new.how) (g.P.Port.memory c.follow.new.port)) c.in-Ok.is c.follow.ensures.run)
 
 pub returns-in-Err-clause-followed : goal.returns-in-Err-clause-followed
 returns-in-Err-clause-followed g c =
     let self = c.args.task.now in
-    let m = g.P.Port.memory c.args.port.now in
-    let deviates =
-    deviates-by g.row.D self.scalars self.nest.now.loops self.pred.now self.outer self.chunk (pos (length m)) c.requires.task c.args.inst.now c.requires.predicted m (g.P.Port.memory c.follow.new.port) c.in-Err.how
-    (subst (λ (r : Result ℕ How). IsRun self.pred.now self.nest.now.loops self.outer c.args.inst.now m r (g.P.Port.memory c.follow.new.port)) c.in-Err.is c.follow.ensures.run) in
-    subst (λ (f : Followed g.row.D). IsInstanceFollowed self.pred.now self.nest.now.loops self.outer c.args.inst.now m f (g.P.Port.memory c.follow.new.port)) (sym c.differs.ensures) (refl, deviates)
-
-pub returns-in-Err-clause-closes : goal.returns-in-Err-clause-closes
-returns-in-Err-clause-closes g c = subst (λ (f : Followed g.row.D). IsClosedSmall c.args.task.now.pred.now c.args.inst.now f) (sym c.differs.ensures) tt
+    let m = g.P.Port.memory c.args.port.now in (
+      refl,
+      deviates-by g.row.D self.scalars self.nest.now.loops self.pred.now self.outer self.chunk (pos (length m)) c.requires.task c.args.inst.now c.requires.predicted m (g.P.Port.memory c.follow.new.port) c.follow.new.how
+          (subst (λ (r : Result ℕ Differs). IsRun self.pred.now self.nest.now.loops self.outer c.args.inst.now m (told r c.follow.new.how) (g.P.Port.memory c.follow.new.port)) c.in-Err.is c.follow.ensures.run),
+    )

@@ -1,5 +1,6 @@
 use Rattle.std.proofs.Common.{refl, sym, subst, Result, ℕ, length, pos}
-use Rattle.follow.specs.declared.how.How.{How}
+use Rattle.follow.specs.declared.how.Differs.{Differs}
+use Rattle.follow.specs.Told.{told}
 use Rattle.follow_chunk.specs.declared.task.Followed.{Followed}
 use Rattle.follow_chunk.specs.Verifies.{IsShort}
 use Rattle.follow_chunk.specs.Followed.{IsRun, IsInstanceFollowed, IsClosedSmall}
@@ -11,7 +12,7 @@ returns-in-Ok-clause-followed g c =
     let self = c.args.task.now in
     let m = g.P.Port.memory c.args.port.now in
     follows-by g.row.D self.scalars self.nest.now.loops self.pred.now self.outer self.chunk (pos (length m)) c.requires.task c.args.foreseen.now.inst.now c.requires.predicted m (g.P.Port.memory c.follow_own.new.port) c.in-Ok.steps
-    (subst (λ (r : Result ℕ How). IsRun self.pred.now self.nest.now.loops self.outer c.args.foreseen.now.inst.now m r (g.P.Port.memory c.follow_own.new.port)) c.in-Ok.is c.follow_own.ensures.run)
+    (subst (λ (r : Result ℕ Differs). IsRun self.pred.now self.nest.now.loops self.outer c.args.foreseen.now.inst.now m (told r c.follow_own.new.how) (g.P.Port.memory c.follow_own.new.port)) c.in-Ok.is c.follow_own.ensures.run)
 
 pub returns-in-Err-clause-followed : goal.returns-in-Err-clause-followed
 returns-in-Err-clause-followed g c =
@@ -19,8 +20,8 @@ returns-in-Err-clause-followed g c =
     let x = c.args.foreseen.now.inst.now in
     let m = g.P.Port.memory c.args.port.now in
     let deviates =
-    deviates-by g.row.D self.scalars self.nest.now.loops self.pred.now self.outer self.chunk (pos (length m)) c.requires.task x c.requires.predicted m (g.P.Port.memory c.follow_own.new.port) c.in-Err.how
-    (subst (λ (r : Result ℕ How). IsRun self.pred.now self.nest.now.loops self.outer x m r (g.P.Port.memory c.follow_own.new.port)) c.in-Err.is c.follow_own.ensures.run) in
+    deviates-by g.row.D self.scalars self.nest.now.loops self.pred.now self.outer self.chunk (pos (length m)) c.requires.task x c.requires.predicted m (g.P.Port.memory c.follow_own.new.port) c.follow_own.new.how
+    (subst (λ (r : Result ℕ Differs). IsRun self.pred.now self.nest.now.loops self.outer x m (told r c.follow_own.new.how) (g.P.Port.memory c.follow_own.new.port)) c.in-Err.is c.follow_own.ensures.run) in
     subst (λ (f : Followed g.row.D). IsInstanceFollowed self.pred.now self.nest.now.loops self.outer x m f (g.P.Port.memory c.follow_own.new.port)) (sym c.differs.ensures) (refl, deviates)
 
 pub returns-in-Err-clause-closes : goal.returns-in-Err-clause-closes
@@ -34,4 +35,4 @@ returns-in-Ok-clause-short g c =
     let self = c.args.task.now in
     let m = g.P.Port.memory c.args.port.now in
     run-few g.row.D self.scalars self.nest.now.loops self.pred.now self.outer self.chunk (pos (length m)) c.requires.task c.args.foreseen.now.inst.now c.requires.predicted m (g.P.Port.memory c.follow_own.new.port) c.in-Ok.steps
-    (subst (λ (r : Result ℕ How). IsRun self.pred.now self.nest.now.loops self.outer c.args.foreseen.now.inst.now m r (g.P.Port.memory c.follow_own.new.port)) c.in-Ok.is c.follow_own.ensures.run)
+    (subst (λ (r : Result ℕ Differs). IsRun self.pred.now self.nest.now.loops self.outer c.args.foreseen.now.inst.now m (told r c.follow_own.new.how) (g.P.Port.memory c.follow_own.new.port)) c.in-Ok.is c.follow_own.ensures.run)

@@ -14,6 +14,7 @@ use Rattle.domain.specs.Instances.{block_of}
 use Rattle.follow.specs.Followed.{occurrence_at}
 use Rattle.follow.specs.Verifies.{VerifiesOwn}
 use Rattle.follow.proofs.VerifiedLaws.{verified-block}
+use Rattle.follow.specs.Told.{told}
 use Rattle.follow_chunk.specs.Predicted.{scalars_at, interval_at}
 use Rattle.follow_chunk.specs.Items.{around_of}
 use Rattle.follow_chunk.proofs.Standing.{counters-here, none-head, strides-here, head-same}
@@ -59,7 +60,7 @@ returns-in-Some-statements-clause-run g c =
     let closes = ap (λ (u : Table). scalars_at u c.args.foreseen.now.next) c.requires.pred ∙ c.requires.next in
     let is = ap (statements_of loops) (sym c.block-block.ensures) ∙ sym c.statements.ensures ∙ ap (option_map (λ ss. ss.now)) c.in-Some-statements.is in
     let owned : VerifiesOwn _ intervals (block_accesses c.in-Some-statements.statements.now) = subst (λ (u : Table). VerifiesOwn (g.P.Port.expects c.args.port.now) (interval_at u x) (block_accesses c.in-Some-statements.statements.now)) (sym c.requires.pred) (own-block g.row.D self.scalars task.0 loops t self.outer self.chunk x task.1 p (g.P.Port.expects c.args.port.now) c.requires.own c.in-Some-statements.statements.now is) in
-    run-block g.row.D self.scalars self.nest.now.loops self.pred.now self.outer self.chunk task.0 task.1 x p c.site-site.result frames intervals each (g.P.Port.memory c.args.port.now) (g.P.Port.memory c.follow_block_verified.new.port) c.follow_block_verified.result
+    run-block g.row.D self.scalars self.nest.now.loops self.pred.now self.outer self.chunk task.0 task.1 x p c.site-site.result frames intervals each (g.P.Port.memory c.args.port.now) (g.P.Port.memory c.follow_block_verified.new.port) (told c.follow_block_verified.result c.follow_block_verified.new.how)
     c.args.scalars.now (scalars_at c.args.foreseen.now.pred.now c.args.foreseen.now.next) c.in-Some-statements.statements.now begins closes is (λ r nx told. c.follow_block_verified.ensures.followed r nx told owned)
 
 pub returns-in-Some-statements-clause-changes : goal.returns-in-Some-statements-clause-changes
@@ -111,7 +112,7 @@ returns-clause-run g c =
     let none = ap (statements_of loops) (sym c.block-block.ensures) ∙ sym c.statements.ensures ∙ ap (option_map (λ ss. ss.now)) c.in_default-statements.is in
     let part = none-head g.row.D self.scalars self.nest.now.loops self.pred.now self.outer self.chunk task.0 task.1 x p none in
     let owned : VerifiesOwn _ intervals (head_accesses c.in-Some-head.head.now) = subst (λ (u : Table). VerifiesOwn (g.P.Port.expects c.args.port.now) (interval_at u x) (head_accesses c.in-Some-head.head.now)) (sym c.requires.pred) (own-head g.row.D self.scalars task.0 loops t self.outer self.chunk x task.1 p (g.P.Port.expects c.args.port.now) c.requires.own c.in-Some-head.head.now head-is part) in
-    run-head g.row.D self.scalars self.nest.now.loops self.pred.now self.outer self.chunk task.0 task.1 x p c.site-site.result frames intervals each (g.P.Port.memory c.args.port.now) (g.P.Port.memory c.follow_head_verified.new.port) c.follow_head_verified.result
+    run-head g.row.D self.scalars self.nest.now.loops self.pred.now self.outer self.chunk task.0 task.1 x p c.site-site.result frames intervals each (g.P.Port.memory c.args.port.now) (g.P.Port.memory c.follow_head_verified.new.port) (told c.follow_head_verified.result c.follow_head_verified.new.how)
     c.args.scalars.now (scalars_at c.args.foreseen.now.pred.now c.args.foreseen.now.next) c.in-Some-head.head.now c.turning-turning.result begins closes head-is part c.turning-turning.ensures (λ r nx told turning. c.follow_head_verified.ensures.followed r nx told owned turning)
 
 pub returns-in-Some-statements-clause-closes : goal.returns-in-Some-statements-clause-closes
