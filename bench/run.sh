@@ -60,7 +60,7 @@ sweep="nest 1 memory 1000000 ramp 0 1000000 1 5 0 for i = 1 below 999 { for j = 
 triangle="nest 1 memory 1048576 for i = 0 below 1400 { for j = 0 below i { [700 * i + j] = 1 } } candidate { seq 1; par 2; tile 2 32 }"
 rows="nest 1 memory 1000001 ramp 20000 20001 1 0 16 ramp 40001 320000 1 680001 1 ramp 360001 640000 1 1 0 for i = 0 below 20000 { for k = [20000 + i] below [20001 + i] { [i] = [i] + [360001 + k] * [[40001 + k]] } }"
 value="[i]"
-for k in $(seq 1 50); do value="($value * 3 + $k) % 1000003"; done
+for k in $(seq 1 17); do value="($value * 3 + $k) % 1000003"; done
 body="nest 1 memory 400000 ramp 0 200000 1 7 1 for i = 0 below 200000 { [200000 + i] = $value }"
 for chunk in 32 1024; do
   measure "a copy" $chunk "$copy"

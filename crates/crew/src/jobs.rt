@@ -8,6 +8,9 @@ use std::thread;
 use std::thread::Threads;
 use verified_turns::Worker;
 
+/// So many turns take about as long as the start of a thread.
+const TURNS_OF_A_START: u32 = 256;
+
 /// What takes turns: a worker of a phase.
 pub trait Job: Drop {
     /// What no turn changes.
@@ -67,6 +70,9 @@ impl<W: Walk<D>, const D: usize> Job for Worker<'_, W, D> {
 /// What each job passes before its first turn.
 pub trait Gate: Sync {
     fn pass(&self, worker: u32);
+
+    /// Whether a job may be held here until another has come. Where none is, the caller may pass for each.
+    fn holds(&self) -> bool;
 }
 
 /// A gate that is open.
@@ -75,6 +81,10 @@ pub struct OpenGate;
 
 impl Gate for OpenGate {
     fn pass(&self, _worker: u32) {}
+
+    fn holds(&self) -> bool {
+        false
+    }
 }
 
 /// Gives a job turns until none is left.
@@ -135,13 +145,46 @@ fn threads_for<J: Job>(jobs: &[J]) -> usize
     jobs.first().map_or(1, |job| job.tiles() as usize).max(1)
 }
 
+/// Gives a job at most so many turns, and tells how many of them are over: some only where the job has none left.
+fn spend<J: Job>(job: &mut J, turns: u32) -> u32
+    ensures origin { J.origin job.new ≡ J.origin job.old }
+    ensures few { result ≤ turns }
+    ensures left { 0 < result → J.left_of job.new ≡ 0 }
+{
+    let mut over = turns;
+    while over > 0 && job.left() > 0 {
+        job.turn();
+        over -= 1;
+    }
+    over
+}
+
+/// Passes the gate for each job, and gives the jobs turns in their order, as many in all as a thread is worth. True only
+/// where none has a turn left.
+fn are_done_here<G: Gate, J: Job>(gate: &G, jobs: &mut [J]) -> bool
+    ensures same_length { length jobs.new ≡ length jobs.old }
+    ensures origin { (i : ℕ) (d : J) → J.origin (slice_index_or jobs.new i d) ≡ J.origin (slice_index_or jobs.old i d) }
+    ensures left { IsTrue result → (i : ℕ) (d : J) → i < length jobs.old → J.left_of (slice_index_or jobs.new i d) ≡ 0 }
+{
+    let mut over = TURNS_OF_A_START;
+    for job in jobs.iter_mut() {
+        gate.pass(job.number());
+        over = spend(job, over);
+    }
+    over > 0
+}
+
 /// Runs the jobs beside each other, at most as many at once as there are tiles, each on a thread of its own where one can be
-/// started, and else here.
+/// started, and else here. Where no gate holds them the caller begins, so that little work starts no thread.
 pub fn beside<R: Threads + Sync, G: Gate, J: Job + Send>(rt: &R, gate: &G, jobs: &mut [J])
     ensures { Ran J.origin J.left_of jobs.old jobs.new }
 {
     let threads = threads_for(jobs);
-    thread::for_each_mut(rt, jobs, threads, &|_, job: &mut J| begin(gate, job));
+    if gate.holds() {
+        thread::for_each_mut(rt, jobs, threads, &|_, job: &mut J| begin(gate, job));
+    } else if !are_done_here(gate, jobs) {
+        thread::for_each_mut(rt, jobs, threads, &|_, job: &mut J| finish(job));
+    }
 }
 
 /// The steps of all jobs, of which there are at most 64.

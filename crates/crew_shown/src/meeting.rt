@@ -33,4 +33,8 @@ impl Gate for Meeting<'_> {
         }
         self.in_vain.fetch_add(1, Ordering::SeqCst);
     }
+
+    fn holds(&self) -> bool {
+        true
+    }
 }
