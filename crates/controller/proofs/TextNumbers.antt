@@ -33,7 +33,7 @@ use Rattle.nest_text.proofs.Stored.{ramp_from, ramp-from-all, ramp-from-next, ra
 
 -- ---- tokens
 
-abbrev AllFit : List Spot → Type 0
+abbrev pub AllFit : List Spot → Type 0
 AllFit [] = Unit {0}
 AllFit (x ∷ xs) = FitsI64 x.token × AllFit xs
 
@@ -51,15 +51,15 @@ spelled-fits (number {s} b a e) = elim (nat_lt (decimal s) (2 ^ 63)) as (λ c. n
 spelled-fits (sign h i l) = tt
 spelled-fits (bad_byte a b c d e) = tt
 
-divided-fit : {size : ℕ} {text : List ℕ} {xs : List Spot} → Divides size text xs → AllFit xs
+pub divided-fit : {size : ℕ} {text : List ℕ} {xs : List Spot} → Divides size text xs → AllFit xs
 divided-fit (ends g) = tt
 divided-fit (goes_on g s d) = (spelled-fits s, divided-fit d)
 
 -- the tokens that are left
-abbrev FitSight : Sight → Type 0
+abbrev pub FitSight : Sight → Type 0
 FitSight s = AllFit s.left
 
-fit-skip : (s : Sight) → FitSight s → FitSight (skip s)
+pub fit-skip : (s : Sight) → FitSight s → FitSight (skip s)
 unfolding skip
 fit-skip s h = by s.left h
   where
@@ -67,7 +67,7 @@ fit-skip s h = by s.left h
     by [] k = tt
     by (x ∷ xs) k = k.1
 
-number-fits : (n : ℕ) (s : Sight) → FitSight s → SeesNumber n s → n < 2 ^ 63
+pub number-fits : (n : ℕ) (s : Sight) → FitSight s → SeesNumber n s → n < 2 ^ 63
 unfolding here
 number-fits n s h e = by s.left h e
   where
@@ -77,17 +77,17 @@ number-fits n s h e = by s.left h e
 
 -- ---- numbers
 
-abbrev I64 : ℤ → Type 0
+abbrev pub I64 : ℤ → Type 0
 I64 z = FitsSigned w64 z
 
-positive-fits : (n : ℕ) → n < 2 ^ 63 → I64 (pos n)
+pub positive-fits : (n : ℕ) → n < 2 ^ 63 → I64 (pos n)
 positive-fits n less = omega (arith, ints, less)
 
 negative-fits : (n : ℕ) → n < 2 ^ 63 → I64 (with_sign true n)
 negative-fits zero less = positive-fits 0 less
 negative-fits (suc n) less = omega (arith, ints, less)
 
-signed-fits : {s : Sight} {v : ℤ} {t : Sight} → IsSigned s v t → FitSight s → I64 v × FitSight t
+pub signed-fits : {s : Sight} {v : ℤ} {t : Sight} → IsSigned s v t → FitSight s → I64 v × FitSight t
 signed-fits (unsigned {n} {s} h) p = (positive-fits n (number-fits n s p h), fit-skip s p)
 signed-fits (negative {n} {s} h k) p = let q = fit-skip s p in (negative-fits n (number-fits n (skip s) q k), fit-skip (skip s) q)
 
@@ -99,7 +99,7 @@ values-fit (grammar.more {vs} {v} {t = t} i h l j) p =
     (All-push I64 vs v before.0 last.0, last.1)
 
 -- the values of an item
-abbrev HasNumbers : ℕ → Item → Type 0
+abbrev pub HasNumbers : ℕ → Item → Type 0
 HasNumbers words (Data first values) = All I64 values
 HasNumbers words (Ramp first count stride start growth) = I64 start × (ramp_fits words first count stride start growth ≡ true)
 
@@ -114,7 +114,7 @@ item-fits {words} (ramp {s = s} {t = t} {u = u} h f q c r k n i j m) p =
     let growth = signed-fits j start.1 in
     ((start.0, m), growth.1)
 
-items-fit : {words : ℕ} {s : Sight} {is : List Item} {t : Sight} → IsItems words s is t → FitSight s → All (HasNumbers words) is × FitSight t
+pub items-fit : {words : ℕ} {s : Sight} {is : List Item} {t : Sight} → IsItems words s is t → FitSight s → All (HasNumbers words) is × FitSight t
 items-fit {words} grammar.none p = (All-nil (HasNumbers words), p)
 items-fit {words} (grammar.more {is} {i} j k) p =
     let before = items-fit j p in
@@ -127,7 +127,7 @@ scalars-pass (grammar.more {t = t} i h l k f a j) p =
     let q = fit-skip t (scalars-pass i p) in
     (signed-fits j (fit-skip (skip (skip t)) (fit-skip (skip t) q))).1
 
-version-passes : {s : Sight} {v : Version} {t : Sight} → IsVersion s v t → FitSight s → FitSight t
+pub version-passes : {s : Sight} {v : Version} {t : Sight} → IsVersion s v t → FitSight s → FitSight t
 version-passes (grammar.one {s} h k) p = fit-skip (skip s) (fit-skip s p)
 version-passes (grammar.two {s} h k) p = fit-skip (skip s) (fit-skip s p)
 

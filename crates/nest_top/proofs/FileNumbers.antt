@@ -1,19 +1,8 @@
 -- The numbers of a file that a text reads as are i64s.
-use Rattle.std.proofs.Common.{◌≡◌, refl, subst, sym, ℕ, zero, suc, ◌+◌, ◌<◌, ◌^◌, ℤ, pos, List, [], ◌∷◌, ◌++◌, length, map, Option, Some, None, true, false, cond, nat_lt, FitsSigned, w64, rules, arith}
+use Rattle.std.proofs.Common.{◌≡◌, subst, sym, ℕ, ◌+◌, ℤ, pos, List, [], ◌∷◌, ◌++◌, length, map, Option, rules, arith}
 use Rattle.std.specs.List.{All}
-use Rattle.std.proofs.lemmas.Bool.{ltb-true}
-use Rattle.std.proofs.lemmas.Int.{ints}
 use Rattle.std.proofs.lemmas.List.Elements.{All-append, All-cons, All-nil, All-push}
-use Rattle.nest_tokens.specs.declared.token.Mark.{Mark}
-use Rattle.nest_tokens.specs.declared.token.Token.{Token}
-use Rattle.nest_tokens.specs.declared.token.Token.TheVariants as token
-use Rattle.nest_tokens.specs.declared.token.BadToken.TheVariants as bad
 use Rattle.nest_tokens.specs.declared.token.Name.{Name}
-use Rattle.nest_tokens.specs.declared.token.Spot.{Spot}
-use Rattle.nest_tokens.specs.Tokens.{keyword_of}
-use Rattle.nest_tokens.specs.Lexing.{FitsI64, decimal, named, numbered, keyword_or_name}
-use Rattle.nest_tokens.specs.Division.{Spells, name, number, sign, bad_byte, Divides, ends, goes_on}
-use Rattle.nest_tokens.specs.Ahead.{first, rest}
 use Rattle.nest_tokens.proofs.Dividing.{tokens-divide}
 use Rattle.nest_lang.specs.declared.tree.Expr.{Expr}
 use Rattle.nest_lang.specs.declared.tree.Expr as expr
@@ -29,79 +18,17 @@ use Rattle.nest_grammar.specs.declared.file.File.{File}
 use Rattle.nest_grammar.specs.declared.file.LoopNames.{LoopNames}
 use Rattle.nest_grammar.specs.declared.file.NestUnit.{NestUnit}
 use Rattle.nest_grammar.specs.declared.file.Scalar.{Scalar}
-use Rattle.nest_grammar.specs.declared.file.Item.{Item}
 use Rattle.nest_grammar.specs.declared.version.Version.{Version}
-use Rattle.nest_grammar.specs.Sights.{Sight, here, in_block, opens, skip}
+use Rattle.nest_grammar.specs.Sights.{Sight, in_block, opens, skip}
 use Rattle.nest_grammar.specs.Names.{Names}
 use Rattle.nest_grammar.specs.Scripts.{Script}
 use Rattle.nest_grammar.specs.Grammar as grammar
 use Rattle.nest_grammar.specs.Grammar.{Is, Precedence, IsBlock, IsBraced, IsCandidates, IsCommand, IsCommands, IsExpression, IsHeading, IsItem, IsItems, IsList, IsLoops, IsRows, IsScalars, IsScript, IsSigned, IsStmt, IsStride, IsUnit, IsUnits, IsValues, IsVersion, Reads, SeesNumber}
-use Rattle.nest_grammar.specs.Readings.{with_sign}
 use Rattle.grammar_laws.proofs.Contents.{reading-reads}
 use Rattle.nest_text.specs.Files.{IsOfText}
 use Rattle.profile.specs.Reach.{HasI64s, all_in, block_numbers, expression_numbers, head_numbers, statement_numbers}
-use Rattle.controller.proofs.TextNumbers.{words-fit}
+use Rattle.controller.proofs.TextNumbers.{FitSight, I64, divided-fit, fit-skip, items-fit, number-fits, positive-fits, signed-fits, version-passes, words-fit}
 use Rattle.nest_top.specs.Laws.{AreI64s}
-
-abbrev I64 : ℤ → Type 0
-I64 z = FitsSigned w64 z
-
--- ---- tokens
-
-abbrev AllFit : List Spot → Type 0
-AllFit [] = Unit {0}
-AllFit (x ∷ xs) = FitsI64 x.token × AllFit xs
-
-spelled-fits : {s rest : List ℕ} {t : Token} → Spells s rest t → FitsI64 t
-unfolding named numbered
-spelled-fits (name {s} b a e) = elim (nat_lt 32 (length s)) as (λ c. FitsI64 (cond c (token.Bad bad.Name) (keyword_or_name (keyword_of s) s))) [ true ↦ tt | false ↦ word (keyword_of s) ]
-  where
-    word : (o : Option Mark) → FitsI64 (keyword_or_name o s)
-    word (Some m) = tt
-    word None = tt
-spelled-fits (number {s} b a e) = elim (nat_lt (decimal s) (2 ^ 63)) as (λ c. nat_lt (decimal s) (2 ^ 63) ≡ c → FitsI64 (cond c (token.Number (decimal s)) (token.Bad bad.Number))) [
-  | true ↦ λ is. ltb-true (decimal s) (2 ^ 63) is
-  | false ↦ λ is. tt
-] refl
-spelled-fits (sign h i l) = tt
-spelled-fits (bad_byte a b c d e) = tt
-
-divided-fit : {size : ℕ} {text : List ℕ} {xs : List Spot} → Divides size text xs → AllFit xs
-divided-fit (ends g) = tt
-divided-fit (goes_on g s d) = (spelled-fits s, divided-fit d)
-
--- the tokens that are left
-abbrev FitSight : Sight → Type 0
-FitSight s = AllFit s.left
-
-fit-skip : (s : Sight) → FitSight s → FitSight (skip s)
-unfolding skip
-fit-skip s h = by s.left h
-  where
-    by : (xs : List Spot) → AllFit xs → AllFit (rest xs)
-    by [] k = tt
-    by (x ∷ xs) k = k.1
-
-number-fits : (n : ℕ) (s : Sight) → FitSight s → SeesNumber n s → n < 2 ^ 63
-unfolding here
-number-fits n s h e = by s.left h e
-  where
-    by : (xs : List Spot) → AllFit xs → (first s.size xs).token ≡ token.Number n → n < 2 ^ 63
-    by [] k q = absurd (cc)
-    by (x ∷ xs) k q = subst FitsI64 q k.0
-
--- ---- numbers
-
-positive-fits : (n : ℕ) → n < 2 ^ 63 → I64 (pos n)
-positive-fits n less = omega (arith, ints, less)
-
-negative-fits : (n : ℕ) → n < 2 ^ 63 → I64 (with_sign true n)
-negative-fits zero less = positive-fits 0 less
-negative-fits (suc n) less = omega (arith, ints, less)
-
-signed-fits : {s : Sight} {v : ℤ} {t : Sight} → IsSigned s v t → FitSight s → I64 v × FitSight t
-signed-fits (grammar.unsigned {n} {s} h) p = (positive-fits n (number-fits n s p h), fit-skip s p)
-signed-fits (grammar.negative {n} {s} h k) p = let q = fit-skip s p in (negative-fits n (number-fits n (skip s) q k), fit-skip (skip s) q)
 
 -- ---- expressions
 
@@ -292,21 +219,6 @@ units-fit (grammar.more {ns = ns} {n = n} i l j) p =
     let y = unit-fits j x.1 in
     (All-push UnitFine ns n x.0 y.0, y.1)
 
-values-pass : {words first : ℕ} {s : Sight} {vs : List ℤ} {t : Sight} → IsValues words first s vs t → FitSight s → FitSight t
-values-pass (grammar.one l i) p = (signed-fits i p).1
-values-pass (grammar.more {t = t} i h l j) p = (signed-fits j (fit-skip t (values-pass i p))).1
-
-item-passes : {words : ℕ} {s : Sight} {i : Item} {t : Sight} → IsItem words s i t → FitSight s → FitSight t
-item-passes (grammar.data_ {s = s} {t = t} h n q c v) p = values-pass v (fit-skip t (subst FitSight (sym q) (fit-skip (skip s) (fit-skip s p))))
-item-passes (grammar.ramp {s = s} {t = t} {u = u} h f q c r k n i j m) p =
-    let there : FitSight t = subst FitSight (sym q) (fit-skip (skip s) (fit-skip s p)) in
-    let later : FitSight u = subst FitSight (sym r) (fit-skip t there) in
-    (signed-fits j (signed-fits i (fit-skip u later)).1).1
-
-items-pass : {words : ℕ} {s : Sight} {is : List Item} {t : Sight} → IsItems words s is t → FitSight s → FitSight t
-items-pass grammar.none p = p
-items-pass (grammar.more j k) p = item-passes k (items-pass j p)
-
 abbrev ScalarFits : Scalar → Type 0
 ScalarFits c = I64 c.value
 
@@ -322,14 +234,10 @@ values-of [] p = All-nil I64
 values-of (c ∷ cs) p =
     All-cons I64 c.value (map (λ d. d.value) cs) (Rattle.std.proofs.lemmas.List.Elements.All-head ScalarFits c cs p) (values-of cs (Rattle.std.proofs.lemmas.List.Elements.All-tail ScalarFits c cs p))
 
-version-passes : {s : Sight} {v : Version} {t : Sight} → IsVersion s v t → FitSight s → FitSight t
-version-passes (grammar.one {s} h k) p = fit-skip (skip s) (fit-skip s p)
-version-passes (grammar.two {s} h k) p = fit-skip (skip s) (fit-skip s p)
-
 reads-fit : (text : List ℕ) (file : File) → Reads text file → All UnitFine file.units × All I64 (map (λ c. c.value) file.scalars)
 reads-fit text _ (grammar.file {scalars = scalars} {t = t} l iv ic m n b ii iu e) =
     let x = scalars-fit ic (version-passes iv (divided-fit (tokens-divide text))) in
-    let y = units-fit iu (items-pass ii (fit-skip (skip t) (fit-skip t x.1))) in
+    let y = units-fit iu (items-fit ii (fit-skip (skip t) (fit-skip t x.1))).1 in
     (y.0, values-of scalars x.0)
 
 -- a file that a text reads as has i64s alone

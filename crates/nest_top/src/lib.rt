@@ -5,13 +5,14 @@
 //! It begins with `nest_alone`, which does the modes that run no journey by itself. Each
 //! mode has a module of its own (`plain`, `speculative` for mode `run`, `check`, `deps`, `generated` for mode `gen`).
 //! The crate stands on `command_line` (what the words say), `nest_text` (what a text reads as), `nest_gen` (generated
-//! files), `canonical` (the canonical text of a file), `plain_interp` (the plain run), `controller` (journeys), `listing`
-//! (dependence listings), `report` (outcomes, lines, summaries and refusals as text) and `nest_io` (sources and sinks with
-//! counted faults).
-//! Its contract is the promise of the
-//! product so far: the bytes are exactly those of the *answer* that `specs/Answers.antt` defines, unless
-//! a counted fault or want of memory replaces it. `nest_exit` is the same with the
-//! exit of the status; `nest_main` runs it over the standard streams.
+//! files), `canonical` (the canonical text of a file), `plain_interp` (the plain run), `controller` (journeys), `crew` (who
+//! gives the workers of a phase their turns), `listing` (dependence listings), `report` (outcomes, lines, summaries and
+//! refusals as text) and `nest_io` (sources and sinks with counted faults).
+//!
+//! Its contract is the promise of the product: the bytes are exactly those of the *answer* that `specs/Answers.antt`
+//! defines, unless a counted fault or want of memory replaces it, and the crew's list grows by the handed record of the
+//! journey, as `specs/HandedOver.antt` defines it. `nest_exit` is the same with the exit of the status; `nest_main` runs it
+//! over the standard streams.
 #![tactic(auto)]
 
 mod alone;
