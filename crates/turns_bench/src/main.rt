@@ -1,7 +1,7 @@
 //! Runs phases of a nest of one store as often as its input says: one phase of one worker that follows the first
-//! instance so often, or so many phases of four workers whose tiles are empty, each worker on a thread of its own. Each
-//! line of its input has `worker` or `phase`, and a number. It writes the steps. It stands on `phase_run`, and is what
-//! bench/turns.sh measures.
+//! instance so often, or so many phases of four workers whose tiles are empty, by a crew that begins here or by one that
+//! starts a thread for each. Each line of its input has `worker`, `phase` or `threads`, and a number. It writes the steps.
+//! It stands on `phase_run`, and is what bench/turns.sh measures.
 #![tactic(auto)]
 
 ghost use Rattle.std.specs.Prelude.{◌≡◌, ◌<◌, ◌≤◌, ℕ, [], ◌∷◌, IfOk, IsTrue, length, true, false, vec_len, vec_capacity};
@@ -17,7 +17,7 @@ mod nests;
 mod walks;
 
 use core_steps::{Plan, Tile};
-use crew::{Crew, LineCrew, OpenGate, ThreadCrew};
+use crew::{Crew, Gate, LineCrew, OpenGate, ThreadCrew};
 use domain::Prediction;
 use follow_chunk::Task;
 use nest_lang::Nest;
@@ -44,11 +44,27 @@ fn main(rt: HostRuntime) -> io::Result<()> {
                 let mut crew = ThreadCrew::new(rt.clone()?, alloc, OpenGate);
                 phases(alloc, &nest, &pred, times, &mut crew)?
             }
+            "threads" => {
+                let mut crew = ThreadCrew::new(rt.clone()?, alloc, Threshold);
+                phases(alloc, &nest, &pred, times, &mut crew)?
+            }
             _ => 0,
         };
         println!(rt; "{steps}")?;
     }
     Ok(())
+}
+
+/// A gate that holds nobody but says that it may, so that each worker begins on a thread.
+#[derive(Drop)]
+struct Threshold;
+
+impl Gate for Threshold {
+    fn pass(&self, _worker: u32) {}
+
+    fn holds(&self) -> bool {
+        true
+    }
 }
 
 /// The number that a word is, or 0 where it is none of 32 bits.
