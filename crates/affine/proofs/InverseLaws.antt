@@ -14,8 +14,8 @@ use Rattle.affine.specs.Matrices.{identity, product, skew, unit_row}
 use Rattle.affine.specs.Sums.{dot, weighted}
 use Rattle.affine.proofs.MoveLaws.{all-at, back-again, forth-again, gained, gained-lost, length-gained, length-product, length-unit, map-swap, product-at, product-skew, row-at, square-identity, square-skew, square-swap, swap-twice}
 use Rattle.affine.proofs.MovedSumLaws.{dot-gained, dot-swap}
-use Rattle.affine.proofs.OneToOneLemmas.{product-identity}
-use Rattle.affine.proofs.SumLemmas.{get_or-weighted, length-weighted}
+use Rattle.affine.proofs.OneToOneLaws.{product-identity}
+use Rattle.affine.proofs.SumLaws.{get_or-weighted, length-weighted}
 
 pub length-across : (n : ℕ) (columns : List (List ℤ)) (ys : List ℤ) → AllByRecursion (λ column. length column ≡ n) columns → length (across n columns ys) ≡ n
 length-across n [] ys long = length-replicate n (pos 0)

@@ -12,7 +12,7 @@ use Rattle.plain_lemmas.proofs.IntegerLaws.{*ℤ-neg_ℤ, one-*ℤ}
 use Rattle.affine.specs.Inverses.{IsSquare}
 use Rattle.affine.specs.Matrices.{identity, product, skew, unit_row}
 use Rattle.affine.specs.Sums.{dot, weighted}
-use Rattle.affine.proofs.SumLemmas.{dot-weighted, length-weighted}
+use Rattle.affine.proofs.SumLaws.{dot-weighted, length-weighted}
 
 -- ---- products, row by row
 

@@ -10,7 +10,7 @@ use Rattle.std.proofs.lemmas.List.Edits.{swap_is}
 use Rattle.plain_lemmas.proofs.IntegerLaws.{*ℤ_assoc, +ℤ-*ℤ, -ℤ-*ℤ, one-*ℤ}
 use Rattle.affine.specs.Sums.{dot}
 use Rattle.affine.proofs.MoveLaws.{gained}
-use Rattle.affine.proofs.SumLemmas.{dot-comm}
+use Rattle.affine.proofs.SumLaws.{dot-comm}
 
 -- ---- one number of a sum is changed
 

@@ -9,10 +9,10 @@ use Rattle.affine.specs.Inverses.{across}
 use Rattle.affine.specs.Laws.{FormOverPlaces, RowOverPlaces, QuotientIsInterval}
 use Rattle.affine.specs.Matrices.{product}
 use Rattle.affine.specs.Sums.{dot}
-use Rattle.affine.proofs.FloorLemmas.{≤ℤ-floor_by}
+use Rattle.affine.proofs.FloorLaws.{≤ℤ-floor_by}
 use Rattle.affine.proofs.InverseLaws.{length-across}
 use Rattle.affine.proofs.MoveLaws.{length-product}
-use Rattle.affine.proofs.SumLemmas.{dot-weighted-point, dot-comm}
+use Rattle.affine.proofs.SumLaws.{dot-weighted-point, dot-comm}
 
 pub form_over_places : FormOverPlaces
 form_over_places n columns coef place square size long = at columns place square.long

@@ -64,7 +64,7 @@ pub fn floor(number: i128, divisor: i128) -> i128
 }
 
 /// The greatest common divisor of the sizes; 0 where all are 0.
-#[tactic(auto, using(crate::proofs::DivisorLemmas::divisors))]
+#[tactic(auto, using(crate::proofs::DivisorLaws::divisors))]
 fn greatest_divisor(numbers: &[i128]) -> u128
     ensures { result ≡ common_divisor numbers.now }
 {

@@ -20,8 +20,8 @@ word_of-signed base a = get_or-map_default (cast_signed w64) base a 0
 abbrev kept-at : List ℤ → ℕ → Kept
 kept-at m a = record { address = a; value = word_of m a }
 
-pub words-at-more : (m : List ℤ) (f : ℕ → ℕ) (k : ℕ) → words_at m (map f (range_with_len 0 (k + 1))) ≡ words_at m (map f (range_with_len 0 k)) ++ record { address = f k; value = word_of m (f k) } ∷ []
-words-at-more m f k = ap (words_at m) (map-range_with_len_more f 0 k k (omega arith)) ∙ map-append (kept-at m) (map f (range_with_len 0 k)) (f k ∷ [])
+pub words_at-more : (m : List ℤ) (f : ℕ → ℕ) (k : ℕ) → words_at m (map f (range_with_len 0 (k + 1))) ≡ words_at m (map f (range_with_len 0 k)) ++ record { address = f k; value = word_of m (f k) } ∷ []
+words_at-more m f k = ap (words_at m) (map-range_with_len_more f 0 k k (omega arith)) ∙ map-append (kept-at m) (map f (range_with_len 0 k)) (f k ∷ [])
 
 -- the next address of a stripe is kept as well
 pub kept-more : (before now next : List Kept) (stripe : Stripe) (base : List ℕ) (k a : ℕ) (x : ℤ)
@@ -35,11 +35,11 @@ kept-more before now next stripe base k a x so_far pushed address value =
     ap (λ z. record { address = a; value = z }) (value ∙ sym (word_of-signed base a)) ∙ ap (kept-at m) there in
     pushed ∙ ap (λ xs. xs ++ record { address = a; value = x } ∷ []) so_far ∙ append_assoc before (words_at m (map f (range_with_len 0 k))) (record { address = a; value = x } ∷ [])
     ∙ ap (λ u. before ++ (words_at m (map f (range_with_len 0 k)) ++ u ∷ [])) word
-    ∙ ap (λ xs. before ++ xs) (sym (words-at-more m f k))
+    ∙ ap (λ xs. before ++ xs) (sym (words_at-more m f k))
 
-pub words-at-stripe : (m : List ℤ) (stripes : List Stripe) (i : ℕ) (d : Stripe) → i < length stripes
+pub words_at-stripe : (m : List ℤ) (stripes : List Stripe) (i : ℕ) (d : Stripe) → i < length stripes
     → words_at m (addresses_of_all (take (i + 1) stripes)) ≡ words_at m (addresses_of_all (take i stripes)) ++ words_at m (addresses_of (get_or stripes i d))
-words-at-stripe m stripes i d lt =
+words_at-stripe m stripes i d lt =
     ap (λ s. words_at m (addresses_of_all s)) (take_more stripes i d lt)
     ∙ ap (words_at m) (flat_map-append addresses_of (take i stripes) (get_or stripes i d ∷ []) ∙ ap (λ t. addresses_of_all (take i stripes) ++ t) (append-nil (addresses_of (get_or stripes i d))))
     ∙ map-append (kept-at m) (addresses_of_all (take i stripes)) (addresses_of (get_or stripes i d))

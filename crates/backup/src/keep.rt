@@ -71,7 +71,7 @@ fn keep(
     ensures unchanged { main.new ≡ main.old }
     ensures kept { OnOk result (kept.new.items ≡ kept.old.items ++ words_at (signed main.old.view.base) (addresses_of stripe)) }
 {
-    // an address is below this number, so it is a u64
+    // for the prover alone: the number of words is a u64, so each address is one
     let _words = main.count(words);
     for k in 0..stripe.count {
         let address = address(stripe, k);

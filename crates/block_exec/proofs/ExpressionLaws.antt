@@ -6,13 +6,13 @@ use Rattle.nest_lang.specs.declared.tree.Expr.TheFolds.{fold-Expr}
 use Rattle.nest_lang.specs.declared.tree.Expr.TheOpen.{Expr-F}
 use Rattle.nest_lang.specs.declared.tree.Place.TheVariants.{Scalar, Counter, Local}
 use Rattle.nest_lang.specs.declared.observe.Stop.{Stop}
-use Rattle.nest_lang.proofs.HeadLemmas.{heads}
+use Rattle.nest_lang.proofs.HeadLaws.{heads}
 use Rattle.nest_lang.specs.declared.tree.Op.{Op}
 use Rattle.nest_lang.specs.Lookups.{Expectation}
 use Rattle.nest_lang.specs.Expressions.{Frame, Told, telling, told_by, expression_level, or_trapped}
 use Rattle.nest_lang.specs.Values.{apply_of}
 use Rattle.nest_lang.specs.Traces.{Halt}
-use Rattle.nest_lang.proofs.ExpressionLemmas.{tells, told_by-two}
+use Rattle.nest_lang.proofs.ExpressionLaws.{tells, told_by-two}
 use Rattle.block_exec.proofs.ChainLaws.{chain-append, chain-one}
 use Rattle.block_exec.specs.declared.context.Run.{Run}
 use Rattle.block_exec.specs.declared.site.Site.{Site}

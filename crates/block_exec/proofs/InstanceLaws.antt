@@ -7,8 +7,8 @@ use Rattle.nest_lang.specs.Traces.{Observation, Entry, Halt, Trace, joined, in_t
 use Rattle.nest_lang.specs.Expressions.{Frame}
 use Rattle.nest_lang.specs.Statements.{statement_trace, block_trace, started, announced, shown_before, instance_trace}
 use Rattle.nest_lang.specs.Heads.{Yield, head_of, head_step, headed}
-use Rattle.nest_lang.proofs.Cuts.{trace_of, cut-stop, cut-cons, cut-end, cut-step, cut-due, seen-step, seen-due}
-use Rattle.nest_lang.proofs.StatementLemmas.{statement-due}
+use Rattle.nest_lang.proofs.CutLaws.{trace_of, cut-stop, cut-cons, cut-end, cut-step, cut-due, seen-step, seen-due}
+use Rattle.nest_lang.proofs.StatementLaws.{statement-due}
 
 -- what is shown before a step changes nothing
 cut-shown_before : (os : List Observation) (es : List Entry) (halt : Option Halt) (s : Store) (left used : ℕ) → cut (trace_of (shown_before os es) halt) s left used ≡ cut (trace_of es halt) s left used

@@ -12,7 +12,7 @@ use Rattle.nest_lang.specs.Statements.{block_trace, started, announced, shown_be
 use Rattle.nest_lang.specs.Heads.{Yield, Bounds, Tested, Headed, heading, then_head, as_number, head_of, head_step, headed}
 use Rattle.block_exec.specs.Laws.{head_trace, InstancesDependWhereLoaded, InstancesChangeWhereStored}
 use Rattle.block_exec.proofs.AlikeStores.{StoreAlike, told-alike, block-near}
-use Rattle.block_exec.proofs.StoredWords.{Stays, block-inside, after-leaves}
+use Rattle.block_exec.proofs.StoredWordLaws.{Stays, block-inside, after-leaves}
 
 module _ (f : Frame) (verified : f.expects.verifies ≡ true) where
   head-near : (head : Head) (s t : Store) → StoreAlike f verified s t → head_of f head s ≡ head_of f head t

@@ -13,5 +13,5 @@ pub mod PlainOrStop
 pub mod QuietLaws
 pub mod RunLaws
 pub mod StatementLaws
-pub mod StoredWords
+pub mod StoredWordLaws
 pub mod TurnLaws

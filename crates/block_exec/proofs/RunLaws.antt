@@ -2,8 +2,8 @@
 use Rattle.std.proofs.Common.{◌≡◌, refl, ap, ◌∙◌, ◌+◌, ◌≤◌, List, ℤ, Result, Ok, Err, append-nil, arith}
 use Rattle.nest_lang.specs.Lookups.{Expectation}
 use Rattle.nest_lang.specs.Traces.{Done}
-use Rattle.nest_lang.proofs.Cuts.{cut-step, cut-end, seen-step, seen-ends}
-use Rattle.nest_lang.proofs.StatementLemmas.{statements, run-next, run-out, block-end, seen-block-end}
+use Rattle.nest_lang.proofs.CutLaws.{cut-step, cut-end, seen-step, seen-ends}
+use Rattle.nest_lang.proofs.StatementLaws.{statements, run-next, run-out, block-end, seen-block-end}
 use Rattle.block_exec.proofs.ChainLaws.{chain-append, chain-one}
 use Rattle.block_exec.specs.declared.context.Run.{Run}
 use Rattle.block_exec.specs.declared.halt.Halt.{Halt}

@@ -5,8 +5,8 @@ use Rattle.nest_lang.specs.Stores.{Store, store_of, Effect, Nothing, Local, Scal
 use Rattle.nest_lang.specs.Traces.{Observation, Entry, Trace, Finish, Done, Cut, cut_of, cut, seen_in, after_all}
 use Rattle.nest_lang.specs.Expressions.{Frame}
 use Rattle.nest_lang.specs.Statements.{statement_trace, block_trace}
-use Rattle.nest_lang.proofs.Cuts.{cut-step, cut-end, seen-step, seen-ends, rest_seen, rest-seen-not, trace_of, cut-stop, cut-cons}
-use Rattle.nest_lang.proofs.StatementLemmas.{statements, run-next, run-out, block-end, seen-block-end, seen-block-at}
+use Rattle.nest_lang.proofs.CutLaws.{cut-step, cut-end, seen-step, seen-ends, rest_seen, rest-seen-not, trace_of, cut-stop, cut-cons}
+use Rattle.nest_lang.proofs.StatementLaws.{statements, run-next, run-out, block-end, seen-block-end, seen-block-at}
 use Rattle.block_exec.specs.Watches.{Chain}
 use Rattle.block_exec.proofs.ChainLaws.{chain-append, chain-one}
 

@@ -8,13 +8,13 @@ use Rattle.nest_grammar.specs.declared.file.File.{File}
 use Rattle.nest_grammar.specs.Limits.{most_bytes}
 use Rattle.nest_grammar.specs.Contents.{reading}
 use Rattle.nest_text.specs.Files.{IsOfText}
-use Rattle.grammar_laws.proofs.Contents.{reads-reading, reading-reads}
+use Rattle.grammar_laws.proofs.ContentLaws.{reads-reading, reading-reads}
 use Rattle.canonical.specs.Contents.{canonical}
 use Rattle.canonical.specs.Laws.{TokensAreWords, ReadIsWritten, RoundTrip, WritesTheSame, FewestTokens}
-use Rattle.canonical.proofs.ContentsAgain.{reads-again}
-use Rattle.canonical.proofs.FewestLines.{fewest-words}
-use Rattle.canonical.proofs.LayoutFile.{file-layout}
-use Rattle.canonical.proofs.ProperFile.{reads-written, reads-walks}
+use Rattle.canonical.proofs.ContentsAgainLaws.{reads-again}
+use Rattle.canonical.proofs.FewestLineLaws.{fewest-words}
+use Rattle.canonical.proofs.LayoutFileLaws.{file-layout}
+use Rattle.canonical.proofs.ProperFileLaws.{reads-written, reads-walks}
 
 pub tokens-are-words : TokensAreWords
 tokens-are-words file h = file-layout file h

@@ -15,7 +15,7 @@ words (Space ∷ ps) = words ps
 words (Indent n ∷ ps) = words ps
 words (Newline ∷ ps) = words ps
 
--- A token that a text can have: a name has the spelling of one and is no reserved word, a number is at most
+-- A token that a text can have: a name has the spelling of one and is no keyword, a number is at most
 -- 2^63 - 1.
 abbrev pub IsWritten : Token → Type 0
 IsWritten (token.Name n) = (s : List ℕ) × (n ≡ name_of s) × (length s ≤ 32) × Begins is_letter s × AllPass is_name_byte s × (keyword_of s ≡ None)

@@ -35,7 +35,7 @@ piece_text Newline = 10 ∷ []
 unfoldable pub text_of : List Piece → List ℕ
 text_of ps = flat_map piece_text ps
 
--- a sign or a reserved word
+-- a sign or a keyword
 abbrev pub plain : Mark → Piece
 plain m = Word (token.Plain m)
 

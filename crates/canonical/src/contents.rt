@@ -40,7 +40,7 @@ pub(crate) fn write_file(alloc: Global, file: &File) -> Result<Vec<u8>, AllocErr
 }
 
 /// Writes a file.
-#[tactic(auto, unfolding(crate::specs::Contents::pieces), using(crate::proofs::Texts::texts))]
+#[tactic(auto, unfolding(crate::specs::Contents::pieces), using(crate::proofs::PieceLaws::texts))]
 fn write_all(file: &File, page: &mut Page) -> Result<(), AllocError>
     ensures { OnOk result (page.new ≡ page.old ++ text_of (pieces file.now)) }
 {
@@ -61,7 +61,7 @@ fn number_of(version: Version) -> u64
 }
 
 /// Writes the line of the version.
-#[tactic(auto, unfolding(crate::specs::Contents::version_line), using(crate::proofs::Texts::texts))]
+#[tactic(auto, unfolding(crate::specs::Contents::version_line), using(crate::proofs::PieceLaws::texts))]
 fn write_version(version: Version, page: &mut Page) -> Result<(), AllocError>
     ensures { OnOk result (page.new ≡ page.old ++ text_of (version_line version)) }
 {
@@ -71,7 +71,7 @@ fn write_version(version: Version, page: &mut Page) -> Result<(), AllocError>
 }
 
 /// Writes the line of a scalar.
-#[tactic(auto, unfolding(crate::specs::Contents::scalar_line), using(crate::proofs::Texts::texts))]
+#[tactic(auto, unfolding(crate::specs::Contents::scalar_line), using(crate::proofs::PieceLaws::texts))]
 fn write_scalar(scalar: &Scalar, page: &mut Page) -> Result<(), AllocError>
     ensures { OnOk result (page.new ≡ page.old ++ text_of (scalar_line scalar.now)) }
 {
@@ -84,7 +84,7 @@ fn write_scalar(scalar: &Scalar, page: &mut Page) -> Result<(), AllocError>
 }
 
 /// Writes the lines of scalars.
-#[tactic(auto, using(crate::proofs::Texts::lists))]
+#[tactic(auto, using(crate::proofs::PieceLaws::lists))]
 fn write_scalars(scalars: &[Scalar], page: &mut Page) -> Result<(), AllocError>
     ensures { OnOk result (page.new ≡ page.old ++ text_of (flat_map scalar_line scalars.now)) }
 {
@@ -95,7 +95,7 @@ fn write_scalars(scalars: &[Scalar], page: &mut Page) -> Result<(), AllocError>
 }
 
 /// Writes the line of the memory.
-#[tactic(auto, unfolding(crate::specs::Contents::memory_line), using(crate::proofs::Texts::texts))]
+#[tactic(auto, unfolding(crate::specs::Contents::memory_line), using(crate::proofs::PieceLaws::texts))]
 fn write_memory(words: u64, page: &mut Page) -> Result<(), AllocError>
     ensures { OnOk result (page.new ≡ page.old ++ text_of (memory_line words)) }
 {
@@ -105,7 +105,7 @@ fn write_memory(words: u64, page: &mut Page) -> Result<(), AllocError>
 }
 
 /// Writes a value behind a comma.
-#[tactic(auto, using(crate::proofs::Texts::texts))]
+#[tactic(auto, using(crate::proofs::PieceLaws::texts))]
 fn write_next(value: &i64, page: &mut Page) -> Result<(), AllocError>
     ensures { OnOk result (page.new ≡ page.old ++ text_of (next_value value.now)) }
 {
@@ -114,7 +114,7 @@ fn write_next(value: &i64, page: &mut Page) -> Result<(), AllocError>
 }
 
 /// Writes values, each behind a comma.
-#[tactic(auto, using(crate::proofs::Texts::lists))]
+#[tactic(auto, using(crate::proofs::PieceLaws::lists))]
 fn write_others(values: &[i64], page: &mut Page) -> Result<(), AllocError>
     ensures { OnOk result (page.new ≡ page.old ++ text_of (flat_map next_value values.now)) }
 {
@@ -125,7 +125,7 @@ fn write_others(values: &[i64], page: &mut Page) -> Result<(), AllocError>
 }
 
 /// Writes the values of words.
-#[tactic(auto, unfolding(crate::specs::Contents::value_list), using(crate::proofs::Texts::texts))]
+#[tactic(auto, unfolding(crate::specs::Contents::value_list), using(crate::proofs::PieceLaws::texts))]
 fn write_values(values: &[i64], page: &mut Page) -> Result<(), AllocError>
     ensures { OnOk result (page.new ≡ page.old ++ text_of (value_list values.now)) }
 {
@@ -137,7 +137,7 @@ fn write_values(values: &[i64], page: &mut Page) -> Result<(), AllocError>
 }
 
 /// Writes the line of an item.
-#[tactic(auto, using(crate::proofs::Items::items))]
+#[tactic(auto, using(crate::proofs::ItemLaws::items))]
 fn write_item(item: &Item, page: &mut Page) -> Result<(), AllocError>
     ensures { OnOk result (page.new ≡ page.old ++ text_of (item_line item.now)) }
 {
@@ -168,7 +168,7 @@ fn write_item(item: &Item, page: &mut Page) -> Result<(), AllocError>
 }
 
 /// Writes the lines of items.
-#[tactic(auto, using(crate::proofs::Texts::lists))]
+#[tactic(auto, using(crate::proofs::PieceLaws::lists))]
 fn write_items(items: &[Item], page: &mut Page) -> Result<(), AllocError>
     ensures { OnOk result (page.new ≡ page.old ++ text_of (flat_map item_line items.now)) }
 {
@@ -179,7 +179,7 @@ fn write_items(items: &[Item], page: &mut Page) -> Result<(), AllocError>
 }
 
 /// Writes the lines of candidates.
-#[tactic(auto, using(crate::proofs::Texts::lists))]
+#[tactic(auto, using(crate::proofs::PieceLaws::lists))]
 fn write_candidates(scripts: &[Items<Command>], page: &mut Page) -> Result<(), AllocError>
     ensures { OnOk result (page.new ≡ page.old ++ text_of (flat_map candidate_line scripts.now)) }
 {
@@ -190,7 +190,7 @@ fn write_candidates(scripts: &[Items<Command>], page: &mut Page) -> Result<(), A
 }
 
 /// Writes a nest's loops, then its candidates.
-#[tactic(auto, unfolding(crate::specs::Contents::unit_lines), using(crate::proofs::Texts::texts))]
+#[tactic(auto, unfolding(crate::specs::Contents::unit_lines), using(crate::proofs::PieceLaws::texts))]
 fn write_unit(scalars: &[Scalar], unit: &NestUnit, page: &mut Page) -> Result<(), AllocError>
     ensures { OnOk result (page.new ≡ page.old ++ text_of (unit_lines scalars.now unit.now)) }
 {
@@ -204,7 +204,7 @@ fn write_unit(scalars: &[Scalar], unit: &NestUnit, page: &mut Page) -> Result<()
 }
 
 /// Writes the nests.
-#[tactic(auto, using(crate::proofs::Texts::lists))]
+#[tactic(auto, using(crate::proofs::PieceLaws::lists))]
 fn write_units(scalars: &[Scalar], units: &[NestUnit], page: &mut Page) -> Result<(), AllocError>
     ensures { OnOk result (page.new ≡ page.old ++ text_of (flat_map (unit_lines scalars.now) units.now)) }
 {

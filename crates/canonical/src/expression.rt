@@ -13,7 +13,7 @@ use nest_tokens::Mark;
 use std::alloc::AllocError;
 
 /// The group of an expression.
-#[tactic(auto, using(crate::proofs::Printing::groups))]
+#[tactic(auto, using(crate::proofs::PrintingLaws::groups))]
 fn group_of(labels: &Labels<'_>, expr: &Expr) -> Group
     ensures { result ≡ (printed (labels_of labels.now) expr.now).group }
 {
@@ -25,7 +25,7 @@ fn group_of(labels: &Labels<'_>, expr: &Expr) -> Group
 
 /// Writes an expression where one of a group is wanted.
 #[cycle(print)]
-#[tactic(auto, using(crate::proofs::Printing::grouped))]
+#[tactic(auto, using(crate::proofs::PrintingLaws::grouped))]
 fn write_grouped(
     labels: &Labels<'_>,
     expr: &Expr,
@@ -45,7 +45,7 @@ fn write_grouped(
 
 /// Writes an expression without parentheses round it.
 #[cycle(print)]
-#[tactic(auto, using(crate::proofs::Printing::printings))]
+#[tactic(auto, using(crate::proofs::PrintingLaws::printings))]
 fn write_bare(labels: &Labels<'_>, expr: &Expr, page: &mut Page) -> Result<(), AllocError>
     ensures { OnOk result (page.new ≡ page.old ++ text_of (printed (labels_of labels.now) expr.now).pieces) }
 {

@@ -14,7 +14,7 @@ use nest_tokens::Mark;
 use std::alloc::AllocError;
 
 /// Writes a step, which stands only where it is not 1.
-#[tactic(auto, unfolding(crate::specs::Loops::step_of), using(crate::proofs::Texts::texts))]
+#[tactic(auto, unfolding(crate::specs::Loops::step_of), using(crate::proofs::PieceLaws::texts))]
 fn write_step(stride: i64, page: &mut Page) -> Result<(), AllocError>
     ensures { OnOk result (page.new ≡ page.old ++ text_of (step_of stride)) }
 {
@@ -26,7 +26,7 @@ fn write_step(stride: i64, page: &mut Page) -> Result<(), AllocError>
 }
 
 /// Writes the head of a `for` behind its name.
-#[tactic(auto, unfolding(crate::specs::Loops::bounds_of), using(crate::proofs::Texts::texts))]
+#[tactic(auto, unfolding(crate::specs::Loops::bounds_of), using(crate::proofs::PieceLaws::texts))]
 fn write_bounds(
     labels: &Labels<'_>,
     lower: &Expr,
@@ -44,7 +44,7 @@ fn write_bounds(
 }
 
 /// Writes the head of a loop at a level, from 0.
-#[tactic(auto, unfolding(crate::specs::Loops::heading_of), using(crate::proofs::Texts::texts))]
+#[tactic(auto, unfolding(crate::specs::Loops::heading_of), using(crate::proofs::PieceLaws::texts))]
 fn write_heading(
     labels: &Labels<'_>,
     level: usize,
@@ -69,7 +69,7 @@ fn write_heading(
 }
 
 /// Writes the line that opens a loop at a level, from 0.
-#[tactic(auto, unfolding(crate::specs::Loops::opening_line), using(crate::proofs::Texts::texts))]
+#[tactic(auto, unfolding(crate::specs::Loops::opening_line), using(crate::proofs::PieceLaws::texts))]
 fn write_opening(
     labels: &Labels<'_>,
     level: usize,
@@ -86,7 +86,7 @@ fn write_opening(
 }
 
 /// Writes loops from a level on, each in the one before it.
-#[tactic(auto, using(crate::proofs::Nested::nested))]
+#[tactic(auto, using(crate::proofs::NestedLoopLaws::nested))]
 pub fn write_loops(
     labels: &Labels<'_>,
     level: usize,

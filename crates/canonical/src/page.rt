@@ -51,7 +51,7 @@ impl Page {
         Ok(())
     }
 
-    /// Writes a sign or a reserved word.
+    /// Writes a sign or a keyword.
     pub fn mark(&mut self, mark: Mark) -> Result<(), AllocError>
         ensures { OnOk result (self.new ≡ self.old ++ spelling mark) }
     {
@@ -66,7 +66,7 @@ impl Page {
     }
 
     /// Writes a sign or a word with one space on each side.
-    #[tactic(auto, using(crate::proofs::Texts::texts))]
+    #[tactic(auto, using(crate::proofs::PieceLaws::texts))]
     pub fn spaced(&mut self, mark: Mark) -> Result<(), AllocError>
         ensures { OnOk result (self.new ≡ self.old ++ text_of (spaced mark)) }
     {

@@ -20,7 +20,7 @@ fn write_word(word: CommandWord, page: &mut Page) -> Result<(), AllocError>
 }
 
 /// Writes a number behind a space.
-#[tactic(auto, using(crate::proofs::Texts::texts))]
+#[tactic(auto, using(crate::proofs::PieceLaws::texts))]
 pub fn write_operand(number: u64, page: &mut Page) -> Result<(), AllocError>
     ensures { OnOk result (page.new ≡ page.old ++ text_of (operand number)) }
 {
@@ -29,7 +29,7 @@ pub fn write_operand(number: u64, page: &mut Page) -> Result<(), AllocError>
 }
 
 /// Writes a number with its sign, behind a space.
-#[tactic(auto, using(crate::proofs::Texts::texts))]
+#[tactic(auto, using(crate::proofs::PieceLaws::texts))]
 pub fn write_signed(number: i64, page: &mut Page) -> Result<(), AllocError>
     ensures { OnOk result (page.new ≡ page.old ++ text_of (signed_operand number)) }
 {
@@ -38,7 +38,7 @@ pub fn write_signed(number: i64, page: &mut Page) -> Result<(), AllocError>
 }
 
 /// Writes numbers, each behind a space.
-#[tactic(auto, using(crate::proofs::Texts::lists))]
+#[tactic(auto, using(crate::proofs::PieceLaws::lists))]
 fn write_rows(rows: &[u8], page: &mut Page) -> Result<(), AllocError>
     ensures { OnOk result (page.new ≡ page.old ++ text_of (flat_map operand rows.now)) }
 {
@@ -49,7 +49,7 @@ fn write_rows(rows: &[u8], page: &mut Page) -> Result<(), AllocError>
 }
 
 /// Writes a command.
-#[tactic(auto, unfolding(crate::specs::Scripts::command_of), using(crate::proofs::Texts::texts, crate::proofs::Words::words))]
+#[tactic(auto, unfolding(crate::specs::Scripts::command_of), using(crate::proofs::PieceLaws::texts, crate::proofs::WordLaws::words))]
 fn write_command(command: &Command, page: &mut Page) -> Result<(), AllocError>
     ensures { OnOk result (page.new ≡ page.old ++ text_of (command_of command.now)) }
 {
@@ -86,7 +86,7 @@ fn write_command(command: &Command, page: &mut Page) -> Result<(), AllocError>
 }
 
 /// Writes a command behind a semicolon.
-#[tactic(auto, using(crate::proofs::Texts::texts))]
+#[tactic(auto, using(crate::proofs::PieceLaws::texts))]
 fn write_next(command: &Command, page: &mut Page) -> Result<(), AllocError>
     ensures { OnOk result (page.new ≡ page.old ++ text_of (next_command command.now)) }
 {
@@ -96,7 +96,7 @@ fn write_next(command: &Command, page: &mut Page) -> Result<(), AllocError>
 }
 
 /// Writes commands, each behind a semicolon.
-#[tactic(auto, using(crate::proofs::Texts::lists))]
+#[tactic(auto, using(crate::proofs::PieceLaws::lists))]
 fn write_others(commands: &[Command], page: &mut Page) -> Result<(), AllocError>
     ensures { OnOk result (page.new ≡ page.old ++ text_of (flat_map next_command commands.now)) }
 {
@@ -107,7 +107,7 @@ fn write_others(commands: &[Command], page: &mut Page) -> Result<(), AllocError>
 }
 
 /// Writes the commands of a script, with a space behind the last.
-#[tactic(auto, unfolding(crate::specs::Scripts::commands_of), using(crate::proofs::Texts::texts))]
+#[tactic(auto, unfolding(crate::specs::Scripts::commands_of), using(crate::proofs::PieceLaws::texts))]
 fn write_commands(script: &[Command], page: &mut Page) -> Result<(), AllocError>
     ensures { OnOk result (page.new ≡ page.old ++ text_of (commands_of script.now)) }
 {
@@ -120,7 +120,7 @@ fn write_commands(script: &[Command], page: &mut Page) -> Result<(), AllocError>
 }
 
 /// Writes the line of a candidate.
-#[tactic(auto, unfolding(crate::specs::Scripts::candidate_line), using(crate::proofs::Texts::texts))]
+#[tactic(auto, unfolding(crate::specs::Scripts::candidate_line), using(crate::proofs::PieceLaws::texts))]
 pub fn write_candidate(script: &[Command], page: &mut Page) -> Result<(), AllocError>
     ensures { OnOk result (page.new ≡ page.old ++ text_of (candidate_line script.now)) }
 {

@@ -15,7 +15,7 @@ use nest_tokens::Mark;
 use std::alloc::AllocError;
 
 /// Writes the sign of an assignment and its value.
-#[tactic(auto, using(crate::proofs::Texts::texts))]
+#[tactic(auto, using(crate::proofs::PieceLaws::texts))]
 fn write_value(labels: &Labels<'_>, value: &Expr, page: &mut Page) -> Result<(), AllocError>
     ensures { OnOk result (page.new ≡ page.old ++ text_of (spaced AssignMark ++ expression_of (labels_of labels.now) value.now)) }
 {
@@ -24,7 +24,7 @@ fn write_value(labels: &Labels<'_>, value: &Expr, page: &mut Page) -> Result<(),
 }
 
 /// Writes a local and its value.
-#[tactic(auto, unfolding(crate::specs::Statements::let_line), using(crate::proofs::Texts::texts))]
+#[tactic(auto, unfolding(crate::specs::Statements::let_line), using(crate::proofs::PieceLaws::texts))]
 fn write_let(
     labels: &Labels<'_>,
     number: u8,
@@ -40,7 +40,7 @@ fn write_let(
 }
 
 /// Writes a scalar and its new value.
-#[tactic(auto, unfolding(crate::specs::Statements::set_line), using(crate::proofs::Texts::texts))]
+#[tactic(auto, unfolding(crate::specs::Statements::set_line), using(crate::proofs::PieceLaws::texts))]
 fn write_set(
     labels: &Labels<'_>,
     number: u8,
@@ -54,7 +54,7 @@ fn write_set(
 }
 
 /// Writes the address and the value of a store.
-#[tactic(auto, unfolding(crate::specs::Statements::store_line), using(crate::proofs::Texts::texts))]
+#[tactic(auto, unfolding(crate::specs::Statements::store_line), using(crate::proofs::PieceLaws::texts))]
 fn write_store(
     labels: &Labels<'_>,
     address: &Expr,
@@ -70,7 +70,7 @@ fn write_store(
 }
 
 /// Writes the condition of an `if` and the brace behind it.
-#[tactic(auto, unfolding(crate::specs::Statements::if_line), using(crate::proofs::Texts::texts))]
+#[tactic(auto, unfolding(crate::specs::Statements::if_line), using(crate::proofs::PieceLaws::texts))]
 fn write_if(labels: &Labels<'_>, condition: &Expr, page: &mut Page) -> Result<(), AllocError>
     ensures { OnOk result (page.new ≡ page.old ++ text_of (if_line (labels_of labels.now) condition.now)) }
 {
@@ -82,7 +82,7 @@ fn write_if(labels: &Labels<'_>, condition: &Expr, page: &mut Page) -> Result<()
 }
 
 /// Writes the line between two branches.
-#[tactic(auto, using(crate::proofs::Texts::texts))]
+#[tactic(auto, using(crate::proofs::PieceLaws::texts))]
 fn write_else(depth: usize, page: &mut Page) -> Result<(), AllocError>
     ensures { OnOk result (page.new ≡ page.old ++ text_of (line depth else_line)) }
 {
@@ -94,7 +94,7 @@ fn write_else(depth: usize, page: &mut Page) -> Result<(), AllocError>
 }
 
 /// Writes the line of a closing brace.
-#[tactic(auto, using(crate::proofs::Texts::texts))]
+#[tactic(auto, using(crate::proofs::PieceLaws::texts))]
 pub fn write_close(depth: usize, page: &mut Page) -> Result<(), AllocError>
     ensures { OnOk result (page.new ≡ page.old ++ text_of (line depth close_line)) }
 {
@@ -105,7 +105,7 @@ pub fn write_close(depth: usize, page: &mut Page) -> Result<(), AllocError>
 
 /// Writes the lines of a statement, within so many open braces.
 #[cycle(write)]
-#[tactic(auto, using(crate::proofs::Stated::stated))]
+#[tactic(auto, using(crate::proofs::StatementEquationLaws::stated))]
 fn write_statement(
     labels: &Labels<'_>,
     statement: &Stmt,
@@ -143,7 +143,7 @@ fn write_statement(
 
 /// Writes an else branch, which stands only where it has a statement.
 #[cycle(write)]
-#[tactic(auto, using(crate::proofs::Stated::stated))]
+#[tactic(auto, using(crate::proofs::StatementEquationLaws::stated))]
 fn write_otherwise(
     labels: &Labels<'_>,
     branch: &[Stmt],
@@ -161,7 +161,7 @@ fn write_otherwise(
 
 /// Writes statements, one behind another.
 #[cycle(write)]
-#[tactic(auto, using(crate::proofs::Stated::stated))]
+#[tactic(auto, using(crate::proofs::StatementEquationLaws::stated))]
 pub fn write_statements(
     labels: &Labels<'_>,
     block: &[Stmt],

@@ -14,7 +14,8 @@ use Rattle.domain.specs.Instances.{Instance, Predicted, padded}
 use Rattle.domain.specs.Launches.{IsLaunched}
 use Rattle.transform.specs.Schedules.{Schedule}
 use Rattle.dependence.specs.Legality.{Legal}
-use Rattle.orders.specs.Orders.{Has, Ordered, Differ}
+use Rattle.orders.specs.Orders.{Ordered, Differ}
+use Rattle.plain_lemmas.specs.Lists.{Has}
 use Rattle.transform.specs.Schedules.{phase}
 use Rattle.skeletons.specs.Cells.{Extent, Cell, AreCellsOf}
 use Rattle.follow.specs.ChunkRuns.{ChunkRun}

@@ -2,7 +2,8 @@
 use Rattle.std.specs.Prelude.{◌≡◌, ◌↔◌, ◌<◌, ◌≤◌, ℕ, suc, ◌+◌, ℤ, false, List, [], ◌∷◌, ◌++◌, length, Option, Some, None, Result, Ok, Err}
 use Rattle.std.specs.declared.alloc.AllocError.{AllocError}
 use Rattle.core_steps.specs.declared.view.View.{View}
-use Rattle.orders.specs.Orders.{Has, Ordered, Differ}
+use Rattle.orders.specs.Orders.{Ordered, Differ}
+use Rattle.plain_lemmas.specs.Lists.{Has}
 use Rattle.domain.specs.Instances.{Instance, padded}
 use Rattle.transform.specs.Schedules.{phase}
 use Rattle.skeletons.specs.Cells.{Extent, Cell, LiesIn}

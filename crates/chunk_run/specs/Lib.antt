@@ -3,5 +3,6 @@ pub mod ChunkEnds
 pub mod Groups
 pub mod Parts
 pub mod Ready
+pub mod Moments
 pub mod Walks
 pub mod Examples

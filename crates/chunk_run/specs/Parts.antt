@@ -8,7 +8,7 @@ use Rattle.domain.specs.Tables.{Table}
 use Rattle.domain.specs.Instances.{Instance, Predicted, IsOriginal}
 use Rattle.domain.specs.Footprints.{Writes}
 use Rattle.orders.specs.Runs.{Outcome}
-use Rattle.orders.specs.Orders.{Has}
+use Rattle.plain_lemmas.specs.Lists.{Has}
 use Rattle.orders.specs.Tiles.{flat}
 use Rattle.core_steps.specs.Plans.{no_plan}
 use Rattle.skeletons.specs.Cells.{Cell, Extent, AreListsOf}

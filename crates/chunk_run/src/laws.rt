@@ -2,6 +2,7 @@
 
 ghost use Rattle.chunk_run.specs.ScheduleLaw.{ScheduledKeeps};
 ghost use Rattle.chunk_run.specs.Groups.{OneTileCounts};
+ghost use Rattle.chunk_run.specs.Moments.{OthersStay};
 
 /// The schedule law: where a schedule is legal, the follow run of the scheduled list of a launched chunk is that of its
 /// predicted instances in original order: the same memory and the same steps, or None for both.
@@ -12,4 +13,10 @@ pub fn scheduled_keeps()
 /// The numbers of non-empty tiles of a chunk's non-empty phases are one list.
 pub fn one_tile_counts()
     ensures { OneTileCounts }
+{}
+
+/// At every moment of a chunk, words that are no address of its plan's stripes have their values from the chunk's
+/// start.
+pub fn others_stay()
+    ensures { OthersStay }
 {}

@@ -11,7 +11,7 @@ ghost use Rattle.chunk_run.specs.Groups.{AttemptGains, GainsGroup, RunsOn, Store
 
 use crate::launch::Launch;
 use crate::prepared::{Prepared, run_number};
-use crate::scalars::{begins, close};
+use crate::scalars::{begins, set_closing};
 use backup::{restore, take};
 use crew::Crew;
 use nest_lang::Budget;
@@ -24,8 +24,8 @@ use verified_turns::Worker;
 /// How the run of a chunk ended.
 #[derive(Clone, Copy, Debug, PartialEq, Eq)]
 pub enum ChunkEnd {
-    /// It follows its prediction. It had so many instances, in so many phases and in so many pairs of a phase and a tile,
-    /// and took so many steps.
+    /// It follows its prediction. It had so many instances, in so many phases and in so many pairs of a phase and a
+    /// tile, and took so many steps.
     Committed {
         instances: u64,
         phases: u64,
@@ -37,8 +37,8 @@ pub enum ChunkEnd {
 }
 
 /// Runs the phases of a chunk, one after another, until one fails, with so many steps left. The scalars that the chunk
-/// begins with are compared when the first phase is over. It gives the steps that are left then; None where the chunk has
-/// a deviation. Takes no memory.
+/// begins with are compared when the first phase is over. It gives the steps that are left then; None where the chunk
+/// has a deviation. Takes no memory.
 fn run_phases<'a, C: Crew, const D: usize>(
     chunk: &'a Prepared<'a, D>,
     scalars: &[i64],
@@ -103,14 +103,16 @@ fn attempt<'a, C: Crew, const D: usize>(
     Ok(run_phases(chunk, scalars, main, &mut workers, crew, left))
 }
 
-/// Runs a launched chunk in the order of a schedule by its workers over the shared words, each instance verified against
-/// its prediction. `RolledBack` comes exactly where the chunk has a deviation; words, scalars and steps are then as before.
-/// `Committed` comes exactly where it follows its prediction: words, scalars and steps are then those of the plain run of
-/// its turns. `AllocError` comes before the first phase is posted, and leaves words, scalars, steps and what the crew was
-/// handed. The crew is handed each phase that was posted, with all workers: every phase of a chunk that is committed, and
-/// at least the first of one that is rolled back. The schedule is legal for chunks of some length, from this one's turns
-/// to 1,024; no plan is posted, also after every answer; the epoch is at most 2^62, and rises by the number of phases that
-/// the crew was handed; there are 1 to 64 workers; the steps left and used are together at most 2^32. D is from 1 to 6.
+/// Runs a launched chunk in the order of a schedule by its workers over the shared words, each instance verified
+/// against its prediction. `RolledBack` comes exactly where the chunk has a deviation; words, scalars and steps are
+/// then as before. `Committed` comes exactly where it follows its prediction: words, scalars and steps are then those
+/// of the plain run of its turns. `AllocError` comes before the first phase is posted, and leaves words, scalars, steps
+/// and what the crew was handed. The crew is handed each phase that was posted, with all workers: every phase of a
+/// chunk that is committed, and at least the first of one that is rolled back. After every answer each word that no
+/// predicted instance writes is as before; at every moment of the chunk it is so by `laws::others_stay`. The schedule
+/// is legal for chunks of some length, from this one's turns to 1,024; no plan is posted, also after every answer; the
+/// epoch is at most 2^62, and rises by the number of phases that the crew was handed; there are 1 to 64 workers; the
+/// steps left and used are together at most 2^32. D is from 1 to 6.
 pub fn run_chunk<C: Crew, const D: usize>(
     alloc: Global,
     launch: &Launch<'_, D>,
@@ -130,6 +132,7 @@ pub fn run_chunk<C: Crew, const D: usize>(
     requires steps { steps.old.left + steps.old.used ≤ 2 ^ 32 }
     ensures ended { let l = launch.now in let k = l.task.now in HasEnded (record { table = k.pred.now; schedule = l.schedule.now; chunk = k.chunk }) k.nest.now.loops k.outer
         (between (signed main.old.view.base) scalars.old steps.old) (between (signed main.new.view.base) scalars.new steps.new) result }
+    ensures others { let k = launch.now.task.now in ChangesChunk k.pred.now k.chunk (signed main.old.view.base) (signed main.new.view.base) }
     ensures handed { let l = launch.now in let k = l.task.now in GainsGroup (record { table = k.pred.now; schedule = l.schedule.now; chunk = k.chunk }) l.workers (C.handed crew.old) (C.handed crew.new) result }
     ensures stored { StoredBefore main.old.view.epoch main.new.view.stored result }
     ensures table { main.new.table ≡ main.old.table }
@@ -137,7 +140,7 @@ pub fn run_chunk<C: Crew, const D: usize>(
     ensures epoch { main.new.view.epoch + length (C.handed crew.old) ≡ main.old.view.epoch + length (C.handed crew.new) }
     ensures few_phases { main.new.view.epoch ≤ main.old.view.epoch + 65536 }
 {
-    // what is kept by every schedule is said by its matrix
+    // for the prover alone: the contract of this call says what every schedule keeps
     let _matrix = launch.schedule.matrix();
     let plan = plan(
         alloc,
@@ -157,7 +160,7 @@ pub fn run_chunk<C: Crew, const D: usize>(
         restore(main, launch.words, &backup);
         return Ok(ChunkEnd::RolledBack);
     };
-    close(launch.task, scalars);
+    set_closing(launch.task, scalars);
     let taken = steps.left - left;
     steps.left = left;
     steps.used += taken;

@@ -46,7 +46,7 @@ pub fn begins<const D: usize>(task: &Task<'_, D>, scalars: &[i64]) -> bool
 }
 
 /// Sets the scalars to those that are expected after the chunk's last instance, which are i64s.
-pub fn close<const D: usize>(task: &Task<'_, D>, scalars: &mut [i64])
+pub fn set_closing<const D: usize>(task: &Task<'_, D>, scalars: &mut [i64])
     requires few { D < 7 }
     requires task { IsSomeTask D task.now.scalars task.now.nest.now.loops task.now.pred.now task.now.outer task.now.chunk }
     requires count { length scalars.old ≡ task.now.scalars }

@@ -1,5 +1,5 @@
-pub mod Taken
-pub mod Digits
-pub mod Found
-pub mod Computed
-pub mod Decided
+pub mod TakenWordLaws
+pub mod DigitLaws
+pub mod FoundWordLaws
+pub mod ExampleLaws
+pub mod InvocationLaws

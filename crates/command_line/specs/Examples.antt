@@ -1,4 +1,4 @@
--- Lists of words, and what each is, computed from the definition.
+-- Lists of arguments, and what each is, computed from the definition.
 use Rattle.std.specs.Prelude.{ℕ, pos, [], ◌∷◌, codes}
 use Rattle.command_line.specs.declared.invocation.Invocation.{Invocation}
 use Rattle.command_line.specs.declared.invocation.Mode.{Mode}
@@ -6,27 +6,27 @@ use Rattle.command_line.specs.declared.invocation.Mode.TheVariants.{Plain, Run, 
 use Rattle.command_line.specs.declared.recipe.Shape.TheVariants.{List as Linked}
 use Rattle.command_line.specs.Invocations.{IsInvocation, IsNoInvocation}
 
--- a command of these numbers: workers, chunk, sample, steps
-abbrev pub command : Mode → ℕ → ℕ → ℕ → ℕ → Invocation
-command mode workers chunk sample steps = record {
+-- an invocation with these numbers: workers, chunk, sample, steps
+abbrev pub invocation : Mode → ℕ → ℕ → ℕ → ℕ → Invocation
+invocation mode workers chunk sample steps = record {
   mode = mode;
   options = record { workers = workers; chunk = pos chunk; sample = pos sample; steps = steps };
 }
 
--- words that are commands: without options all defaults stand; an option stands before the mode or
--- after it, as two words or as one; leading zeros are fine
+-- arguments that are an invocation: without options all defaults stand; an option stands before the mode or
+-- after it, as two arguments or as one; leading zeros are fine
 pub record AreInvocations : Type 0 where
-  pub plain : IsInvocation (codes "plain" ∷ []) (command Plain 4 32 4 1000000)
-  pub run : IsInvocation (codes "--sample" ∷ codes "8" ∷ codes "run" ∷ codes "--chunk=64" ∷ []) (command Run 4 64 8 1000000)
-  pub check : IsInvocation (codes "check" ∷ []) (command Check 4 32 4 1000000)
-  pub deps : IsInvocation (codes "deps" ∷ codes "--chunk=8" ∷ []) (command Deps 4 8 4 1000000)
-  pub gen : IsInvocation (codes "gen" ∷ codes "007" ∷ codes "--chunk" ∷ codes "8" ∷ codes "list" ∷ codes "2" ∷ []) (command (Gen (record { seed = 7; shape = Linked; size = 2 })) 4 8 4 1000000)
-  pub steps : IsInvocation (codes "plain" ∷ codes "--steps" ∷ codes "10" ∷ []) (command Plain 4 32 4 10)
-  pub joined_and_first : IsInvocation (codes "--steps=10" ∷ codes "plain" ∷ []) (command Plain 4 32 4 10)
-  pub all_options : IsInvocation (codes "--workers" ∷ codes "64" ∷ codes "plain" ∷ codes "--chunk=1" ∷ codes "--sample" ∷ codes "0000000008" ∷ codes "--steps=4294967296" ∷ []) (command Plain 64 1 8 4294967296)
-  pub ends_the_options : IsInvocation (codes "--chunk" ∷ codes "8" ∷ codes "--" ∷ codes "plain" ∷ []) (command Plain 4 8 4 1000000)
+  pub plain : IsInvocation (codes "plain" ∷ []) (invocation Plain 4 32 4 1000000)
+  pub run : IsInvocation (codes "--sample" ∷ codes "8" ∷ codes "run" ∷ codes "--chunk=64" ∷ []) (invocation Run 4 64 8 1000000)
+  pub check : IsInvocation (codes "check" ∷ []) (invocation Check 4 32 4 1000000)
+  pub deps : IsInvocation (codes "deps" ∷ codes "--chunk=8" ∷ []) (invocation Deps 4 8 4 1000000)
+  pub gen : IsInvocation (codes "gen" ∷ codes "007" ∷ codes "--chunk" ∷ codes "8" ∷ codes "list" ∷ codes "2" ∷ []) (invocation (Gen (record { seed = 7; shape = Linked; size = 2 })) 4 8 4 1000000)
+  pub steps : IsInvocation (codes "plain" ∷ codes "--steps" ∷ codes "10" ∷ []) (invocation Plain 4 32 4 10)
+  pub joined_and_first : IsInvocation (codes "--steps=10" ∷ codes "plain" ∷ []) (invocation Plain 4 32 4 10)
+  pub all_options : IsInvocation (codes "--workers" ∷ codes "64" ∷ codes "plain" ∷ codes "--chunk=1" ∷ codes "--sample" ∷ codes "0000000008" ∷ codes "--steps=4294967296" ∷ []) (invocation Plain 64 1 8 4294967296)
+  pub ends_the_options : IsInvocation (codes "--chunk" ∷ codes "8" ∷ codes "--" ∷ codes "plain" ∷ []) (invocation Plain 4 8 4 1000000)
 
--- words that are no command
+-- arguments that are none
 pub record AreNone : Type 0 where
   pub no_word : IsNoInvocation []
   pub no_mode : IsNoInvocation (codes "--steps" ∷ codes "10" ∷ [])

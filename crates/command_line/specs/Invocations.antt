@@ -1,4 +1,4 @@
--- Invocations: which words are one, and which.
+-- Invocations: which arguments are one, and which one.
 use Rattle.std.specs.Prelude.{◌≡◌, ℕ, ℤ, pos, List, Option, Some, None, true, codes}
 use Rattle.clap.specs.Words.{Row, Text, all_of, first_of, matches_of, takes}
 use Rattle.command_line.specs.declared.invocation.Invocation.{Invocation}
@@ -26,26 +26,26 @@ pub record HasOptions (rows : List Row) (options : Options) : Type 0 where
   pub sample : HasNumber rows (codes "sample") 2 64 options.sample
   pub steps : HasNumber rows (codes "steps") 0 4294967296 (pos options.steps)
 
--- the mode that was found: MODE is its word, and ARGS are its arguments
+-- the mode that was found: MODE is its word, and ARGS are the values behind it
 pub record IsFoundMode (rows : List Row) (mode : Mode) : Type 0 where
   pub word : Text
   pub value : first_of (codes "MODE") rows ≡ Some word
   pub is : IsModeOf word (all_of (codes "ARGS") rows) mode
 
--- what was found in the words is the invocation: its mode, and its options
+-- what was found in the arguments is the invocation: its mode, and its options
 pub record IsFoundInvocation (rows : List Row) (invocation : Invocation) : Type 0 where
   pub mode : IsFoundMode rows invocation.mode
   pub options : HasOptions rows invocation.options
 
--- the words are this invocation: `clap` takes them, and what it finds in them is the invocation
+-- the arguments are this invocation: `clap` takes them, and what it finds in them is the invocation
 pub record IsInvocation (words : List Text) (invocation : Invocation) : Type 0 where
   pub taken : takes syntax words ≡ true
   pub found : IsFoundInvocation (matches_of syntax words) invocation
 
--- the words are no invocation
+-- the arguments are no invocation
 abbrev pub IsNoInvocation : List Text → Type 0
 IsNoInvocation words = (invocation : Invocation) → IsInvocation words invocation → ⊥
 
--- the line that is written where the words are no invocation
+-- the line that is written where the arguments are no invocation
 abbrev pub usage_line : Text
 usage_line = codes "usage: nestrun plain|run|check|deps|gen [SEED KIND SIZE] [--workers N] [--chunk N] [--sample N] [--steps N]\n"

@@ -1,4 +1,4 @@
--- Modes: the word of each mode that is built, and its arguments.
+-- Modes: the word of each mode that is built, and the values behind it.
 use Rattle.std.specs.Prelude.{◌≡◌, pos, List, [], ◌∷◌, Option, Some, None, codes}
 use Rattle.clap.specs.Words.{Text}
 use Rattle.command_line.specs.declared.invocation.Mode.{Mode}
@@ -28,12 +28,12 @@ pub record IsRecipe (texts : List Text) (recipe : Recipe) : Type 0 where
   pub seed_is : IsNumberIn 0 4294967295 seed (pos recipe.seed)
   pub size_is : IsNumberIn 1 256 size (pos recipe.size)
 
--- mode `gen` has arguments, which are its recipe; no other mode has any
+-- mode `gen` has values, which are its recipe; no other mode has any
 abbrev pub HasArguments : Mode → Option (List Text) → Type 0
 HasArguments (Gen recipe) arguments = (texts : List Text) × (arguments ≡ Some texts) × IsRecipe texts recipe
 HasArguments mode arguments = arguments ≡ None
 
--- a word and the arguments behind it are those of a mode
+-- a word and the values behind it are those of a mode
 pub record IsModeOf (word : Text) (arguments : Option (List Text)) (mode : Mode) : Type 0 where
   pub word_is : word ≡ word_of mode
   pub has : HasArguments mode arguments

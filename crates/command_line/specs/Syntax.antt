@@ -1,4 +1,4 @@
--- Syntax: the one simple command of `clap` that the words are parsed with.
+-- Syntax: the one simple command of `clap` that the arguments are parsed with.
 use Rattle.std.specs.Prelude.{List, [], ◌∷◌, Some, true, codes, fold}
 use Rattle.clap.specs.Lexer.{usize_max}
 use Rattle.clap.specs.Simple.{on_top}
@@ -24,6 +24,6 @@ rules = mode_rule
     ∷ option_rule (codes "steps") (codes "1000000")
     ∷ args_rule ∷ []
 
--- the command with these arguments; its words begin after the program's name
+-- the command with these rules; the arguments begin after the program's name
 abbrev pub syntax : App
 syntax = fold with_rule (on_top (λ shape. record shape { no_binary_name = true }) (new_app (codes "nestrun"))) rules

@@ -1,4 +1,4 @@
-//! What the words ask for.
+//! What the arguments ask for.
 
 ghost use Rattle.std.specs.Prelude.{map, option_map};
 ghost use Rattle.command_line.specs.Invocations.{Finds};
@@ -22,7 +22,7 @@ pub enum Mode {
 }
 
 impl Mode {
-    /// The mode of a word and the arguments behind it, if one that is built has them.
+    /// The mode of a word and the values behind it, if one that is built has them.
     pub(crate) fn of_words(word: &str, arguments: Option<&[&str]>) -> Option<Mode>
         ensures { Finds result (IsModeOf word.now (option_map (λ texts. map (λ text. text.now) texts.now) arguments.entry)) }
     {

@@ -1,9 +1,10 @@
-//! The arguments of the program: which lists of words are an invocation, and which.
+//! The arguments of the program: which lists of them are an invocation, and which one.
 //!
-//! `invocation_of` reads the words after the program's name. It has them parsed by the kit's `clap`, with
-//! the one simple command that `specs/Syntax.antt` writes out, and judges what was found: the mode with its
-//! arguments, and the numbers of the four options in their ranges (`specs/Invocations.antt`). It stands on no
-//! crate of this repository. The layer above takes the `Invocation`, or `usage_text` where the words are no invocation.
+//! `invocation_of` reads the arguments after the program's name. It has them parsed by the kit's `clap`, with
+//! the one simple command that `specs/Syntax.antt` writes out, and judges what was found: the mode with the values
+//! behind it, and the numbers of the four options in their ranges (`specs/Invocations.antt`). It stands on no
+//! crate of this repository. The layer above takes the `Invocation`, or `usage_text` where the arguments are no
+//! invocation.
 #![tactic(auto)]
 
 mod invocation;

@@ -1,4 +1,4 @@
-//! The call that reads the words.
+//! The call that reads the arguments.
 
 ghost use Rattle.std.specs.Prelude.{◌≡◌, IfOk, map, pos, string_bytes};
 ghost use Rattle.clap.specs.Words.{found_of, rows_of, kind_of};
@@ -14,10 +14,10 @@ use std::alloc::{AllocError, Global};
 const USAGE: &str =
     "usage: nestrun plain|run|check|deps|gen [SEED KIND SIZE] [--workers N] [--chunk N] [--sample N] [--steps N]\n";
 
-/// The invocation that the words after the program's name are, or None exactly where they are none
+/// The invocation that the arguments after the program's name are, or None exactly where they are none
 /// (docs/DEFINITIONS.md, Invocations).
 ///
-/// `AllocError` comes only for want of memory, and never in place of None.
+/// Want of memory is a free answer: no clause says when it comes.
 pub fn invocation_of(alloc: Global, words: &[String]) -> Result<Option<Invocation>, AllocError>
     ensures { IfOk result (λ found. Finds found (IsInvocation (map string_bytes words.now))) }
 {
@@ -28,14 +28,14 @@ pub fn invocation_of(alloc: Global, words: &[String]) -> Result<Option<Invocatio
     }
 }
 
-/// What is written where the words are no invocation: one line, with its newline.
+/// What is written where the arguments are no invocation: one line, with its newline.
 pub fn usage_text() -> &'static str
     ensures { result.now ≡ usage_line }
 {
     USAGE
 }
 
-/// The invocation that was found in the words.
+/// The invocation that was found in the arguments.
 fn invocation_in(matches: &ArgMatches<'_>) -> Option<Invocation>
     ensures { Finds result (IsFoundInvocation (rows_of (found_of matches.now))) }
 {
@@ -45,7 +45,7 @@ fn invocation_in(matches: &ArgMatches<'_>) -> Option<Invocation>
     })
 }
 
-/// The mode, with its arguments.
+/// The mode, with the values behind it.
 fn mode_in(matches: &ArgMatches<'_>) -> Option<Mode>
     ensures { Finds result (IsFoundMode (rows_of (found_of matches.now))) }
 {

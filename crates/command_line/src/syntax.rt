@@ -1,4 +1,4 @@
-//! The one simple command that the words are parsed with.
+//! The one simple command that the arguments are parsed with.
 
 ghost use Rattle.std.specs.Prelude.{◌≡◌, IfOk, false};
 ghost use Rattle.clap.specs.Words.{app_of, rule_of};

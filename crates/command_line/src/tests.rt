@@ -1,4 +1,4 @@
-//! Expected answers are those of the words' description, found by hand.
+//! Expected answers are those of the arguments' description, found by hand.
 use super::*;
 use std::alloc::Global;
 use std::test::Fail;
@@ -11,7 +11,7 @@ fn read(alloc: Global, words: &[&str]) -> Result<Option<Invocation>, Fail> {
     invocation_of(alloc, owned.as_slice()).map_err(|_| Fail::from("no memory"))
 }
 
-// Words, their mode, and their workers, chunk, sample and steps. More words stand in cases/words.jsonl.
+// Arguments, their mode, and their workers, chunk, sample and steps. More lists stand in cases/words.jsonl.
 static INVOCATIONS: [(&[&str], Mode, (u32, i64, i64, u64)); 4] = [
     (&["plain"], Mode::Plain, (4, 32, 4, 1_000_000)),
     (

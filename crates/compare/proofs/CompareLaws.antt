@@ -3,9 +3,9 @@ use Rattle.std.proofs.Common.{ap, inl, inr, ⊎_elim}
 use Rattle.domain.specs.Instances.{opening_at}
 use Rattle.compare.specs.Comparisons.{Comparison}
 use Rattle.compare.specs.CompareLaws.{ComparisonFindsFirst, TurnsShowInnerTrips, TasksAreWatchable}
-use Rattle.compare.proofs.PredictedChains.{tasks-are-chunks}
-use Rattle.compare.proofs.Telling.{turns-tell}
-use Rattle.compare.proofs.Watching.{shows, keeps}
+use Rattle.compare.proofs.PredictedChainLaws.{tasks-are-chunks}
+use Rattle.compare.proofs.InnerTripLaws.{turns-tell}
+use Rattle.compare.proofs.WatchLaws.{shows, keeps}
 
 pub comparison-finds-first : ComparisonFindsFirst
 comparison-finds-first t chunk shown c all chain = (

@@ -1,5 +1,6 @@
 -- Compared: the deviation of a chunk's plain run, with the instance and both values.
 use Rattle.std.specs.Prelude.{◌≡◌, ℕ, ℤ, unsigned_abs, List, [], ◌∷◌, Option, Some, None}
+use Rattle.std.specs.List.{All}
 use Rattle.nest_lang.specs.declared.tree.Loop.{Loop}
 use Rattle.nest_lang.specs.declared.state.Outer.{Outer}
 use Rattle.nest_lang.specs.Lookups.{Expectation}
@@ -14,6 +15,7 @@ use Rattle.follow.specs.Deviations.{Deviation, Differs, Halts, Limit, IsDeviatio
 use Rattle.follow.specs.Hows.{how_of}
 use Rattle.follow_chunk.specs.declared.task.Deviation as code
 use Rattle.follow_chunk.specs.Predicted.{instance_of, forecast_of}
+use Rattle.profile.specs.Reach.{HasValue}
 use Rattle.compare.specs.Kept.{kept_deviation}
 use Rattle.compare.specs.ChainLaw.{run_of_chunk}
 use Rattle.compare.specs.Comparisons.{Comparison, MayCompare, fresh}
@@ -34,6 +36,12 @@ instance_in t chunk observations Limit = due_after t (opening_at t chunk.first) 
 abbrev pub IsDeviationOf : {D : ℕ} → Table → Chunk → ChunkRun → Option (code.Deviation D) → Type 0
 IsDeviationOf t chunk run None = FollowsPrediction (forecast_of t) run
 IsDeviationOf t chunk run (Some d) =
+    (e : Deviation) × IsDeviation (forecast_of t) run e × (d.at ≡ instance_in t chunk run.observations e) × (d.how ≡ how_of (forecast_of t) e)
+
+-- the same, but for the seen value, which is as it is kept
+abbrev pub IsKeptDeviationOf : {D : ℕ} → Table → Chunk → ChunkRun → Option (code.Deviation D) → Type 0
+IsKeptDeviationOf t chunk run None = FollowsPrediction (forecast_of t) run
+IsKeptDeviationOf t chunk run (Some d) =
     (e : Deviation) × IsDeviation (forecast_of t) run e × (d.at ≡ instance_in t chunk run.observations e) × (d.how ≡ how_of (forecast_of t) (kept_deviation e))
 
 -- the turns of a chunk ran from one moment to another, watched by a comparison that was new, up to this comparison and to
@@ -45,8 +53,15 @@ pub record Watched (t : Table) (chunk : Chunk) (x : Expectation) (k : ℕ) (loop
   pub ran : Ran MayCompare (turns_trace x k loops o (unsigned_abs chunk.turns)) a b finish
 
 -- whatever turns of a chunk it watched, and however they finished, this is the deviation of their run from the state and
--- the steps left at their start
+-- the steps left at their start, where each value that they showed is one of its kind, as in every run of i64s
 abbrev pub IsFirstDeviation : {D : ℕ} → Comparison → Finish → List ℤ → Option (code.Deviation D) → Type 0
 IsFirstDeviation c finish scalars result =
     (t : Table) (chunk : Chunk) (x : Expectation) (k : ℕ) (loops : List Loop) (o : Outer) (a b : Moment Comparison) → Watched t chunk x k loops o a b finish c scalars
+    → All HasValue (run_of_chunk t chunk (turns_trace x k loops o (unsigned_abs chunk.turns) a.store) a.store a.left).observations
     → IsDeviationOf t chunk (run_of_chunk t chunk (turns_trace x k loops o (unsigned_abs chunk.turns) a.store) a.store a.left) result
+
+-- and whatever they showed, it is so as it is kept
+abbrev pub IsFirstKept : {D : ℕ} → Comparison → Finish → List ℤ → Option (code.Deviation D) → Type 0
+IsFirstKept c finish scalars result =
+    (t : Table) (chunk : Chunk) (x : Expectation) (k : ℕ) (loops : List Loop) (o : Outer) (a b : Moment Comparison) → Watched t chunk x k loops o a b finish c scalars
+    → IsKeptDeviationOf t chunk (run_of_chunk t chunk (turns_trace x k loops o (unsigned_abs chunk.turns) a.store) a.store a.left) result

@@ -11,11 +11,11 @@ abbrev pub is_u64 : ℤ → Bool
 is_u64 (pos n) = nat_lt n (2 ^ 64)
 is_u64 (negsuc n) = false
 
--- the value where it is an i64, as each scalar, address and lower bound of a run is; another one isn't kept
+-- the value where it is an i64, as each scalar, address and lower bound of a run of i64s is; another one isn't kept
 abbrev pub kept_i64 : ℤ → ℤ
 kept_i64 v = if is_i64 v then v else pos 0
 
--- the value where it is a u64, as each trip of a run is
+-- the value where it is a u64, as each trip of a run of i64s is
 abbrev pub kept_u64 : ℤ → ℤ
 kept_u64 v = if is_u64 v then v else pos 0
 

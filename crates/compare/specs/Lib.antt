@@ -9,3 +9,4 @@ pub mod Occurrences
 pub mod CompareLaws
 pub mod Examples
 pub mod Premises
+pub mod KeptLaws

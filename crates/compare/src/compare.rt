@@ -5,7 +5,7 @@ ghost use Rattle.nest_lang.specs.Turns.{finish_of_turned};
 ghost use Rattle.compare.specs.ChainLaw.{behind};
 ghost use Rattle.compare.specs.Chunks.{IsWatchable};
 ghost use Rattle.compare.specs.Comparisons.{Comparison, fresh, found_at, found_of, MayCompare};
-ghost use Rattle.compare.specs.Compared.{IsFirstDeviation};
+ghost use Rattle.compare.specs.Compared.{IsFirstDeviation, IsFirstKept};
 ghost use Rattle.compare.specs.Differences.{scalars_difference};
 
 use crate::differences::{difference, scalars_difference};
@@ -53,7 +53,8 @@ impl<'a, const D: usize> Compare<'a, D> {
     /// nest, from the task's position, for the chunk's turns and with this watch, new at its start.
     pub fn close(self, turned: &Turned, scalars: &[i64]) -> Option<Deviation<D>>
         requires { length scalars.now ≤ 256 }
-        ensures { IsFirstDeviation {D = D} self.entry (finish_of_turned turned.now) scalars.now result }
+        ensures first { IsFirstDeviation {D = D} self.entry (finish_of_turned turned.now) scalars.now result }
+        ensures kept { IsFirstKept {D = D} self.entry (finish_of_turned turned.now) scalars.now result }
     {
         let Compare { task, at, first } = self;
         if first.is_some() {

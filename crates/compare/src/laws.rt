@@ -2,6 +2,7 @@
 
 ghost use Rattle.compare.specs.ChainLaw.{ChainAtPredictions};
 ghost use Rattle.compare.specs.CompareLaws.{ComparisonFindsFirst, TurnsShowInnerTrips, TasksAreWatchable};
+ghost use Rattle.compare.specs.KeptLaws.{KeptIsExact, RunsShowValues};
 ghost use Rattle.compare.specs.Premises.{PremisesCanHold};
 ghost use Rattle.compare.specs.PredictedLaws.{PlannedAreOriginal, PlannedArePredicted, PredictedOccur, SuccessorsArePlanned, NextTurnOpens, TasksAreChunks};
 
@@ -34,6 +35,13 @@ pub fn tasks_are_chunks()
 pub fn comparison_finds_first()
     ensures finds { ComparisonFindsFirst }
     ensures inner { TurnsShowInnerTrips }
+{}
+
+/// Each value that the run of a chunk shows is one of its kind, where its numbers are i64s. So what is kept of its
+/// deviation is the deviation itself.
+pub fn kept_is_exact()
+    ensures values { RunsShowValues }
+    ensures exact { KeptIsExact }
 {}
 
 /// The premises of the laws and of the watch can be met.

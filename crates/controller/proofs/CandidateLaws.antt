@@ -14,7 +14,7 @@ use Rattle.transform.specs.Scripts.{schedule_of}
 use Rattle.transform.specs.Standards.{standard, standard_scripts}
 use Rattle.nest_lang.specs.declared.tree.Loop.{Loop}
 use Rattle.nest_lang.specs.Rules.{loops_keep}
-use Rattle.plain_interp.proofs.Nests.{loops_keep-some}
+use Rattle.plain_interp.proofs.NestLaws.{loops_keep-some}
 use Rattle.nest_grammar.specs.declared.file.NestUnit.{NestUnit}
 use Rattle.report.specs.declared.journey.Options.{Options}
 use Rattle.journeys.specs.Settings.{candidates, setting_of}

@@ -6,7 +6,8 @@ use Rattle.std.proofs.lemmas.List.{length-take, length-take-le, take_more}
 use Rattle.std.proofs.lemmas.Int.{to_z_pos}
 use Rattle.std.proofs.lemmas.List.Quantifiers.{position-Some}
 use Rattle.std.proofs.lemmas.Option.{none-some}
-use Rattle.plain_lemmas.proofs.MembershipLaws.{Has, All-from, All-has}
+use Rattle.plain_lemmas.proofs.MembershipLaws.{All-from, All-has}
+use Rattle.plain_lemmas.specs.Lists.{Has}
 use Rattle.nest_lang.specs.declared.tree.Loop.{Loop}
 use Rattle.nest_lang.specs.Traces.{Observation}
 use Rattle.domain.specs.Tables.{Table, IsTable}

@@ -26,7 +26,7 @@ use Rattle.controller.specs.declared.stage.Stage.TheVariants.{Profiles, Chunks, 
 use Rattle.controller.specs.Machines.{IsPlaced}
 use Rattle.journeys.specs.HandedRecords.{Launching}
 use Rattle.controller.specs.Courses.{HasTurn, IsJudged, Led, ending_of, stage_of, weight}
-use Rattle.controller.proofs.Plainly.{difference-fits, done-few, next-fits, one-step, placed-on, ran-took, ran-whole, some-turns, turns-told}
+use Rattle.controller.proofs.PlainTurnLaws.{difference-fits, done-few, next-fits, one-step, placed-on, ran-took, ran-whole, some-turns, turns-told}
 
 -- ---- what was observed
 

@@ -6,7 +6,8 @@ use Rattle.std.specs.Prelude.{IfSome, if◌then◌else◌}
 use Rattle.std.specs.List.{All, cons_option, filter_map}
 use Rattle.std.specs.Option.{option_map}
 use Rattle.std.proofs.lemmas.Option.{get_or_from_slice_get, slice_get_within, slice_get-get_or}
-use Rattle.plain_lemmas.proofs.MembershipLaws.{Has, All-from, has-at, has-cases}
+use Rattle.plain_lemmas.proofs.MembershipLaws.{All-from, has-at, has-cases}
+use Rattle.plain_lemmas.specs.Lists.{Has}
 use Rattle.affine.specs.Forms.{Affine, value_at}
 use Rattle.nest_lang.specs.declared.tree.Loop.{Loop}
 use Rattle.nest_lang.specs.declared.tree.Part.{Part}
@@ -37,7 +38,6 @@ use Rattle.follow.specs.declared.how.How.TheVariants as how
 use Rattle.follow.specs.Forecasts.{expects_turn, Forecast}
 use Rattle.follow.specs.Deviations.{Deviation, Differs, Halts, Limit, IsDeviation}
 use Rattle.follow.specs.Hows.{how_of, how_by, how_refused, how_halted}
-use Rattle.compare.specs.Kept.{kept_deviation}
 use Rattle.legality.specs.declared.refusals.Refusal.{Refusal}
 use Rattle.legality.specs.Judgements.{refused, judged_by}
 use Rattle.legality.specs.Choices.{choice}
@@ -243,7 +243,7 @@ between-named : (n : ℕ) (before after : List Observation) (o : Observation) �
 between-named n [] after o a = a.0
 between-named n (b ∷ bs) after o a = between-named n bs after o a.1
 
-deviation-named : (n : ℕ) (p : Forecast) (observations : List Observation) (finish : Finish) (e : Deviation) → AreNamed n observations → IsDeviation p (record { observations = observations; finish = finish }) e → IsHowNamed n (how_of p (kept_deviation e))
+deviation-named : (n : ℕ) (p : Forecast) (observations : List Observation) (finish : Finish) (e : Deviation) → AreNamed n observations → IsDeviation p (record { observations = observations; finish = finish }) e → IsHowNamed n (how_of p e)
 deviation-named n p observations finish (Differs seen) a first =
     seen-named n p seen.at seen.what _ (between-named n first.before first.after seen (subst (AreNamed n) first.are a))
 deviation-named n p observations finish (Halts halt) a is = halted-named n halt

@@ -17,11 +17,11 @@ use Rattle.nest_lang.specs.Heads.{Yield, Bounds, Tested, head_of, head_step, hea
 use Rattle.nest_lang.specs.Loops.{Around, inward, outside, frame_of, turn_trace, turn_if, turns_of, whiles_from, loop_by, loops_trace}
 use Rattle.nest_lang.specs.Turns.{over, counted_turns, tested_turns, turn_or_over, turns_by, turns_trace, number_left}
 use Rattle.nest_lang.specs.Rules.{loops_keep, loop_keeps, has_statements, strides}
-use Rattle.nest_lang.proofs.Cuts.{cut-end, cut-ends, cut-traced, cut-and_then, cut-turn, cut-only, cut-left, resumed, resumed_at, resumed-not, stepped, goes_on}
+use Rattle.nest_lang.proofs.CutLaws.{cut-end, cut-ends, cut-traced, cut-and_then, cut-turn, cut-only, cut-left, resumed, resumed_at, resumed-not, stepped, goes_on}
 use Rattle.block_exec.specs.Moments.{moment, Ran}
 use Rattle.block_exec.specs.Watches.{Chain}
-use Rattle.plain_interp.proofs.Blocks.{instance-steps}
-use Rattle.plain_interp.proofs.Nests.{loops_keep-inner, loops_keep-some}
+use Rattle.plain_interp.proofs.BlockLaws.{instance-steps}
+use Rattle.plain_interp.proofs.NestLaws.{loops_keep-inner, loops_keep-some}
 
 -- what is done took at least one step
 abbrev Falls : (Store → Trace) → Type 0

@@ -1,8 +1,10 @@
 -- Courses: what a nest is run with, and the stage that comes next.
 use Rattle.std.specs.Prelude.{◌≡◌, ◌<◌, ◌≤◌, ◌+◌, ◌-◌, ◌*◌, ◌^◌, ℕ, pos, ◌≤ℤ◌, List, [], ◌∷◌, ◌++◌, length, slice_get, Some, true, Result, Ok, Err}
+use Rattle.std.specs.List.{All}
 use Rattle.nest_lang.specs.declared.tree.Nest.{Nest}
 use Rattle.nest_lang.specs.declared.tree.Loop.{Loop}
 use Rattle.nest_lang.specs.Blocks.{present_blocks}
+use Rattle.profile.specs.Reach.{HasI64s, IsOfI64s}
 use Rattle.profile.specs.declared.unfit.UnfitWhy.{UnfitWhy}
 use Rattle.profile.specs.declared.unfit.UnfitWhy.TheVariants as why
 use Rattle.nest_grammar.specs.declared.file.File.{File}
@@ -135,6 +137,7 @@ pub record StagesRan (g : Setting) (a : MachineState) (before : List Line) (old 
   pub chunks : List Launched
   pub reaches : Launching g stages.Profiles a.moment told (stages.Over finish) b.moment chunks
   pub count : length b.moment.store.scalars ≡ g.scalars
+  pub fits : IsOfI64s b.moment.store
   pub hands : HandsOver chunks a.posts b.posts old new
   pub few : reach_of b ≤ reach_of a + 131072
 
@@ -145,12 +148,13 @@ pub record IsJudged {D : ℕ} (g : Setting) (observations : List Observation) (b
   pub judged : AreJudged g observations told (stage_of to)
   pub due : IsDue g to
 
--- a nest of a file, by its number from 0, with options in their ranges
+-- a nest of a file, by its number from 0, whose numbers are i64s, with options in their ranges
 pub record IsUnit (file : File) (number : ℕ) (nest : Nest) (options : Options) : Type 0 where
   pub unit : NestUnit
   pub at : slice_get file.units number ≡ Some unit
   pub is : unit.nest ≡ nest
   pub keeps : NestKeeps (length file.scalars) nest.loops
+  pub numbers : All HasI64s nest.loops
   pub scalars : length file.scalars ≤ 16
   pub scripts : length unit.scripts ≤ 16
   pub sample_from : pos 2 ≤ℤ options.sample
@@ -159,7 +163,7 @@ pub record IsUnit (file : File) (number : ℕ) (nest : Nest) (options : Options)
   pub chunk_to : options.chunk ≤ℤ pos 1024
 
 -- a nest of a file was run from one state of the machine to another, with the lines of its journey behind those before, and
--- finished so; what its journey hands to a crew was handed over; the number of scalars stays
+-- finished so; what its journey hands to a crew was handed over; the number of scalars stays, and the store is one of i64s
 pub record RunsUnit (file : File) (number : ℕ) (options : Options) (a : MachineState) (before : List Line) (old : List Handed) (finish : Finish) (b : MachineState) (lines : List Line) (new : List Handed) : Type 0 where
   pub told : List Line
   pub are : lines ≡ before ++ told
@@ -168,6 +172,7 @@ pub record RunsUnit (file : File) (number : ℕ) (options : Options) (a : Machin
       → (nest : IsNestJourney (setting_of options (length file.scalars) u) a.moment.store a.moment.left a.moment.used told (cut_of b.moment.store b.moment.left b.moment.used finish))
       × (launched_in_nest nest ≡ chunks)
   pub count : length b.moment.store.scalars ≡ length file.scalars
+  pub fits : IsOfI64s b.moment.store
   pub hands : HandsOver chunks a.posts b.posts old new
   pub few : reach_of b ≤ reach_of a + 131072
 

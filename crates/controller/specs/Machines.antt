@@ -1,5 +1,6 @@
 -- Machines: what a run works on, as a moment of it.
 use Rattle.std.specs.Prelude.{◌≡◌, ◌+◌, ◌*◌, ◌≤◌, ◌^◌, ℕ, ℤ, pos, unsigned_abs, List, [], ◌++◌, length, false, Result, Ok, Err}
+use Rattle.std.specs.List.{All}
 use Rattle.nest_lang.specs.declared.budget.Budget.{Budget}
 use Rattle.nest_lang.specs.declared.budget.Ending.{Ending}
 use Rattle.nest_lang.specs.declared.state.Outer.{Outer}
@@ -19,6 +20,7 @@ use Rattle.crew.specs.declared.handed.Handed.{Handed}
 use Rattle.shared_words.specs.Memories.{signed}
 use Rattle.shared_words.specs.Seats.{SeatState}
 use Rattle.atomic_table.specs.Seated.{TableId}
+use Rattle.profile.specs.Reach.{HasI64s, IsOfI64s}
 use Rattle.journeys.specs.Settings.{Moment, Setting}
 use Rattle.journeys.specs.HandedRecords.{Launched, IsHandedRecord}
 
@@ -53,10 +55,12 @@ pub record IsMachine (words : TableId) (main : SeatState) (scalars : List ℤ) (
   pub workers_from : 1 ≤ workers
   pub workers_to : workers ≤ 64
 
--- a run of a nest that keeps the rules stands at a position of its outermost loop; there are as many scalars as in the file,
--- at most 2^32 steps, and no more turns were done than steps were taken
+-- a run of a nest that keeps the rules and whose numbers are i64s stands at a position of its outermost loop, with a store
+-- of i64s; there are as many scalars as in the file, at most 2^32 steps, and no more turns were done than steps were taken
 pub record IsPlaced (g : Setting) (m : Moment) : Type 0 where
   pub keeps : NestKeeps g.scalars g.loops
+  pub numbers : All HasI64s g.loops
+  pub fits : IsOfI64s m.store
   pub most : m.left + m.used ≤ 2 ^ 32
   pub position : IsPositionIn g.loops m.outer
   pub count : length m.store.scalars ≡ g.scalars

@@ -2,6 +2,7 @@
 
 ghost use Rattle.std.specs.Prelude.{◌≡◌, ◌≤◌, ◌+◌, ◌*◌, ◌^◌, ◌≤ℤ◌, ◌++◌, ℕ, length, pos, IfOk, OnOk, OnErr};
 ghost use Rattle.std.specs.List.{All};
+ghost use Rattle.profile.specs.Reach.{IsOfI64s};
 ghost use Rattle.report.specs.Lines.{CanStand};
 ghost use Rattle.journeys.specs.Tellings.{heading};
 ghost use Rattle.journeys.specs.Journeys.{IsJourney};
@@ -86,6 +87,7 @@ fn run_nests<C: Crew>(
     requires chunk_from { pos 1 ≤ℤ options.now.chunk }
     requires chunk_to { options.now.chunk ≤ℤ pos 1024 }
     requires count { length machine.old.moment.store.scalars ≡ length file.now.scalars }
+    requires fits { IsOfI64s machine.old.moment.store }
     requires reach { reach_of machine.old + 8 * 131072 ≤ 2 ^ 62 }
     ensures ran { IfOk result (λ ending. RunsNests file.now options.now machine.old lines.old.items (C.handed crew.old) (finish_of_ending ending) machine.new lines.new.items (C.handed crew.new)) }
     ensures broke { OnErr result (NestsBrokeOff file.now options.now machine.old (C.handed crew.old) (C.handed crew.new)) }
@@ -132,6 +134,7 @@ fn run_nest<C: Crew>(
 ) -> Result<Ending, AllocError>
     requires unit { IsUnit unit.now.file.now unit.now.number unit.now.nest.now unit.now.options }
     requires count { length machine.old.moment.store.scalars ≡ length unit.now.file.now.scalars }
+    requires fits { IsOfI64s machine.old.moment.store }
     requires reach { reach_of machine.old + 131072 ≤ 2 ^ 62 }
     ensures ran { IfOk result (λ ending. RunsUnit unit.now.file.now unit.now.number unit.now.options machine.old lines.old.items (C.handed crew.old) (finish_of_ending ending) machine.new lines.new.items (C.handed crew.new)) }
     ensures broke { OnErr result (UnitBrokeOff unit.now.file.now unit.now.number unit.now.options machine.old (C.handed crew.old) (C.handed crew.new)) }

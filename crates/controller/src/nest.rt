@@ -2,6 +2,7 @@
 
 ghost use Rattle.std.specs.Prelude.{◌≡◌, ◌<◌, ◌≤◌, ◌+◌, ◌^◌, length, IfOk, OnErr};
 ghost use Rattle.nest_lang.specs.Runs.{finish_of_ending};
+ghost use Rattle.profile.specs.Reach.{IsOfI64s};
 ghost use Rattle.journeys.specs.Stages.{Profiles};
 ghost use Rattle.controller.specs.Courses.{IsUnit, RunsUnit, StagesRan, BrokeOff, UnitBrokeOff};
 ghost use Rattle.controller.specs.Machines.{IsPlaced, reach_of};
@@ -29,6 +30,7 @@ pub fn run_unit<C: Crew, const D: usize>(
     requires unit { IsUnit unit.now.file.now unit.now.number unit.now.nest.now unit.now.options }
     requires depth { length unit.now.nest.now.loops ≡ D }
     requires count { length machine.old.moment.store.scalars ≡ length unit.now.file.now.scalars }
+    requires fits { IsOfI64s machine.old.moment.store }
     requires reach { reach_of machine.old + 131072 ≤ 2 ^ 62 }
     ensures ran { IfOk result (λ ending. RunsUnit unit.now.file.now unit.now.number unit.now.options machine.old lines.old.items (C.handed crew.old) (finish_of_ending ending) machine.new lines.new.items (C.handed crew.new)) }
     ensures broke { OnErr result (UnitBrokeOff unit.now.file.now unit.now.number unit.now.options machine.old (C.handed crew.old) (C.handed crew.new)) }

@@ -8,10 +8,10 @@ use Rattle.core_steps.specs.Numbers.{IsSingle}
 use Rattle.core_steps.specs.Views.{Holds, Knows, holding_view, knowing_view, claiming_view}
 use Rattle.core_steps.specs.States.{claim_word, claim_of}
 use Rattle.core_steps.specs.Invariant.{At, AtMostOne, PhaseIsSound, Inv}
-use Rattle.core_steps.proofs.NumberLists.{has-snoc, has-last, has-left, single-snoc}
-use Rattle.core_steps.proofs.ViewLists.{each-set, each-kept, somewhere-set, one-set, one-new, set-here}
-use Rattle.core_steps.proofs.WordLists.{flag-set-claim, claim-set-other, word-set-claim}
-use Rattle.core_steps.proofs.Moves.{IsSameSeat, phase-stays, values-stay}
+use Rattle.core_steps.proofs.NumberListLaws.{has-snoc, has-last, has-left, single-snoc}
+use Rattle.core_steps.proofs.ViewListLaws.{each-set, each-kept, somewhere-set, one-set, one-new, set-here}
+use Rattle.core_steps.proofs.WordListLaws.{flag-set-claim, claim-set-other, word-set-claim}
+use Rattle.core_steps.proofs.MoveLaws.{IsSameSeat, phase-stays, values-stay}
 
 -- the claim is at the epoch then, and the others are as before
 claims-after : (words : List ℕ) (m : View) (views : List View) (i k : ℕ) (v : View) → PhaseIsSound words m views → At views i v → 0 < v.number → k < length m.plan.tiles

@@ -10,9 +10,9 @@ use Rattle.core_steps.specs.Plans.{writes}
 use Rattle.core_steps.specs.Views.{Holds, Knows, stored_at, spent_view, joined_view}
 use Rattle.core_steps.specs.States.{flag_of, claim_of, word_of}
 use Rattle.core_steps.specs.Invariant.{At, IsUntouched, IsLentBy, PhaseIsSound, TilesAreSound, ValuesAreSound, Inv}
-use Rattle.core_steps.proofs.NumberLists.{has-none, has-append, has-left, has-right, has-without, has-rest, single-without, single-append}
-use Rattle.core_steps.proofs.StoreLists.{no-option, stored-append, unstored-append}
-use Rattle.core_steps.proofs.ViewLists.{at-same, set-else, each-joined, somewhere-joined, one-joined}
+use Rattle.core_steps.proofs.NumberListLaws.{has-none, has-append, has-left, has-right, has-without, has-rest, single-without, single-append}
+use Rattle.core_steps.proofs.StoreListLaws.{no-option, stored-append, unstored-append}
+use Rattle.core_steps.proofs.ViewListLaws.{at-same, set-else, each-joined, somewhere-joined, one-joined}
 
 pub join-keeps-phase : (words : List ℕ) (m : View) (ms : List View) (j : ℕ) (v : View) → PhaseIsSound words m (m ∷ ms) → At ms j v → 0 < v.number → PhaseIsSound words (joined_view m v) (joined_view m v ∷ set ms j spent_view)
 join-keeps-phase words m ms j v h at out = let

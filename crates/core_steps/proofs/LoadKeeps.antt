@@ -9,10 +9,10 @@ use Rattle.core_steps.specs.Plans.{touches}
 use Rattle.core_steps.specs.Views.{Holds, stored_at, value_at}
 use Rattle.core_steps.specs.States.{word_of}
 use Rattle.core_steps.specs.Invariant.{At, IsUntouched, Inv}
-use Rattle.core_steps.proofs.NumberLists.{not_both}
-use Rattle.core_steps.proofs.StoreLists.{no-option}
-use Rattle.core_steps.proofs.ViewLists.{at-same}
-use Rattle.core_steps.proofs.Quiet.{shows-base}
+use Rattle.core_steps.proofs.NumberListLaws.{not_both}
+use Rattle.core_steps.proofs.StoreListLaws.{no-option}
+use Rattle.core_steps.proofs.ViewListLaws.{at-same}
+use Rattle.core_steps.proofs.QuietViewLaws.{shows-base}
 
 -- a worker that touches an address of a tile that it holds finds its own value there, or else the base's
 pub load-value : (words : List ℕ) (m : View) (views : List View) (i k a : ℕ) (v : View) → Inv words m views → At views i v → 0 < v.number → Holds v k → touches v.plan k a ≡ true → word_of words a ≡ value_at v a

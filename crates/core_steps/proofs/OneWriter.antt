@@ -18,12 +18,12 @@ use Rattle.core_steps.specs.States.{State, views_of, view_of, IsOut}
 use Rattle.core_steps.specs.Steps.{Lawful, Runs, state_after, with_seat}
 use Rattle.core_steps.specs.Invariant.{At, IsSound}
 use Rattle.core_steps.specs.Laws.{is_settle, is_join, RunsWithin}
-use Rattle.core_steps.proofs.NumberLists.{not_both}
-use Rattle.core_steps.proofs.StoreLists.{no-option, stored-same, stored-other}
+use Rattle.core_steps.proofs.NumberListLaws.{not_both}
+use Rattle.core_steps.proofs.StoreListLaws.{no-option, stored-same, stored-other}
 use Rattle.core_steps.proofs.StoreKeeps.{write-touches}
-use Rattle.core_steps.proofs.StateSteps.{step-keeps, run-keeps, out-found, any-held, with-seat-worker}
-use Rattle.core_steps.proofs.Phases.{step-in-phase, run-in-phase}
-use Rattle.core_steps.proofs.OwnValues.{step-stays, own_after}
+use Rattle.core_steps.proofs.StateStepLaws.{step-keeps, run-keeps, out-found, any-held, with-seat-worker}
+use Rattle.core_steps.proofs.PhaseLaws.{step-in-phase, run-in-phase}
+use Rattle.core_steps.proofs.OwnValueLaws.{step-stays, own_after}
 
 -- something is stored at the address
 abbrev pub Stored : ℕ → List (ℕ × ℕ) → Type 0

@@ -5,8 +5,8 @@ use Rattle.core_steps.specs.declared.view.View.{View}
 use Rattle.core_steps.specs.Plans.{IsSeparate, IsInside}
 use Rattle.core_steps.specs.Views.{posted_view}
 use Rattle.core_steps.specs.Invariant.{IsEmptyHanded, PhaseIsSound, TilesAreSound, ValuesAreSound, Inv}
-use Rattle.core_steps.proofs.WordLists.{ShowsMemory}
-use Rattle.core_steps.proofs.Quiet.{all-spent, quiet-phase, quiet-tiles, quiet-values}
+use Rattle.core_steps.proofs.WordListLaws.{ShowsMemory}
+use Rattle.core_steps.proofs.QuietViewLaws.{all-spent, quiet-phase, quiet-tiles, quiet-values}
 
 hands : (m : View) (base : List ℕ) (plan : Plan) → IsEmptyHanded (posted_view m base plan)
 hands m base plan = record { held = refl; known = refl; own = refl; failed = refl }

@@ -4,9 +4,9 @@ use Rattle.core_steps.specs.declared.view.View.{View}
 use Rattle.core_steps.specs.Views.{failed_view}
 use Rattle.core_steps.specs.States.{flag_of}
 use Rattle.core_steps.specs.Invariant.{At, Inv}
-use Rattle.core_steps.proofs.ViewLists.{set-here}
-use Rattle.core_steps.proofs.WordLists.{claim-set-flag, word-set-flag}
-use Rattle.core_steps.proofs.Moves.{phase-moves, tiles-stay, values-stay}
+use Rattle.core_steps.proofs.ViewListLaws.{set-here}
+use Rattle.core_steps.proofs.WordListLaws.{claim-set-flag, word-set-flag}
+use Rattle.core_steps.proofs.MoveLaws.{phase-moves, tiles-stay, values-stay}
 
 pub raise-keeps : (words : List ℕ) (m : View) (views : List View) (i : ℕ) (v : View) → Inv words m views → At views i v → 0 < v.number → Inv (set words 0 v.epoch) m (set views i (failed_view v))
 raise-keeps words m views i v h at out = let

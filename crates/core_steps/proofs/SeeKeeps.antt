@@ -5,8 +5,8 @@ use Rattle.core_steps.specs.declared.view.View.{View}
 use Rattle.core_steps.specs.Views.{seeing_view, spent_view}
 use Rattle.core_steps.specs.States.{flag_of}
 use Rattle.core_steps.specs.Invariant.{At, IsLentBy, Inv}
-use Rattle.core_steps.proofs.ViewLists.{each-set, each-kept, somewhere-set, one-set}
-use Rattle.core_steps.proofs.Moves.{phase-moves, tiles-stay, values-stay}
+use Rattle.core_steps.proofs.ViewListLaws.{each-set, each-kept, somewhere-set, one-set}
+use Rattle.core_steps.proofs.MoveLaws.{phase-moves, tiles-stay, values-stay}
 
 -- what the seat then has seen is so
 saw : (words : List ℕ) (v : View) (epoch : ℕ) → v.epoch ≡ epoch → (v.seen ≡ true → flag_of words ≡ epoch) → (v.seen || eqb (flag_of words) v.epoch) ≡ true → flag_of words ≡ epoch

@@ -3,8 +3,8 @@ use Rattle.std.proofs.Common.{◌≡◌, ℕ, true≢false, List, [], ◌∷◌,
 use Rattle.core_steps.specs.declared.view.View.{View}
 use Rattle.core_steps.specs.Views.{settled_view, overlaid}
 use Rattle.core_steps.specs.Invariant.{IsEmptyHanded, Inv}
-use Rattle.core_steps.proofs.WordLists.{ShowsMemory}
-use Rattle.core_steps.proofs.Quiet.{all-spent, quiet-phase, quiet-tiles, quiet-values, shows-values}
+use Rattle.core_steps.proofs.WordListLaws.{ShowsMemory}
+use Rattle.core_steps.proofs.QuietViewLaws.{all-spent, quiet-phase, quiet-tiles, quiet-values, shows-values}
 
 hands : (m : View) (base : List ℕ) → IsEmptyHanded (settled_view m base)
 hands m base = record { held = refl; known = refl; own = refl; failed = refl }

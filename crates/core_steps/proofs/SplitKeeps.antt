@@ -9,9 +9,9 @@ use Rattle.core_steps.specs.Plans.{writes}
 use Rattle.core_steps.specs.Views.{Holds, Knows, stored_at, spent_view, lending_view, lent_view}
 use Rattle.core_steps.specs.States.{flag_of, claim_of, word_of}
 use Rattle.core_steps.specs.Invariant.{Each, AtMostOne, IsUntouched, IsLentBy, PhaseIsSound, TilesAreSound, ValuesAreSound, Inv}
-use Rattle.core_steps.proofs.NumberLists.{has-here, has-there, has-cons}
-use Rattle.core_steps.proofs.StoreLists.{no-option}
-use Rattle.core_steps.proofs.ViewLists.{at-last, at-longer, each-lent, somewhere-lent, one-lent, one-last}
+use Rattle.core_steps.proofs.NumberListLaws.{has-here, has-there, has-cons}
+use Rattle.core_steps.proofs.StoreListLaws.{no-option}
+use Rattle.core_steps.proofs.ViewListLaws.{at-last, at-longer, each-lent, somewhere-lent, one-lent, one-last}
 
 pub split-keeps-phase : (words : List ℕ) (m : View) (ms : List View) (w : ℕ) → PhaseIsSound words m (m ∷ ms) → m.posted ≡ true → 0 < w → has w m.out ≡ false
     → PhaseIsSound words (lending_view m w) (lending_view m w ∷ (ms ++ lent_view m w ∷ []))

@@ -10,12 +10,12 @@ use Rattle.core_steps.specs.Numbers.{has}
 use Rattle.core_steps.specs.Views.{Holds, stored_at, storing_view, based_view}
 use Rattle.core_steps.specs.States.{memory_word, word_of}
 use Rattle.core_steps.specs.Invariant.{At, IsEmptyHanded, PhaseIsSound, TilesAreSound, ValuesAreSound, Inv}
-use Rattle.core_steps.proofs.NumberLists.{not_both}
-use Rattle.core_steps.proofs.StoreLists.{no-option, stored-same, stored-other}
-use Rattle.core_steps.proofs.ViewLists.{each-set, set-here}
-use Rattle.core_steps.proofs.WordLists.{flag-set-memory, claim-set-memory, word-set-other, word-set-same, shows-store}
-use Rattle.core_steps.proofs.Moves.{phase-stays, tiles-stay, untouched-before}
-use Rattle.core_steps.proofs.Quiet.{all-spent, quiet-phase, quiet-tiles, quiet-values, shows-base}
+use Rattle.core_steps.proofs.NumberListLaws.{not_both}
+use Rattle.core_steps.proofs.StoreListLaws.{no-option, stored-same, stored-other}
+use Rattle.core_steps.proofs.ViewListLaws.{each-set, set-here}
+use Rattle.core_steps.proofs.WordListLaws.{flag-set-memory, claim-set-memory, word-set-other, word-set-same, shows-store}
+use Rattle.core_steps.proofs.MoveLaws.{phase-stays, tiles-stay, untouched-before}
+use Rattle.core_steps.proofs.QuietViewLaws.{all-spent, quiet-phase, quiet-tiles, quiet-values, shows-base}
 
 -- a write is touched
 pub write-touches : (plan : Plan) (k a : ℕ) → writes plan k a ≡ true → touches plan k a ≡ true

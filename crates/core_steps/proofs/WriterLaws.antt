@@ -9,7 +9,7 @@ use Rattle.core_steps.specs.declared.plan.Tile.{Tile}
 use Rattle.core_steps.specs.Numbers.{has}
 use Rattle.core_steps.specs.Plans.{no_tile, writes_of, touches_of, WritesAlone}
 use Rattle.core_steps.specs.Writers.{TellsWriters, NotesWrites, IsWrittenElsewhere, ReadsApart, reads_of_tile}
-use Rattle.core_steps.proofs.NumberLists.{has-here, has-there, not_both}
+use Rattle.core_steps.proofs.NumberListLaws.{has-here, has-there, not_both}
 
 -- a test is true or false
 either : (b : Bool) → (b ≡ true) ⊎ (b ≡ false)

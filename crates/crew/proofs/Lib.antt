@@ -1,2 +1,2 @@
-mod Totals
-mod Crossings
+mod TotalLaws
+mod CrossingLaws

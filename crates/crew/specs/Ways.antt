@@ -1,5 +1,5 @@
 -- How a crew runs its jobs.
-use Rattle.std.specs.Prelude.{Bool, true, false}
+use Rattle.std.specs.Prelude.{ℕ, Bool, true, false, List, Option, Some, None}
 use Rattle.crew.specs.declared.handed.Way.{Way}
 use Rattle.crew.specs.declared.handed.Way.TheVariants.{Line, Script, Beside}
 
@@ -8,3 +8,9 @@ abbrev pub runs_beside : {R G : Type 0} → Way R G → Bool
 runs_beside Line = false
 runs_beside (Script order) = false
 runs_beside (Beside rt gate) = true
+
+-- the list by which jobs are given turns, where they are
+abbrev pub order_of : {R G : Type 0} → Way R G → Option (List ℕ)
+order_of Line = None
+order_of (Script order) = Some order.now
+order_of (Beside rt gate) = None

@@ -9,8 +9,8 @@ use std::alloc::AllocError;
 use std::thread::Threads;
 use verified_turns::Worker;
 
-/// What was handed to a crew at one phase: the first turn of the chunk, the number of the phase, how many workers with how
-/// many tiles to try, and the steps of all of them as they came back.
+/// What was handed to a crew at one phase: the first turn of the chunk, the number of the phase, how many workers with
+/// how many tiles to try, and the steps of all of them as they came back.
 #[derive(Clone, Copy, Debug, PartialEq, Eq)]
 pub struct Handed {
     pub first: i64,
@@ -40,8 +40,8 @@ impl<R: Threads + Sync, G: Gate> Way<'_, R, G> {
     }
 }
 
-/// What runs the jobs of a phase until each has finished, and keeps an entry for each phase. `work` is the same for all;
-/// a crew says how its jobs are run.
+/// What runs the jobs of a phase until each has finished, and keeps an entry for each phase. `work` is the same for
+/// all; a crew says how its jobs are run.
 pub trait Crew {
     type Rt: Threads + Sync;
 
@@ -71,8 +71,8 @@ pub trait Crew {
         ensures handed { handed self.new ≡ handed self.old ++ entry ∷ [] }
         ensures spare { spare self.new + 1 ≡ spare self.old };
 
-    /// Runs the workers of one phase, 1 to 64, until each has finished: each comes back at its place, with its origin. One
-    /// entry is kept, for which there is to be room. Takes no memory.
+    /// Runs the workers of one phase, 1 to 64, until each has finished: each comes back at its place, with its origin.
+    /// One entry is kept, for which there is to be room. Takes no memory.
     final fn work<W: Walk<D> + Send, const D: usize>(
         &mut self,
         first: i64,

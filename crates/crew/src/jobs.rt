@@ -71,11 +71,14 @@ impl<W: Walk<D>, const D: usize> Job for Worker<'_, W, D> {
 pub trait Gate: Sync {
     fn pass(&self, worker: u32);
 
-    /// Whether a job may be held here until another has come. Where none is, the caller may pass for each.
-    fn holds(&self) -> bool;
+    /// Whether a job may be held here until another has come. A gate that holds none may say so: the caller then passes
+    /// it for each job, one after another.
+    fn holds(&self) -> bool {
+        true
+    }
 }
 
-/// A gate that is open.
+/// A gate that is open: it holds no job.
 #[derive(Drop)]
 pub struct OpenGate;
 
@@ -117,7 +120,8 @@ fn turn_at<J: Job>(jobs: &mut [J], place: usize)
     }
 }
 
-/// Gives turns to jobs by the order, each number modulo the number of jobs, and then runs what is left one after another.
+/// Gives turns to jobs by the order, each number modulo the number of jobs, and then runs what is left one after
+/// another.
 pub fn script<J: Job>(jobs: &mut [J], order: &[u32])
     ensures { Ran J.origin J.left_of jobs.old jobs.new }
 {
@@ -145,43 +149,45 @@ fn threads_for<J: Job>(jobs: &[J]) -> usize
     jobs.first().map_or(1, |job| job.tiles() as usize).max(1)
 }
 
-/// Gives a job at most so many turns, and tells how many of them are over: some only where the job has none left.
+/// Gives a job at most so many turns, and tells how many of them it didn't take: some only where the job has none left.
 fn spend<J: Job>(job: &mut J, turns: u32) -> u32
     ensures origin { J.origin job.new ≡ J.origin job.old }
     ensures few { result ≤ turns }
     ensures left { 0 < result → J.left_of job.new ≡ 0 }
 {
-    let mut over = turns;
-    while over > 0 && job.left() > 0 {
+    let mut unspent = turns;
+    while unspent > 0 && job.left() > 0 {
         job.turn();
-        over -= 1;
+        unspent -= 1;
     }
-    over
+    unspent
 }
 
-/// Passes the gate for each job, and gives the jobs turns in their order, as many in all as a thread is worth. True only
-/// where none has a turn left.
+/// Passes the gate for each job, and gives the jobs turns in their order, as many in all as a thread is worth. True
+/// only where none has a turn left.
 fn are_done_here<G: Gate, J: Job>(gate: &G, jobs: &mut [J]) -> bool
     ensures same_length { length jobs.new ≡ length jobs.old }
     ensures origin { (i : ℕ) (d : J) → J.origin (slice_index_or jobs.new i d) ≡ J.origin (slice_index_or jobs.old i d) }
     ensures left { IsTrue result → (i : ℕ) (d : J) → i < length jobs.old → J.left_of (slice_index_or jobs.new i d) ≡ 0 }
 {
-    let mut over = TURNS_OF_A_START;
+    let mut unspent = TURNS_OF_A_START;
     for job in jobs.iter_mut() {
         gate.pass(job.number());
-        over = spend(job, over);
+        unspent = spend(job, unspent);
     }
-    over > 0
+    unspent > 0
 }
 
-/// Runs the jobs beside each other, at most as many at once as there are tiles, each on a thread of its own where one can be
-/// started, and else here. Where no gate holds them the caller begins, so that little work starts no thread.
+/// Runs the jobs beside each other, on threads where these can be started, and else here. Where the gate may hold them,
+/// each job has a thread of its own, since two on one thread would wait for each other in vain. Where it holds none the
+/// caller begins, and what it leaves has at most as many threads as there are tiles: so little work starts no thread.
 pub fn beside<R: Threads + Sync, G: Gate, J: Job + Send>(rt: &R, gate: &G, jobs: &mut [J])
     ensures { Ran J.origin J.left_of jobs.old jobs.new }
 {
+    let all = jobs.len().max(1);
     let threads = threads_for(jobs);
     if gate.holds() {
-        thread::for_each_mut(rt, jobs, threads, &|_, job: &mut J| begin(gate, job));
+        thread::for_each_mut(rt, jobs, all, &|_, job: &mut J| begin(gate, job));
     } else if !are_done_here(gate, jobs) {
         thread::for_each_mut(rt, jobs, threads, &|_, job: &mut J| finish(job));
     }

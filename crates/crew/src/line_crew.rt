@@ -1,6 +1,6 @@
 //! A crew that runs its jobs one after another.
-ghost use Rattle.std.specs.Prelude.{◌≡◌, false, [], vec_capacity, vec_len, ◌-◌};
-ghost use Rattle.crew.specs.Ways.{runs_beside};
+ghost use Rattle.std.specs.Prelude.{◌≡◌, [], vec_capacity, vec_len, ◌-◌};
+ghost use Rattle.crew.specs.declared.handed.Way.TheVariants.{Line};
 
 use crate::handed::{Crew, Handed, Way};
 use crate::jobs::OpenGate;
@@ -16,9 +16,10 @@ pub struct LineCrew<R> {
 }
 
 impl<R: Threads + Sync> LineCrew<R> {
-    /// A crew to which nothing was handed. Only the runtime's type is used. Takes no memory.
+    /// A crew to which nothing was handed, with room for no entry. Only the runtime's type is used. Takes no memory.
     pub fn new(_rt: &R, alloc: Global) -> LineCrew<R>
         ensures handed { result.list.items ≡ [] }
+        ensures spare { vec_capacity result.list ≡ 0 }
     {
         LineCrew {
             list: Vec::new(alloc),
@@ -46,7 +47,7 @@ impl<R: Threads + Sync> Crew for LineCrew<R> {
     }
 
     fn way(&self) -> Way<'_, R, OpenGate>
-        ensures alone { runs_beside result ≡ false }
+        ensures in_line { result ≡ Line }
     {
         Way::Line
     }

@@ -1,6 +1,6 @@
 //! A crew that gives single turns by a list.
-ghost use Rattle.std.specs.Prelude.{◌≡◌, false, [], vec_capacity, vec_len, ◌-◌};
-ghost use Rattle.crew.specs.Ways.{runs_beside};
+ghost use Rattle.std.specs.Prelude.{◌≡◌, Some, [], vec_capacity, vec_len, ◌-◌};
+ghost use Rattle.crew.specs.Ways.{order_of};
 
 use crate::handed::{Crew, Handed, Way};
 use crate::jobs::OpenGate;
@@ -8,8 +8,8 @@ use std::alloc::{AllocError, Global};
 use std::marker::PhantomData;
 use std::thread::Threads;
 
-/// A crew that gives turns to jobs by a list, each number modulo the number of jobs, where a job with nothing left is passed
-/// over, and then runs what is left in order. Each call on it returns.
+/// A crew that gives turns to jobs by a list, each number modulo the number of jobs, where a job with nothing left is
+/// passed over, and then runs what is left in order. Each call on it returns.
 #[derive(Drop)]
 pub struct ScriptCrew<R> {
     list: Vec<Handed>,
@@ -18,9 +18,12 @@ pub struct ScriptCrew<R> {
 }
 
 impl<R: Threads + Sync> ScriptCrew<R> {
-    /// A crew to which nothing was handed, with this list. Only the runtime's type is used. Takes no memory.
+    /// A crew to which nothing was handed, with room for no entry, and with this list. Only the runtime's type is used.
+    /// Takes no memory.
     pub fn new(_rt: &R, alloc: Global, order: Vec<u32>) -> ScriptCrew<R>
         ensures handed { result.list.items ≡ [] }
+        ensures spare { vec_capacity result.list ≡ 0 }
+        ensures order { result.order ≡ order }
     {
         ScriptCrew {
             list: Vec::new(alloc),
@@ -49,7 +52,7 @@ impl<R: Threads + Sync> Crew for ScriptCrew<R> {
     }
 
     fn way(&self) -> Way<'_, R, OpenGate>
-        ensures alone { runs_beside result ≡ false }
+        ensures by_order { order_of result ≡ Some self.now.order.items }
     {
         Way::Script(self.order.as_slice())
     }

@@ -1,13 +1,15 @@
 //! A crew that runs its jobs beside each other.
-ghost use Rattle.std.specs.Prelude.{◌≡◌, [], vec_capacity, vec_len, ◌-◌};
+ghost use Rattle.std.specs.Prelude.{◌≡◌, true, [], vec_capacity, vec_len, ◌-◌};
+ghost use Rattle.crew.specs.Ways.{runs_beside};
 
 use crate::handed::{Crew, Handed, Way};
 use crate::jobs::Gate;
 use std::alloc::{AllocError, Global};
 use std::thread::Threads;
 
-/// A crew that runs its jobs on threads, at most as many at once as there are tiles, behind a gate that each job passes
-/// before its first turn. Where a thread can't be started the caller does that work.
+/// A crew that runs its jobs beside each other, behind a gate that each passes before its first turn. Where the gate
+/// holds none, the caller begins with the jobs and may finish them all; what it leaves, and jobs that may be held, run
+/// on threads. Where a thread can't be started the caller does that work.
 #[derive(Drop)]
 pub struct ThreadCrew<R, G> {
     rt: R,
@@ -16,9 +18,10 @@ pub struct ThreadCrew<R, G> {
 }
 
 impl<R: Threads + Sync, G: Gate> ThreadCrew<R, G> {
-    /// A crew to which nothing was handed. Takes no memory.
+    /// A crew to which nothing was handed, with room for no entry. Takes no memory.
     pub fn new(rt: R, alloc: Global, gate: G) -> ThreadCrew<R, G>
         ensures handed { result.list.items ≡ [] }
+        ensures spare { vec_capacity result.list ≡ 0 }
     {
         ThreadCrew {
             rt,
@@ -46,7 +49,9 @@ impl<R: Threads + Sync, G: Gate> Crew for ThreadCrew<R, G> {
         self.list.reserve(more)
     }
 
-    fn way(&self) -> Way<'_, R, G> {
+    fn way(&self) -> Way<'_, R, G>
+        ensures beside { runs_beside result ≡ true }
+    {
         Way::Beside(&self.rt, &self.gate)
     }
 

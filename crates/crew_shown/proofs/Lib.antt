@@ -1,2 +1,2 @@
-mod FirstTurn
-mod EmptyTiles
+mod FirstTurnLaws
+mod EmptyTileLaws

@@ -48,7 +48,7 @@ impl Walk<1> for Counted<'_> {
 }
 
 /// So many numbers, all 0.
-pub fn counters(alloc: Global, count: u32) -> Result<Vec<AtomicU64>, AllocError> {
+pub fn counters(alloc: Global, count: usize) -> Result<Vec<AtomicU64>, AllocError> {
     let mut all = Vec::new(alloc);
     for _ in 0..count {
         all.push(AtomicU64::new(0))?;

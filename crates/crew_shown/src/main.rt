@@ -1,23 +1,24 @@
-//! Two workers over a plan of 1,000 tiles, run by each crew: they hold each tile once, and where they are run beside each
-//! other they meet at a gate. It stands on `crew`. Workers that are run one after the other wait at the gate in vain, so
-//! the stored output is that of a `ThreadCrew` that runs them beside each other.
+//! Two workers over a plan of 1,000 tiles, run by each crew: they hold each tile once, and where they are run beside
+//! each other they meet at a gate, also where the plan has one tile. Where the flag is raised before they begin they
+//! hold none. It stands on `crew`. Workers that are run one after the other wait at the gate in vain, so the stored
+//! output is that of a `ThreadCrew` that runs them beside each other.
 #![tactic(auto)]
 
 mod counts;
 mod meeting;
 mod pair;
-mod task;
 mod tiles;
 
 use crate::counts::{counters, once};
 use crate::meeting::Meeting;
 use crate::pair::claim_all;
-use crate::tiles::{Tiles, plan_of};
+use crate::tiles::{Flag, Tiles, plan_of};
 use core_steps::Plan;
 use crew::{Crew, LineCrew, OpenGate, ScriptCrew, ThreadCrew};
 use std::alloc::{AllocError, Global};
 use std::io;
 use std::sync::atomic::{AtomicU64, Ordering};
+use std::thread::Threads;
 
 /// How many tiles the plan has.
 const TILES: u32 = 1_000;
@@ -25,28 +26,62 @@ const TILES: u32 = 1_000;
 fn main(rt: HostRuntime) -> io::Result<()> {
     let alloc = rt.alloc();
     let plan = plan_of(alloc, TILES)?;
-    let (noted, in_vain) = (AtomicU64::new(0), AtomicU64::new(0));
-    let mut met = ThreadCrew::new(&rt, alloc, Meeting::new(&noted, &in_vain));
-    let held = held_once(alloc, &plan, &mut met)?;
+    let Met {
+        held,
+        noted,
+        in_vain,
+    } = meet(&rt, alloc, &plan)?;
+    println!(rt; "threads that meet: {held} held once, {noted} noted, {in_vain} in vain")?;
+    let Met {
+        held,
+        noted,
+        in_vain,
+    } = meet(&rt, alloc, &plan_of(alloc, 1)?)?;
     println!(rt;
-        "threads that meet: {held} tiles held once, {} noted, {} in vain",
-        noted.load(Ordering::SeqCst),
-        in_vain.load(Ordering::SeqCst)
+        "threads that meet over one tile: {held} held once, {noted} noted, {in_vain} in vain"
     )?;
-    let held = held_once(alloc, &plan, &mut ThreadCrew::new(&rt, alloc, OpenGate))?;
-    println!(rt; "threads: {held} tiles held once")?;
-    let held = held_once(alloc, &plan, &mut LineCrew::new(&rt, alloc))?;
-    println!(rt; "in line: {held} tiles held once")?;
-    let order = vec![in alloc; 0, 1, 1, 0, 3]?;
-    let held = held_once(alloc, &plan, &mut ScriptCrew::new(&rt, alloc, order))?;
-    println!(rt; "by a list: {held} tiles held once")?;
+    let mut threads = ThreadCrew::new(&rt, alloc, OpenGate);
+    let held = held_once(alloc, &plan, Flag::Down, &mut threads)?;
+    println!(rt; "threads: {held} held once")?;
+    let held = held_once(alloc, &plan, Flag::Down, &mut LineCrew::new(&rt, alloc))?;
+    println!(rt; "in line: {held} held once")?;
+    let mut by_list = ScriptCrew::new(&rt, alloc, vec![in alloc; 0, 1, 1, 0, 3]?);
+    let held = held_once(alloc, &plan, Flag::Down, &mut by_list)?;
+    println!(rt; "by a list: {held} held once")?;
+    let held = held_once(alloc, &plan, Flag::Raised, &mut LineCrew::new(&rt, alloc))?;
+    println!(rt; "in line after the flag was raised: {held} held once")?;
     Ok(())
 }
 
-/// How many tiles of the plan two workers hold once, as this crew runs them.
-fn held_once<C: Crew>(alloc: Global, plan: &Plan, crew: &mut C) -> Result<usize, AllocError> {
-    let entered = counters(alloc, TILES)?;
-    if let Some(tiles) = Tiles::new(plan, entered.as_slice()) {
+/// What two workers did that met at a gate: how many tiles they held once, how many were noted, and how many waited in
+/// vain.
+struct Met {
+    held: usize,
+    noted: u64,
+    in_vain: u64,
+}
+
+/// Has two workers of this plan meet at a gate, on threads.
+fn meet<R: Threads + Sync>(rt: &R, alloc: Global, plan: &Plan) -> Result<Met, AllocError> {
+    let (noted, in_vain) = (AtomicU64::new(0), AtomicU64::new(0));
+    let mut crew = ThreadCrew::new(rt, alloc, Meeting::new(&noted, &in_vain));
+    let held = held_once(alloc, plan, Flag::Down, &mut crew)?;
+    Ok(Met {
+        held,
+        noted: noted.load(Ordering::SeqCst),
+        in_vain: in_vain.load(Ordering::SeqCst),
+    })
+}
+
+/// How many tiles of the plan two workers hold once, as this crew runs them after this flag.
+fn held_once<C: Crew>(
+    alloc: Global,
+    plan: &Plan,
+    flag: Flag,
+    crew: &mut C,
+) -> Result<usize, AllocError> {
+    let entered = counters(alloc, plan.tiles.len())?;
+    if let Some(tiles) = Tiles::new(plan, entered.as_slice(), flag) {
         claim_all(alloc, &tiles, crew)?;
     }
     Ok(once(entered.as_slice()))

@@ -7,8 +7,8 @@ use std::thread;
 /// How often one that waits looks round for the other.
 const YIELDS: u32 = 20_000_000;
 
-/// A gate that notes each that passes, and holds it until two were noted, for at most so many yields. Those that waited in
-/// vain are noted too.
+/// A gate that notes each that passes, and holds it until two were noted, for at most so many yields. Those that waited
+/// in vain are noted too.
 #[derive(Drop)]
 pub struct Meeting<'a> {
     noted: &'a AtomicU64,
@@ -32,9 +32,5 @@ impl Gate for Meeting<'_> {
             thread::yield_now();
         }
         self.in_vain.fetch_add(1, Ordering::SeqCst);
-    }
-
-    fn holds(&self) -> bool {
-        true
     }
 }

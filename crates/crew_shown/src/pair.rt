@@ -8,17 +8,17 @@ ghost use Rattle.follow_chunk.specs.Tasks.{IsTask};
 ghost use Rattle.crew_shown.specs.Starts.{IsStart};
 
 use crate::counts::Counted;
-use crate::task::{nest, prediction, task};
-use crate::tiles::Tiles;
+use crate::tiles::{Flag, Tiles};
 use crew::Crew;
 use domain::Prediction;
 use follow_chunk::Task;
 use nest_lang::Nest;
+use sample_tasks::{nest, prediction, task};
 use shared_words::{MainSeat, SharedWords};
 use std::alloc::{AllocError, Global};
 use verified_turns::Worker;
 
-/// What the workers stand on.
+/// What the workers refer to: the nest, what is predicted of it, and the words.
 #[derive(Drop)]
 struct Ground {
     nest: Nest,
@@ -35,11 +35,11 @@ pub fn claim_all<C: Crew>(
     let nest = nest(alloc)?;
     let pred = prediction(alloc)?;
     let (words, main) = SharedWords::new(alloc, &[0; 40])?;
-    over(alloc, Ground { nest, pred, words }, main, tiles, crew)
+    claim_on_own_ground(alloc, Ground { nest, pred, words }, main, tiles, crew)
 }
 
-/// The same on this ground.
-fn over<C: Crew>(
+/// Keeps the ground while the workers refer to it.
+fn claim_on_own_ground<C: Crew>(
     alloc: Global,
     ground: Ground,
     mut main: MainSeat,
@@ -51,11 +51,11 @@ fn over<C: Crew>(
     requires table { main.table ≡ ground.words }
     requires start { IsStart main.view }
 {
-    on(alloc, &ground, &mut main, tiles, crew)
+    claim_on_ground(alloc, &ground, &mut main, tiles, crew)
 }
 
-/// The same, with the first turn of the nest as the task.
-fn on<C: Crew>(
+/// Makes the workers' task of the ground: the first turn of its nest.
+fn claim_on_ground<C: Crew>(
     alloc: Global,
     ground: &Ground,
     main: &mut MainSeat,
@@ -68,11 +68,11 @@ fn on<C: Crew>(
     requires start { IsStart main.old.view }
 {
     let task = task(&ground.nest, &ground.pred);
-    run(alloc, &task, &ground.words, main, tiles, crew)
+    run_two_workers(alloc, &task, &ground.words, main, tiles, crew)
 }
 
-/// Posts the plan, lends two seats, and has the crew run the workers over them.
-fn run<'a, 'e, C: Crew>(
+/// Posts the plan, sets the flag, lends two seats, and has the crew run the workers over them.
+fn run_two_workers<'a, 'e, C: Crew>(
     alloc: Global,
     task: &'a Task<'a, 1>,
     words: &'a SharedWords,
@@ -87,10 +87,25 @@ fn run<'a, 'e, C: Crew>(
     let mut jobs = Vec::with_capacity(alloc, 2)?;
     crew.reserve(1)?;
     main.post(words, tiles.plan);
+    set_flag(tiles.flag, words, main);
     lend(1, task, words, main, tiles, &mut jobs);
     lend(2, task, words, main, tiles, &mut jobs);
     crew.work::<Counted<'e>, 1>(task.chunk.first, 0, &mut jobs);
     Ok(())
+}
+
+/// Lends a third seat, over which nobody works. It raises the flag where this is to be raised.
+fn set_flag(flag: Flag, words: &SharedWords, main: &mut MainSeat)
+    requires table { main.old.table ≡ words.now }
+    requires posted { main.old.view.posted ≡ true }
+    requires fresh { has 3 main.old.view.out ≡ false }
+    ensures table { main.new.table ≡ main.old.table }
+    ensures main { main.new.view ≡ lending_view main.old.view 3 }
+{
+    let mut seat = main.split(words, 3);
+    if flag == Flag::Raised {
+        seat.raise(words);
+    }
 }
 
 /// Lends a seat to the worker of this number.

@@ -6,11 +6,19 @@ use core_steps::{Plan, Tile};
 use std::alloc::{AllocError, Global};
 use std::sync::atomic::AtomicU64;
 
-/// A plan over 40 words, with a number for each tile that counts how often it was entered.
+/// How the flag of the phase is before the workers begin.
+#[derive(Clone, Copy, PartialEq, Eq)]
+pub enum Flag {
+    Down,
+    Raised,
+}
+
+/// A plan over 40 words, with a number for each tile that counts how often it was entered, and the flag to begin with.
 #[derive(Drop)]
 pub struct Tiles<'a> {
     pub plan: &'a Plan,
     pub entered: &'a [AtomicU64],
+    pub flag: Flag,
     ghost separate: { IsSeparate plan.now },
     ghost inside: { IsInside 40 plan.now },
     ghost few: { length entered.now ≤ 65536 },
@@ -19,12 +27,16 @@ pub struct Tiles<'a> {
 
 impl<'a> Tiles<'a> {
     /// None where the plan may not be posted over 40 words, or has another number of tiles.
-    pub fn new(plan: &'a Plan, entered: &'a [AtomicU64]) -> Option<Tiles<'a>> {
+    pub fn new(plan: &'a Plan, entered: &'a [AtomicU64], flag: Flag) -> Option<Tiles<'a>> {
         let tiles = plan.tiles.len();
         if tiles > 65_536 || tiles != entered.len() || !plan.is_inside(40) || !plan.separate() {
             return None;
         }
-        Some(Tiles { plan, entered })
+        Some(Tiles {
+            plan,
+            entered,
+            flag,
+        })
     }
 }
 

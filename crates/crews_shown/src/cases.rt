@@ -1,6 +1,6 @@
 //! Cases: words and a text, run under each crew.
 
-use crate::crews::{Kind, Order};
+use crate::crews::{Entrance, Kind, Order};
 use crate::runs::{Ran, run, same_phases};
 use std::alloc::{AllocError, Global};
 use std::io;
@@ -10,8 +10,9 @@ use std::thread::Threads;
 pub const ROUNDS: u32 = 40;
 
 /// The kinds of the crews beside that which runs its workers in line.
-const OTHERS: [Kind; 8] = [
-    Kind::OnThreads,
+pub const OTHERS: [Kind; 9] = [
+    Kind::OnThreads(Entrance::Open),
+    Kind::OnThreads(Entrance::Threshold),
     Kind::ByList(Order::Rising, 1),
     Kind::ByList(Order::Falling, 1),
     Kind::ByList(Order::Mixed, 1),
@@ -21,11 +22,21 @@ const OTHERS: [Kind; 8] = [
     Kind::ByList(Order::ThirdFirst, 1),
 ];
 
-/// Writes the words of a case, its answer and status under workers in line, and then of each other crew whether it gives
-/// the same. A case without a text is a fault; an empty one is none.
+/// The kinds under which a case that takes long is run beside the crew that runs its workers in line.
+pub const THREADS: [Kind; 2] = [
+    Kind::OnThreads(Entrance::Open),
+    Kind::OnThreads(Entrance::Threshold),
+];
+
+/// How many bytes are more than a text may have.
+const TOO_MANY: usize = 1_048_577;
+
+/// Writes the words of a case, its answer and status under workers in line, and then of crews of these kinds whether
+/// each gives the same. A case without a text is a fault; an empty one is none.
 pub fn show_case<R: Threads + Sync + Alloc<A = Global> + Print>(
     rt: &R,
     case: &str,
+    kinds: &[Kind],
 ) -> io::Result<()> {
     if case.is_empty() {
         return Ok(());
@@ -33,14 +44,33 @@ pub fn show_case<R: Threads + Sync + Alloc<A = Global> + Print>(
     let Some((line, text)) = case.split_once('\n') else {
         return println!(rt; "fault");
     };
+    show(rt, line, text, kinds)
+}
+
+/// And so of a text of blanks that is longer than a text may be.
+pub fn show_blanks<R: Threads + Sync + Alloc<A = Global> + Print>(rt: &R) -> io::Result<()> {
+    let mut blanks = String::with_capacity(rt.alloc(), TOO_MANY)?;
+    for _ in 0..TOO_MANY {
+        blanks.push(' ')?;
+    }
+    show(rt, "run", blanks.as_str(), &OTHERS)
+}
+
+/// Writes the answer of these words and this text, and of crews of these kinds whether each gives the same.
+fn show<R: Threads + Sync + Alloc<A = Global> + Print>(
+    rt: &R,
+    line: &str,
+    text: &str,
+    kinds: &[Kind],
+) -> io::Result<()> {
     let words = words_of(rt.alloc(), line)?;
     let first = run(rt, Kind::InLine, words.as_slice(), text)?;
     println!(rt; "nestrun {line}")?;
     print!(rt; "{}", text_of(first.sink.bytes()))?;
     println!(rt; "exit {}", first.status.exit())?;
-    for kind in OTHERS {
-        let other = run(rt, kind, words.as_slice(), text)?;
-        show_other(rt, kind, &first, &other)?;
+    for kind in kinds {
+        let other = run(rt, *kind, words.as_slice(), text)?;
+        show_other(rt, *kind, &first, &other)?;
     }
     println!(rt; "")
 }

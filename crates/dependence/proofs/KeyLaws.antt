@@ -11,6 +11,7 @@ use Rattle.std.proofs.lemmas.Cmp.{tied_itself, int_cmp_total}
 use Rattle.std.proofs.lemmas.Int.{ints}
 use Rattle.std.proofs.lemmas.Nat.{le-div}
 use Rattle.std.proofs.Math.Nat.{div-mul-le_self}
+use Rattle.plain_lemmas.proofs.OrderLaws.{ordering_then-less, ordering_then-same}
 
 -- one row of the band: its value at two instances, the tile's number there, and whether it adds to the wave
 pub record BandRow : Type 0 where
@@ -65,12 +66,6 @@ LeadingCases = (a b : List ℤ) → length a ≡ length b → NeverFalls a b →
 
 less : (a b : ℤ) → a <ℤ b → int_cmp a b ≡ Less
 less a b h = sym (int_cmp_is a b Less h)
-
-step-same : (a b : ℤ) (o : Ordering) → a ≡ b → ordering_then (int_cmp a b) o ≡ o
-step-same a b o e = ap (λ (z : ℤ). ordering_then (int_cmp a z) o) (sym e) ∙ ap (λ (r : Ordering). ordering_then r o) (tied_itself int_cmp_total a)
-
-step-less : (a b : ℤ) (o : Ordering) → a <ℤ b → ordering_then (int_cmp a b) o ≡ Less
-step-less a b o l = ap (λ (r : Ordering). ordering_then r o) (less a b l)
 
 cmp-cases : (a b : ℤ) → a ≤ℤ b → (a ≡ b) ⊎ (a <ℤ b)
 cmp-cases a b h = at (int_cmp a b) (int_ranks a b)
@@ -131,8 +126,8 @@ places-rise : (rs : List BandRow) (tail : List ℤ) (tail' : List ℤ) → AllBy
 places-rise [] tail tail' all more = more refl
 places-rise (r ∷ rs) tail tail' all more =
     ⊎_elim
-    (λ e. step-same r.first r.second _ e ∙ places-rise rs tail tail' all.1 (λ k. more (ap₂ (λ (z : ℤ) (zs : List ℤ). z ∷ zs) e k)))
-    (λ l. step-less r.first r.second _ l)
+    (λ e. ordering_then-same r.first r.second _ e ∙ places-rise rs tail tail' all.1 (λ k. more (ap₂ (λ (z : ℤ) (zs : List ℤ). z ∷ zs) e k)))
+    (λ l. ordering_then-less r.first r.second _ l)
     (cmp-cases r.first r.second all.0.rises)
 
 pub band-law : BandLaw
@@ -143,11 +138,11 @@ band-law leading rs m n all rank =
     let places_second = map (λ (r : BandRow). r.second) rs ++ n ∷ [] in
     same-front leading _ _
     ∙ ⊎_elim
-    (λ e. step-same _ _ _ e
+    (λ e. ordering_then-same _ _ _ e
     ∙ ap (λ (ts : List ℤ). slice_cmp int_cmp (ts ++ (leading ++ places_first)) (tiles_second ++ (leading ++ places_second))) (one-tile-law rs all e)
     ∙ same-front tiles_second _ _ ∙ same-front leading _ _
-    ∙ places-rise rs (m ∷ []) (n ∷ []) all (λ k. step-less m n _ (rank k)))
-    (λ l. step-less _ _ _ l)
+    ∙ places-rise rs (m ∷ []) (n ∷ []) all (λ k. ordering_then-less m n _ (rank k)))
+    (λ l. ordering_then-less _ _ _ l)
     (cmp-cases (waves (λ r. r.first-tile) rs) (waves (λ r. r.second-tile) rs) (waves-rise rs all))
 
 -- rows that never fall rise somewhere, or are equal
@@ -157,7 +152,7 @@ leading-cases [] (y ∷ ys) size h = absurd (omega arith)
 leading-cases (x ∷ xs) [] size h = absurd (omega arith)
 leading-cases (x ∷ xs) (y ∷ ys) size h =
     ⊎_elim
-    (λ e. ⊎_elim (λ l. inl (step-same x y _ e ∙ l)) (λ same. inr (ap₂ (λ (z : ℤ) (zs : List ℤ). z ∷ zs) e same))
+    (λ e. ⊎_elim (λ l. inl (ordering_then-same x y _ e ∙ l)) (λ same. inr (ap₂ (λ (z : ℤ) (zs : List ℤ). z ∷ zs) e same))
     (leading-cases xs ys (omega arith) (λ k l same. h (suc k) (omega arith) (ap₂ (λ (z : ℤ) (zs : List ℤ). z ∷ zs) e same))))
-    (λ l. inl (step-less x y _ l))
+    (λ l. inl (ordering_then-less x y _ l))
     (cmp-cases x y (h 0 (omega arith) refl))

@@ -2,9 +2,11 @@
 use Rattle.std.proofs.Common.{◌≡◌, sym, ap, ap₂, ◌∙◌, subst, ◌⊎◌, inl, inr, ⊎_elim, pos, List, [], ◌∷◌, int_cmp}
 use Rattle.std.specs.Cmp.Lexicographic.{slice_cmp}
 use Rattle.std.proofs.lemmas.Cmp.{lists_total, int_cmp_total}
-use Rattle.orders.specs.Orders.{Ordered, Has, Before, Precedes as ByKey}
-use Rattle.orders.proofs.Lists.{all_has, before-is, contains-from-has}
-use Rattle.orders.proofs.Sorts.{never-itself, never-both}
+use Rattle.orders.specs.Orders.{Ordered, Before, Precedes as ByKey}
+use Rattle.plain_lemmas.specs.Lists.{Has}
+use Rattle.orders.proofs.ListLaws.{before-is}
+use Rattle.plain_lemmas.proofs.MembershipLaws.{all-has, contains-from-has}
+use Rattle.orders.proofs.SortLaws.{never-itself, never-both}
 use Rattle.domain.specs.Tables.{Table}
 use Rattle.domain.specs.Instances.{Instance, Precedes, original_key, padded, Predicted, Ordered as InOrder}
 use Rattle.domain.specs.Footprints.{Conflict}
@@ -32,7 +34,7 @@ module _ {X : Type 0} where
   before-from R once one [] x y all h k r = absurd h
   before-from R once one (z ∷ zs) x y all (inl e) (inl f) r = absurd (once x (subst (R x) (f ∙ sym e) r))
   before-from R once one (z ∷ zs) x y all (inl e) (inr k) r = inl (e, k)
-  before-from R once one (z ∷ zs) x y all (inr h) (inl f) r = absurd (one x y r (subst (λ w. R w x) (sym f) (all_has (R z) zs x all.0 h)))
+  before-from R once one (z ∷ zs) x y all (inr h) (inl f) r = absurd (one x y r (subst (λ w. R w x) (sym f) (all-has (R z) zs x all.0 h)))
   before-from R once one (z ∷ zs) x y all (inr h) (inr k) r = inr (before-from R once one zs x y all.1 h k r)
 
 -- one of two instances comes first, or they have one key

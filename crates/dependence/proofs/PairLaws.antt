@@ -5,7 +5,8 @@ use Rattle.std.specs.List.{All, range_with_len, flat_map}
 use Rattle.std.proofs.lemmas.List.{map-append}
 use Rattle.std.proofs.lemmas.List.FromFn.{map-range_with_len_more}
 use Rattle.affine.specs.declared.row.Row.{Row}
-use Rattle.plain_lemmas.proofs.MembershipLaws.{Has, All-from, flat-map-has, map-has, has-flat-map, has-from-contains, contains-from-has}
+use Rattle.plain_lemmas.proofs.MembershipLaws.{All-from, flat_map-has, map-has, has-flat_map, has-from-contains, contains-from-has}
+use Rattle.plain_lemmas.specs.Lists.{Has}
 use Rattle.nest_lang.specs.declared.tree.AccessRef.{AccessRef}
 use Rattle.domain.specs.Tables.{Table, Block, Access, block_at, counters, depth}
 use Rattle.dependence.specs.Comparisons.{Number, Turn, AtX, AtY, at_most, row_for}
@@ -22,7 +23,7 @@ in-range a (suc n) k h = ⊎_elim (λ e. (omega arith, omega arith)) (λ m. let 
 
 refs-are : (t : Table) (r : AccessRef) → Has (refs t) r → IsRef t r
 refs-are t r h =
-    let (rank, in-rank, k) = flat-map-has (refs_of t) (range_with_len 0 (length t.blocks)) r h in
+    let (rank, in-rank, k) = flat_map-has (refs_of t) (range_with_len 0 (length t.blocks)) r h in
     let (number, in-number, e) = map-has (ref_at rank) (range_with_len 1 (length (block_at t rank).accesses)) r k in
     let (u, v) = in-range 0 (length t.blocks) rank in-rank in
     let (from, to) = in-range 1 (length (block_at t rank).accesses) number in-number in
@@ -42,8 +43,8 @@ pub record Names (t : Table) (sys : System) : Type 0 where
 pub names : (t : Table) (L : ℤ) (sys : System) → Has (systems t L) sys → Names t sys
 unfolding systems
 names t L sys h =
-    let (a, in-a, k) = flat-map-has (λ a. flat_map (systems_of t L a) (refs t)) (refs t) sys h in
-    let (b, in-b, m) = flat-map-has (systems_of t L a) (refs t) sys k in
+    let (a, in-a, k) = flat_map-has (λ a. flat_map (systems_of t L a) (refs t)) (refs t) sys h in
+    let (b, in-b, m) = flat_map-has (systems_of t L a) (refs t) sys k in
     by a b (refs-are t a in-a) (refs-are t b in-b) (pairs (referred t a) (referred t b)) m
   where
     at-case : (a b : AccessRef) → IsRef t a → IsRef t b → (c : ℕ) → (w : Bool) → nat_lt a.block b.block ≡ w → Has (range_with_len 1 (depth t + (if w then 1 else 0))) c → Names t (system t L a b c)
@@ -71,8 +72,8 @@ systems_of-all t L a b p q = All-from (IsSystemOf t) (systems_of t L a b)
     (λ sys h. (
       L,
       contains-from-has (systems t L) sys
-          (has-flat-map (λ first. flat_map (systems_of t L first) (refs t)) (refs t) a sys (has-ref t a.block a.access p.block p.from p.to)
-          (has-flat-map (systems_of t L a) (refs t) b sys (has-ref t b.block b.access q.block q.from q.to) h)),
+          (has-flat_map (λ first. flat_map (systems_of t L first) (refs t)) (refs t) a sys (has-ref t a.block a.access p.block p.from p.to)
+          (has-flat_map (systems_of t L a) (refs t) b sys (has-ref t b.block b.access q.block q.from q.to) h)),
     ))
 
 -- ---- lists that grow

@@ -1,7 +1,7 @@
 -- Lists of what is said of each number of a range.
 use Rattle.std.proofs.Common.{◌≡◌, refl, sym, ap, ap₂, ℕ, zero, suc, ◌<◌, ◌≤◌, ◌+◌, ◌⊎◌, inl, inr, ⊎_elim, List, [], ◌∷◌, ◌++◌, map, take, drop, length, get_or, arith}
 use Rattle.std.specs.List.{AllByRecursion, range_with_len, flat_map}
-use Rattle.plain_lemmas.proofs.MembershipLaws.{Has}
+use Rattle.plain_lemmas.specs.Lists.{Has}
 
 module _ {X : Type 0} where
   pub all-append : (P : X → Type 0) (xs ys : List X) → AllByRecursion P xs → AllByRecursion P ys → AllByRecursion P (xs ++ ys)

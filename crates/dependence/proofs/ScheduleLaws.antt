@@ -11,7 +11,8 @@ use Rattle.affine.specs.Sums.{dot}
 use Rattle.affine.specs.Forms.{Affine, value_at}
 use Rattle.affine.specs.Rows.{Meets}
 use Rattle.affine.specs.Matrices.{product}
-use Rattle.plain_lemmas.proofs.MembershipLaws.{Has, all-from, All-has, All-from, has-cases, has-map, map-has, has-flat-map}
+use Rattle.plain_lemmas.proofs.MembershipLaws.{all-from, All-has, All-from, has-cases, has-map, map-has, has-flat_map}
+use Rattle.plain_lemmas.specs.Lists.{Has}
 use Rattle.dependence.proofs.KeyLaws.{BandRow, GoesOn, waves, first_key, second_key, NeverFalls, leading-law, band-law, one-tile-law, leading-cases, floor-rises}
 use Rattle.domain.specs.declared.chunk.Chunk.{Chunk}
 use Rattle.domain.specs.Tables.{Table, Block, depth, IsTable}
@@ -121,18 +122,18 @@ module _ (D : ℕ) (t : Table) (L words : ℤ) (s : Schedule) (chunk : Chunk) (x
 
   has-trial : (v : Violated) → Has (violations t s) v → Has (trials t s L) (trial sys v)
   unfolding trials
-  has-trial v h = has-flat-map (trials_of t s) (systems t L) sys _ f.has (by (nat_le f.case (depth t)) (le-leb f.case (depth t) inside))
+  has-trial v h = has-flat_map (trials_of t s) (systems t L) sys _ f.has (by (nat_le f.case (depth t)) (le-leb f.case (depth t) inside))
     where
       by : (w : Bool) → w ≡ true → Has (if w then map (trial sys) (violations t s) else []) (trial sys v)
       by true e = has-map (trial sys) (violations t s) v h
       by false e = cc
 
   has-below : (row : ℕ) → 1 ≤ row → row ≤ depth t → Has (violations t s) (below row)
-  has-below row from to = has-flat-map (violations_of s) (range_with_len 1 (depth t)) row _ (has-range 1 (depth t) row from (omega arith)) (inl refl)
+  has-below row from to = has-flat_map (violations_of s) (range_with_len 1 (depth t)) row _ (has-range 1 (depth t) row from (omega arith)) (inl refl)
 
   has-above : (row : ℕ) → s.seq < row → row ≤ depth t → (line_at s (row - 1)).parallel ≡ true → Has (violations t s) (above row)
   has-above row from to parallel =
-      has-flat-map (violations_of s) (range_with_len 1 (depth t)) row _ (has-range 1 (depth t) row (omega arith) (omega arith)) (inr (by (nat_lt s.seq row && (line_at s (row - 1)).parallel) (rw (lt-ltb s.seq row from, parallel) refl)))
+      has-flat_map (violations_of s) (range_with_len 1 (depth t)) row _ (has-range 1 (depth t) row (omega arith) (omega arith)) (inr (by (nat_lt s.seq row && (line_at s (row - 1)).parallel) (rw (lt-ltb s.seq row from, parallel) refl)))
     where
       by : (w : Bool) → w ≡ true → Has (if w then above row ∷ [] else []) (above row)
       by true e = inl refl

@@ -6,7 +6,7 @@ use Rattle.affine.specs.Sums.{dot}
 use Rattle.affine.specs.Forms.{Affine, value_at}
 use Rattle.affine.specs.Matrices.{unit_row}
 use Rattle.plain_lemmas.proofs.IntegerLaws.{+ℤ-*ℤ, *ℤ-+ℤ, one-*ℤ, -ℤ-*ℤ, neg_ℤ-*ℤ}
-use Rattle.affine.proofs.SumLemmas.{dot-nil, dot-map-mul}
+use Rattle.affine.proofs.SumLaws.{dot-nil, dot-map-mul}
 use Rattle.domain.specs.Tables.{zero_form}
 use Rattle.domain.proofs.PointLaws.{dot-zeros}
 use Rattle.dependence.specs.Comparisons.{less}

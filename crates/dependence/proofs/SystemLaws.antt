@@ -8,7 +8,8 @@ use Rattle.std.proofs.lemmas.List.FromFn.{get_or-map-range_with_len, length-map-
 use Rattle.affine.specs.declared.row.Row.{Row}
 use Rattle.affine.specs.Forms.{Affine}
 use Rattle.affine.specs.Rows.{Meets}
-use Rattle.plain_lemmas.proofs.MembershipLaws.{Has, all_has, All-from, any-from-has, has-map, map-has, has-flat-map}
+use Rattle.plain_lemmas.proofs.MembershipLaws.{all-has, All-from, any-from-has, has-map, map-has, has-flat_map}
+use Rattle.plain_lemmas.specs.Lists.{Has}
 use Rattle.nest_lang.specs.declared.tree.AccessRef.{AccessRef}
 use Rattle.domain.specs.declared.chunk.Chunk.{Chunk}
 use Rattle.domain.specs.Tables.{Table, Block, Access, depth, block_at, access_at, counters, IsTable}
@@ -93,14 +94,14 @@ comparisons-hold D t L chunk x y is launched short p q a b address reach other c
 
 pub has-ref : (t : Table) (rank access : ℕ) → rank < length t.blocks → 1 ≤ access → access ≤ length (block_at t rank).accesses → Has (refs t) (record { block = rank; access = access })
 has-ref t rank access l from to =
-    has-flat-map (refs_of t) (range_with_len 0 (length t.blocks)) rank _ (has-range 0 (length t.blocks) rank (omega arith) (omega arith))
+    has-flat_map (refs_of t) (range_with_len 0 (length t.blocks)) rank _ (has-range 0 (length t.blocks) rank (omega arith) (omega arith))
     (has-map (λ (number : ℕ). record { block = rank; access = number }) (range_with_len 1 (length (block_at t rank).accesses)) access (has-range 1 (length (block_at t rank).accesses) access from (omega arith)))
 
 has-system : (t : Table) (L : ℤ) (a b : AccessRef) (c : ℕ) → Has (refs t) a → Has (refs t) b → pairs (referred t a) (referred t b) ≡ true → Has (cases t a b) c → Has (systems t L) (system t L a b c)
 unfolding systems
 has-system t L a b c in-a in-b both in-c =
-    has-flat-map (λ a. flat_map (systems_of t L a) (refs t)) (refs t) a _ in-a
-    (has-flat-map (systems_of t L a) (refs t) b _ in-b
+    has-flat_map (λ a. flat_map (systems_of t L a) (refs t)) (refs t) a _ in-a
+    (has-flat_map (systems_of t L a) (refs t) b _ in-b
     (by (pairs (referred t a) (referred t b)) both))
   where
     by : (w : Bool) → w ≡ true → Has (if w then map (system t L a b) (cases t a b) else []) (system t L a b c)
@@ -215,7 +216,7 @@ rows-met D t chunk x y a b cs is p q all row h =
     let ny = counters t (block_of t y) in
     let j = beside t chunk x y in
     let (c, k, e) = map-has (row_for nx ny) cs row h in
-    subst (Meets (point j)) (sym e) (meets-from-holds nx ny j c (long D t chunk x is p) (long D t chunk y is q) (all_has (Holds j) cs c all k))
+    subst (Meets (point j)) (sym e) (meets-from-holds nx ny j c (long D t chunk x is p) (long D t chunk y is q) (all-has (Holds j) cs c all k))
 
 pub pair_has_system : PairHasSystem
 pair_has_system D t L words chunk x y is pair =

@@ -7,7 +7,8 @@ use Rattle.std.proofs.lemmas.Int.{ints}
 use Rattle.affine.specs.Sums.{dot}
 use Rattle.affine.specs.Forms.{Affine, value_at}
 use Rattle.affine.specs.Rows.{Meets}
-use Rattle.plain_lemmas.proofs.MembershipLaws.{Has, All-has, has-left, has-right, has-map, has-flat-map, has-from-contains}
+use Rattle.plain_lemmas.proofs.MembershipLaws.{All-has, has-left, has-right, has-map, has-flat_map, has-from-contains}
+use Rattle.plain_lemmas.specs.Lists.{Has}
 use Rattle.nest_lang.specs.declared.tree.AccessRef.{AccessRef}
 use Rattle.domain.specs.Tables.{Table, Block, IsTable, cut, depth, zero_form, trip_form, block_at, level_at, counters, turning}
 use Rattle.dependence.specs.Comparisons.{Joint, point, Term, Number, AtX, AtY, value, AtMost, Holds, at_most, row_for}
@@ -97,7 +98,7 @@ value-greatest t b k at e l =
 -- ---- its rows in a system
 
 inner-has : (t : Table) (b : Block) (side : Affine → Term) (k : ℕ) → 1 ≤ k → k < counters t b → (c : AtMost) → Has (inner_counter t b side k) c → Has (inner_counters t b side) c
-inner-has t b side k from l c h = has-flat-map (inner_counter t b side) (range_with_len 1 (counters t b - 1)) k c (has-range 1 (counters t b - 1) k from (omega arith)) h
+inner-has t b side k from l c h = has-flat_map (inner_counter t b side) (range_with_len 1 (counters t b - 1)) k c (has-range 1 (counters t b - 1) k from (omega arith)) h
 
 -- what stands behind the first counters of a system
 behind-first : Table → AccessRef → AccessRef → ℕ → List AtMost

@@ -5,8 +5,9 @@ use Rattle.std.specs.List.{All, flat_map}
 use Rattle.affine.specs.declared.row.Row.{Row}
 use Rattle.affine.specs.Rows.{Meets, variables}
 use Rattle.fourier_motzkin.specs.declared.verdicts.Ruling.TheVariants.{Empty}
-use Rattle.plain_lemmas.proofs.MembershipLaws.{Has, All-has, All-from, has-cases, map-has, flat-map-has}
-use Rattle.fourier_motzkin.proofs.Points.{verdict-unmet}
+use Rattle.plain_lemmas.proofs.MembershipLaws.{All-has, All-from, has-cases, map-has, flat_map-has}
+use Rattle.plain_lemmas.specs.Lists.{Has}
+use Rattle.fourier_motzkin.proofs.PointLaws.{verdict-unmet}
 use Rattle.nest_lang.specs.declared.tree.AccessRef.{AccessRef}
 use Rattle.domain.specs.Tables.{Table, depth, block_at, counters}
 use Rattle.dependence.specs.Comparisons.{AtMost, row_for}
@@ -26,8 +27,8 @@ pub record IsSystem (t : Table) (L : ℤ) (sys : System) : Type 0 where
 pub system-is : (t : Table) (L : ℤ) (sys : System) → Has (systems t L) sys → IsSystem t L sys
 unfolding systems
 system-is t L sys h =
-    let (a, in-a, k) = flat-map-has (λ a. flat_map (systems_of t L a) (refs t)) (refs t) sys h in
-    let (b, in-b, m) = flat-map-has (systems_of t L a) (refs t) sys k in
+    let (a, in-a, k) = flat_map-has (λ a. flat_map (systems_of t L a) (refs t)) (refs t) sys h in
+    let (b, in-b, m) = flat_map-has (systems_of t L a) (refs t) sys k in
     by a b (pairs (referred t a) (referred t b)) m
   where
     by : (a b : AccessRef) (w : Bool) → Has (if w then map (system t L a b) (cases t a b) else []) sys → IsSystem t L sys
@@ -37,7 +38,7 @@ system-is t L sys h =
 system-of-trial : (t : Table) (s : Schedule) (L : ℤ) (v : Trial) → Has (trials t s L) v → IsSystem t L v.system
 unfolding trials
 system-of-trial t s L v h =
-    let (sys, in-s, k) = flat-map-has (trials_of t s) (systems t L) v h in
+    let (sys, in-s, k) = flat_map-has (trials_of t s) (systems t L) v h in
     subst (IsSystem t L) (by sys (nat_le sys.case (depth t)) k) (system-is t L sys in-s)
   where
     by : (sys : System) (w : Bool) → Has (if w then map (trial sys) (violations t s) else []) v → sys ≡ v.system

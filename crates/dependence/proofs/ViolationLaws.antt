@@ -14,10 +14,7 @@ use Rattle.dependence.specs.Systems.{System, IsSystemOf, equal, place_form, syst
 use Rattle.dependence.specs.Terms.{turned}
 use Rattle.dependence.specs.Legality.{combined, row_form, unmoved, violated, violation, joint_variables, trial}
 use Rattle.dependence.proofs.VerdictLaws.{system-is, over-tried}
-
-pub flat-append : {X Y : Type 0} (f : X → List Y) (xs ys : List X) → flat_map f (xs ++ ys) ≡ flat_map f xs ++ flat_map f ys
-flat-append f [] ys = refl
-flat-append {Y = Y} f (x ∷ xs) ys = ap (λ (zs : List Y). f x ++ zs) (flat-append f xs ys) ∙ sym (append_assoc (f x) (flat_map f xs) (flat_map f ys))
+use Rattle.std.proofs.lemmas.Grind.{flat_map-append}
 
 -- a row of the matrix as a form
 pub row_form-is : (t : Table) (b : Block) (l : Line) (row : List ℤ) (x : Affine) → row ≡ l.row → x ≡ combined (depth t) row (map (place_form t b) (range_with_len 0 (depth t))) → x ≡ row_form t b l
@@ -30,7 +27,7 @@ more-unmoved h t a b s k x y old before after l ex ey e g =
     let front = flat_map (unmoved t a b) (take k s.lines) in
     let here : equal (AtX x) (AtY y) ≡ unmoved t a b (line_at s k) = ap₂ (λ (p q : Affine). equal (AtX p) (AtY q)) ex ey in
     let grown : flat_map (unmoved t a b) (take (k + 1) s.lines) ≡ front ++ unmoved t a b (line_at s k) =
-    ap (flat_map (unmoved t a b)) (take_more s.lines k no-line l) ∙ flat-append (unmoved t a b) (take k s.lines) (line_at s k ∷ []) ∙ ap (λ (zs : List AtMost). front ++ zs) (append-nil (unmoved t a b (line_at s k))) in
+    ap (flat_map (unmoved t a b)) (take_more s.lines k no-line l) ∙ flat_map-append (unmoved t a b) (take k s.lines) (line_at s k ∷ []) ∙ ap (λ (zs : List AtMost). front ++ zs) (append-nil (unmoved t a b (line_at s k))) in
     g
     ∙ ap₂ (λ (rows : List Row) (cs : List AtMost). rows ++ map h cs) e here
     ∙ append_assoc old (map h front) (map h (unmoved t a b (line_at s k)))

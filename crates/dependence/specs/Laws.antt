@@ -5,7 +5,8 @@ use Rattle.std.specs.Ordering.{int_cmp}
 use Rattle.std.specs.Cmp.Lexicographic.{slice_cmp}
 use Rattle.std.specs.declared.cmp.Ordering.TheVariants.{Less}
 use Rattle.affine.specs.Rows.{Meets}
-use Rattle.orders.specs.Orders.{Has, Before, IsOrdering}
+use Rattle.orders.specs.Orders.{Before, IsOrdering}
+use Rattle.plain_lemmas.specs.Lists.{Has}
 use Rattle.domain.specs.declared.chunk.Chunk.{Chunk}
 use Rattle.nest_lang.specs.declared.tree.AccessRef.{AccessRef}
 use Rattle.nest_lang.specs.declared.tree.BlockRef.{BlockRef}

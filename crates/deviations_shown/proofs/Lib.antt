@@ -1,2 +1,2 @@
-mod Turns
-mod Listing
+mod TurnLaws
+mod ListingLaws

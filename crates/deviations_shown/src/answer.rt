@@ -49,6 +49,7 @@ fn file_text(alloc: Global, file: &NestFile, asked: Asked) -> Result<String, All
     match nest.loops.len() {
         1 => shown::<1>(alloc, file, nest, asked),
         2 => shown::<2>(alloc, file, nest, asked),
+        3 => shown::<3>(alloc, file, nest, asked),
         _ => String::from_str(alloc, "deeper"),
     }
 }

@@ -20,6 +20,13 @@ fn opening<const D: usize>(task: &Task<'_, D>, turn: i64) -> Instance<D>
     Instance { block: 0, at }
 }
 
+/// The first block of the turn behind a chunk.
+pub fn behind<const D: usize>(task: &Task<'_, D>) -> Instance<D>
+    requires { IsSomeTask D task.now.scalars task.now.nest.now.loops task.now.pred.now task.now.outer task.now.chunk }
+{
+    opening(task, task.chunk.first.wrapping_add(task.chunk.turns))
+}
+
 /// Whether the turn of an instance is one of the chunk's.
 fn holds<const D: usize>(chunk: Chunk, inst: &Instance<D>) -> bool
     requires some { 0 < D }

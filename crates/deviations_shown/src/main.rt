@@ -1,6 +1,6 @@
 //! Shows the first deviations of chunks. Each line of standard input has how many turns of a nest are profiled, how many
 //! turns the chunk behind them has, how many steps are left for these and, behind a colon, the text of a file. Of the
-//! file's first nest, of one or two loops, it writes what following the chunk's instances in original order gives, what a
+//! file's first nest, of one to three loops, it writes what following the chunk's instances in original order gives, what a
 //! comparison of the chunk's plain run gives, and whether the two agree. It stands on `compare` and `follow_chunk`, whose
 //! calls it shows.
 #![tactic(auto)]

@@ -1,30 +1,32 @@
 //! A chunk that is followed, and one that is run in original order.
 
 ghost use Rattle.std.specs.Prelude.{◌≡◌, ◌+◌, ◌<◌, ◌≤◌, ◌^◌, ◌≤ℤ◌, length, pos, false, true};
+ghost use Rattle.std.specs.List.{AllByRecursion};
 ghost use Rattle.nest_lang.specs.Rules.{loops_keep};
 ghost use Rattle.nest_lang.specs.Turns.{IsPositionIn};
+ghost use Rattle.domain.specs.Instances.{Predicted};
 ghost use Rattle.follow_chunk.specs.Tasks.{IsTask};
 
-use crate::instances::predicted;
 use block_exec::{Halt, MemoryPort, Port, Run, Watch};
 use compare::Compare;
+use domain::Instance;
 use follow_chunk::{Deviation, Followed, Task, follow_list};
 use nest_lang::{Budget, Nest, Outer, Turned};
 use plain_interp::run_turns;
-use std::alloc::{AllocError, Global};
 
-/// Follows the predicted instances of a chunk in original order, over these words.
+/// Follows predicted instances of a chunk, over these words.
 pub fn followed<const D: usize>(
-    alloc: Global,
     task: &Task<'_, D>,
+    list: &[Instance<D>],
     memory: &mut [i64],
-) -> Result<Followed<D>, AllocError>
+) -> Followed<D>
     requires few { D < 7 }
     requires task { IsTask D task.now.scalars task.now.nest.now.loops task.now.pred.now task.now.outer task.now.chunk (pos (length memory.old)) }
+    requires short { length list.now ≤ 65536 }
+    requires predicted { AllByRecursion (Predicted task.now.pred.now task.now.chunk) list.now }
 {
-    let list = predicted(alloc, task)?;
     let mut port = MemoryPort::new(memory);
-    Ok(follow_list(task, list.as_slice(), &mut port))
+    follow_list(task, list, &mut port)
 }
 
 /// Where a run stands between two turns.

@@ -5,9 +5,11 @@ ghost use Rattle.nest_lang.specs.Rules.{NestKeeps};
 ghost use Rattle.follow_chunk.specs.Tasks.{IsTask};
 
 use crate::answer::Asked;
+use crate::instances::{behind, predicted};
 use crate::profiled::profile_turns;
 use crate::runs::{compared, followed};
 use crate::tasks::Foretold;
+use domain::Instance;
 use follow::How;
 use follow_chunk::{Deviation, Followed, Task};
 use nest_lang::{Nest, State};
@@ -61,23 +63,50 @@ fn task_text<const D: usize>(
     requires task { IsTask D task.now.scalars task.now.nest.now.loops task.now.pred.now task.now.outer task.now.chunk (pos (length state.old.memory)) }
     requires scalars { length state.old.scalars ≤ 16 }
 {
+    let list = predicted(alloc, task)?;
+    let end = behind(task);
     let mut memory = state.memory.clone()?;
-    let followed = followed(alloc, task, memory.as_mut_slice())?;
+    let followed = followed(task, list.as_slice(), memory.as_mut_slice());
     let State { memory, scalars } = state;
     let compared = compared(*task, memory, scalars, left);
-    let agree = agree(&followed, &compared);
+    let agree = agree(&followed, &compared, list.as_slice(), &end);
     format!(in alloc; "followed {followed:?}\ncompared {compared:?}\nagree {agree}\n")
 }
 
 /// Whether following and comparing tell the same. A scalar differs as an instance ends where it is followed, and as its
-/// successor begins where it is compared.
-fn agree<const D: usize>(followed: &Followed<D>, compared: &Option<Deviation<D>>) -> bool {
+/// successor begins where it is compared: the next one of the list, or behind the last one of it the end.
+fn agree<const D: usize>(
+    followed: &Followed<D>,
+    compared: &Option<Deviation<D>>,
+    list: &[Instance<D>],
+    end: &Instance<D>,
+) -> bool {
     match (followed, compared) {
         (Followed::Same { .. }, None) => true,
         (Followed::Differs(first), Some(second)) => {
-            first.how == second.how
-                && (first.at == second.at || matches!(first.how, How::Scalar(..)))
+            let is_there = match first.how {
+                How::Scalar(..) => is_next(list, end, &first.at, &second.at),
+                _ => first.at == second.at,
+            };
+            is_there && first.how == second.how
         }
         _ => false,
     }
+}
+
+/// Whether the first instance stands in the list, and the second one behind it.
+fn is_next<const D: usize>(
+    list: &[Instance<D>],
+    end: &Instance<D>,
+    first: &Instance<D>,
+    second: &Instance<D>,
+) -> bool {
+    let mut is_here = false;
+    for inst in list {
+        if is_here {
+            return inst == second;
+        }
+        is_here = inst == first;
+    }
+    is_here && end == second
 }

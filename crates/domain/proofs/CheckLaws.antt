@@ -9,7 +9,7 @@ use Rattle.std.proofs.lemmas.List.Elements.{All-head, All-tail, All-cons}
 use Rattle.std.proofs.Math.Nat.{mul-le-mul, mul-le-mul_right}
 use Rattle.affine.specs.Forms.{Affine, value_at, AllWithinSize}
 use Rattle.affine.specs.Sums.{dot}
-use Rattle.affine.proofs.SumLemmas.{abs-dot}
+use Rattle.affine.proofs.SumLaws.{abs-dot}
 use Rattle.plain_lemmas.proofs.IntegerLaws.{unsigned_abs-add}
 use Rattle.domain.specs.declared.held.HeldWhy.{HeldWhy}
 use Rattle.domain.specs.Tables.{Access, Table, level_at, cut, trip, Reaches, stride_size}

@@ -2,8 +2,9 @@
 use Rattle.std.proofs.Common.{◌≡◌, refl, sym, ap, subst, ◌∙◌, ℕ, suc, ◌<◌, ◌≤◌, ◌+◌, ℤ, pos, ◌+ℤ◌, ◌-ℤ◌, ◌≤ℤ◌, ◌<ℤ◌, Some, None, List, [], ◌∷◌, ◌++◌, length, ◌⊎◌, inl, inr, ⊎_elim, append_assoc, length-append, set, get_or-set_same, get_or-set_other, length-set, arith}
 use Rattle.std.proofs.lemmas.Int.{ints}
 use Rattle.std.proofs.lemmas.Bool.{cases_lt}
-use Rattle.plain_lemmas.proofs.OrderLaws.{cases-int-cmp}
-use Rattle.plain_lemmas.proofs.MembershipLaws.{Has, has-cases, has-right, contains-from-has, has-from-contains, all_has}
+use Rattle.plain_lemmas.proofs.OrderLaws.{cases-int_cmp}
+use Rattle.plain_lemmas.proofs.MembershipLaws.{has-cases, has-right, contains-from-has, has-from-contains, all-has}
+use Rattle.plain_lemmas.specs.Lists.{Has}
 use Rattle.nest_lang.specs.declared.tree.Part.TheVariants.{Head, Pre, Post}
 use Rattle.domain.specs.declared.chunk.Chunk.{Chunk}
 use Rattle.domain.specs.declared.held.HeldWhy.TheVariants.{Many}
@@ -28,7 +29,7 @@ ordered-suffix R (u ∷ us) vs o = ordered-suffix R us vs o.1
 
 ordered-before : {X : Type 0} (R : X → X → Type 0) (us vs : List X) (x z : X) → Ordered R (us ++ vs) → Has us z → Has vs x → R z x
 ordered-before R [] vs x z o h k = absurd h
-ordered-before {X} R (u ∷ us) vs x z o (inl e) k = subst (λ (v : X). R v x) (sym e) (all_has (R u) (us ++ vs) x o.0 (has-right us vs x k))
+ordered-before {X} R (u ∷ us) vs x z o (inl e) k = subst (λ (v : X). R v x) (sym e) (all-has (R u) (us ++ vs) x o.0 (has-right us vs x k))
 ordered-before R (u ∷ us) vs x z o (inr h) k = ordered-before R us vs x z o.1 h k
 
 -- the counters of an instance are at most n above the chunk's first turn
@@ -56,7 +57,7 @@ module _ (D : ℕ) (t : Table) (is : IsTable D t) (chunk : Chunk) where
       past : Has (x ∷ y ∷ vs) (next t x) → Precedes t (next t x) y → ⊥
       past (inl f) l = not-itself (original_key t x) (subst (λ (v : Instance). Precedes t x v) f after.after)
       past (inr (inl f)) l = not-itself (original_key t y) (subst (λ (v : Instance). Precedes t v y) f l)
-      past (inr (inr k)) l = not-back (original_key t (next t x)) (original_key t y) l (all_has (Precedes t y) vs (next t x) ends.1.0 k)
+      past (inr (inr k)) l = not-back (original_key t (next t x)) (original_key t y) l (all-has (Precedes t y) vs (next t x) ends.1.0 k)
 
       by : Predicted t chunk (next t x) ⊎ (next t x ≡ opening_at t (chunk.first +ℤ chunk.turns)) → Precedes t (next t x) y → ⊥
       by (inl p) l =
@@ -79,7 +80,7 @@ module _ (D : ℕ) (t : Table) (is : IsTable D t) (chunk : Chunk) where
       by (inl f) l = not-itself (original_key t x) (subst (λ (v : Instance). Precedes t v x) f l)
       by (inr k) l =
           let order = subst (Ordered (Precedes t)) e o.ordered in
-          not-back (original_key t x) (original_key t (opening_at t chunk.first)) (all_has (Precedes t x) vs (opening_at t chunk.first) order.0 k) l
+          not-back (original_key t x) (original_key t (opening_at t chunk.first)) (all-has (Precedes t x) vs (opening_at t chunk.first) order.0 k) l
 
   next-near : (x y : Instance) (n : ℕ) → y ≡ next t x → Near chunk x n → Near chunk y (n + 1)
   next-near x y n e h = subst (λ (v : Instance). Near chunk v (n + 1)) (sym e) (record { up = f.up h.up; most = λ k. let a = f.most h.up k in let b = h.most k in omega (arith, ints) })
@@ -177,7 +178,7 @@ launched_places D t words chunk instances is low some l x p k = by (kind D t is 
     none v e = (omega (arith, ints), omega (arith, ints))
 
     behind : (level : ℕ) → Stands t Post level x.block → 1 ≤ level → level < D → (pos 0 ≤ℤ turns_of (trip t level x.at)) × (turns_of (trip t level x.at) ≤ℤ (chunk.first +ℤ pos 65536))
-    behind level here from to = cases-int-cmp (trip t level x.at) (pos 0)
+    behind level here from to = cases-int_cmp (trip t level x.at) (pos 0)
         (λ h. none (turns_of (trip t level x.at)) (turns-none (trip t level x.at) (omega (arith, ints))))
         (λ h. none (turns_of (trip t level x.at)) (turns-none (trip t level x.at) (omega (arith, ints))))
         (λ h. let found = last-turn D t is chunk x level p here from to (omega (arith, ints)) in

@@ -7,7 +7,8 @@ use Rattle.std.proofs.lemmas.Int.{ints}
 use Rattle.std.proofs.lemmas.Bool.{cases_lt}
 use Rattle.std.proofs.lemmas.List.Sums.{sum_by_push}
 use Rattle.std.proofs.lemmas.Bool.Decides.{nat_tests}
-use Rattle.plain_lemmas.proofs.MembershipLaws.{Has, has-cases, has-left, has-right, contains-from-has, has-from-contains}
+use Rattle.plain_lemmas.proofs.MembershipLaws.{has-cases, has-left, has-right, contains-from-has, has-from-contains}
+use Rattle.plain_lemmas.specs.Lists.{Has}
 use Rattle.std.proofs.lemmas.List.{get_or_default}
 use Rattle.affine.specs.Forms.{AllWithinSize}
 use Rattle.domain.specs.declared.chunk.Chunk.{Chunk}

@@ -2,7 +2,8 @@
 use Rattle.std.proofs.Common.{◌≡◌, refl, sym, ap₂, subst, ◌∙◌, ℕ, zero, suc, ◌<◌, ◌≤◌, pos, List, [], ◌∷◌, inl, inr, arith, lit≤}
 use Rattle.std.specs.Prelude.{◌^◌}
 use Rattle.std.proofs.lemmas.Cmp.{lists_total, int_cmp_total}
-use Rattle.plain_lemmas.proofs.MembershipLaws.{Has, contains-from-has, has-from-contains, all_has}
+use Rattle.plain_lemmas.proofs.MembershipLaws.{contains-from-has, has-from-contains, all-has}
+use Rattle.plain_lemmas.specs.Lists.{Has}
 use Rattle.domain.specs.Tables.{Table, IsBlock, block_at, level_at, Reaches, stride_size}
 use Rattle.domain.specs.Instances.{Instance, Precedes, Ordered, original_key}
 use Rattle.domain.specs.Examples.{PremisesCanHold, row}
@@ -33,14 +34,14 @@ module _ (t : Table) where
           at : Has (y ∷ ys) x → Has (x ∷ xs) y → x ≡ y
           at (inl e) k = e
           at (inr h) (inl e) = sym e
-          at (inr h) (inr k) = absurd (before x y (all_has (Precedes t x) xs y o.0 k) (all_has (Precedes t y) ys x p.0 h))
+          at (inr h) (inr k) = absurd (before x y (all-has (Precedes t x) xs y o.0 k) (all-has (Precedes t y) ys x p.0 h))
 
       forth : (z : Instance) → Has xs z → Has (y ∷ ys) z → Has ys z
-      forth z h (inl e) = absurd (not-itself (original_key t x) (subst (λ (v : Instance). Precedes t x v) (e ∙ sym first) (all_has (Precedes t x) xs z o.0 h)))
+      forth z h (inl e) = absurd (not-itself (original_key t x) (subst (λ (v : Instance). Precedes t x v) (e ∙ sym first) (all-has (Precedes t x) xs z o.0 h)))
       forth z h (inr k) = k
 
       back : (z : Instance) → Has ys z → Has (x ∷ xs) z → Has xs z
-      back z h (inl e) = absurd (not-itself (original_key t y) (subst (λ (v : Instance). Precedes t y v) (e ∙ first) (all_has (Precedes t y) ys z p.0 h)))
+      back z h (inl e) = absurd (not-itself (original_key t y) (subst (λ (v : Instance). Precedes t y v) (e ∙ first) (all-has (Precedes t y) ys z p.0 h)))
       back z h (inr k) = k
 
 pub one_list : OneList

@@ -1,4 +1,5 @@
 -- The table of a nest that keeps the rules is a table.
+use Rattle.std.proofs.lemmas.Bool.{and_parts}
 use Rattle.std.proofs.Common.{◌≡◌, refl, sym, ap, subst, ◌∙◌, ℕ, zero, suc, ◌+◌, ◌^◌, ◌<◌, ◌≤◌, Bool, true, false, not, nat_eq, nat_le, nat_lt, List, [], ◌∷◌, ◌++◌, length, map, get_or, slice_get, length-append, Option, Some, None, arith}
 use Rattle.std.specs.Prelude.{is_some, if◌then◌else◌, ◌&&◌, ◌≢◌}
 use Rattle.std.specs.List.{position, position_or_len}
@@ -19,16 +20,12 @@ use Rattle.nest_lang.specs.Blocks.{present_blocks, outermost, opening, closing, 
 use Rattle.nest_lang.specs.Blocks.{rank_of as nest_rank}
 use Rattle.nest_lang.specs.BlockLaws.{IsPresentHead, IsPresentPart}
 use Rattle.nest_lang.specs.Rules.{strides, has_statements, loop_keeps, loops_keep, NestKeeps, LoopKeeps}
-use Rattle.nest_lang.proofs.Ranks.{Each, Rise, present-rises, ranks-are-numbers, present_blocks-have-ranks}
-use Rattle.nest_lang.proofs.Ranks.{text_place as nest_place}
+use Rattle.nest_lang.proofs.RankLaws.{Each, Rise, present-rises, ranks-are-numbers, present_blocks-have-ranks}
+use Rattle.nest_lang.proofs.RankLaws.{text_place as nest_place}
 use Rattle.domain.specs.declared.table.LoopKind.{LoopKind}
 use Rattle.domain.specs.Tables.{Table, Access, Level, IsBlock, IsTable, Reaches, block_at, level_at, is_block, is_while, no_block, no_level, rank_of, stride_size, text_place, text_place_by}
 use Rattle.domain.specs.Shapes.{IsBlockOf, IsTableOf, kind_of, is_store}
 use Rattle.domain.specs.Laws.{TableOfNest, RanksOfNest}
-
-both : (a b : Bool) → a && b ≡ true → (a ≡ true) × (b ≡ true)
-both true b h = (refl, h)
-both false b h = absurd (cc)
 
 -- ---- searches in lists of one length, where the tests agree place by place
 module _ {X Y : Type 0} (p : X → Bool) (q : Y → Bool) (dx : X) (dy : Y) where
@@ -105,12 +102,12 @@ present-short l ls few = parts-short l ls few
 
 -- ---- rules of loops
 last-keeps : (l : Loop) (ls : List Loop) → loop_keeps l ls ≡ true → (m : Loop) × (slice_get (l ∷ ls) (length ls) ≡ Some m) × (m.pre ≢ [])
-last-keeps l [] h = (l, refl, λ none. absurd (let e = ap has_statements none in let k = (both (strides l.head) (has_statements l.pre) h).1 in cc))
-last-keeps l (x ∷ ls) h = let p = last-keeps x ls (both (strides l.head) (loop_keeps x ls) h).1 in (p.0, p.1, p.2)
+last-keeps l [] h = (l, refl, λ none. absurd (let e = ap has_statements none in let k = (and_parts (strides l.head) (has_statements l.pre) h).1 in cc))
+last-keeps l (x ∷ ls) h = let p = last-keeps x ls (and_parts (strides l.head) (loop_keeps x ls) h).1 in (p.0, p.1, p.2)
 
 keeps-few : (l : Loop) (ls : List Loop) → loops_keep (l ∷ ls) ≡ true → (length ls ≤ 5) × (loop_keeps l ls ≡ true)
 unfolding loops_keep
-keeps-few l ls h = let p = both (nat_le (length ls) 5) (loop_keeps l ls) h in let t = p.0 in (grind (arith, nat_tests), p.1)
+keeps-few l ls h = let p = and_parts (nat_le (length ls) 5) (loop_keeps l ls) h in let t = p.0 in (grind (arith, nat_tests), p.1)
 
 keeps-none : loops_keep [] ≡ true → ⊥
 unfolding loops_keep

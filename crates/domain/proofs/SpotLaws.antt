@@ -4,7 +4,7 @@ use Rattle.std.specs.List.{range_with_len}
 use Rattle.std.specs.Cmp.Lexicographic.{slice_cmp}
 use Rattle.std.proofs.lemmas.Int.{ints}
 use Rattle.std.proofs.lemmas.Bool.{cases_lt}
-use Rattle.plain_lemmas.proofs.OrderLaws.{cases-int-cmp, ordering_then-same, ordering_then-less}
+use Rattle.plain_lemmas.proofs.OrderLaws.{cases-int_cmp, ordering_then-same, ordering_then-less}
 
 pub record Spot : Type 0 where
   pub place : ℕ → ℤ
@@ -24,7 +24,7 @@ pub record Rises (n : ℕ) (p q : ℕ → ℤ) : Type 0 where
 abbrev pub Before : ℕ → Spot → Spot → Type 0
 Before n a b = Rises n a.place b.place ⊎ (Agree n a.place b.place × (a.text < b.text))
 
-agree-sym : (n : ℕ) (p q : ℕ → ℤ) → Agree n p q → Agree n q p
+pub agree-sym : (n : ℕ) (p q : ℕ → ℤ) → Agree n p q → Agree n q p
 agree-sym n p q h i l = sym (h i l)
 
 pub agree-more : (n : ℕ) (p q : ℕ → ℤ) → Agree n p q → p n ≡ q n → Agree (suc n) p q
@@ -34,7 +34,7 @@ pub compared : (n : ℕ) (p q : ℕ → ℤ) → (Agree n p q) ⊎ (Rises n p q 
 compared zero p q = inl (λ i l. absurd (omega arith))
 compared (suc n) p q =
     ⊎_elim
-    (λ same. cases-int-cmp (p n) (q n)
+    (λ same. cases-int_cmp (p n) (q n)
     (λ less. inr (inl (record { index = n; inside = omega arith; same = same; less = less })))
     (λ e. inl (agree-more n p q same e))
     (λ less. inr (inr (record { index = n; inside = omega arith; same = agree-sym n p q same; less = less }))))
@@ -151,6 +151,3 @@ before-left n a b c same e (inr h) = inr (λ i l. same i l ∙ h.0 i l, (let x =
 before-left n a b c same e (inl r) =
     let less = r.less in let f = same r.index r.inside in
     inl (record { index = r.index; inside = r.inside; same = λ i l. same i (omega (arith, r.inside)) ∙ r.same i l; less = omega (arith, ints) })
-
-pub agree_sym : (n : ℕ) (p q : ℕ → ℤ) → Agree n p q → Agree n q p
-agree_sym = agree-sym

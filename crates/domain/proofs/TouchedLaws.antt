@@ -5,7 +5,7 @@ use Rattle.std.proofs.lemmas.Int.{ints}
 use Rattle.std.proofs.lemmas.Bool.{cases_lt}
 use Rattle.std.proofs.lemmas.Option.{slice_get_within}
 use Rattle.std.proofs.lemmas.List.Elements.{Contains-append_left, Contains-append_right, Contains-append_cases}
-use Rattle.plain_lemmas.proofs.OrderLaws.{cases-int-cmp}
+use Rattle.plain_lemmas.proofs.OrderLaws.{cases-int_cmp}
 use Rattle.plain_lemmas.proofs.MembershipLaws.{has-from-contains, contains-from-has}
 use Rattle.std.specs.List.Sorted.{IsStrictlyIncreasing}
 use Rattle.domain.specs.Tables.{Table, Access, access_at}
@@ -46,7 +46,7 @@ between line low high first end words em hf he a = (there, back)
     there : (first ≤ a) × (a < end) → (((line +ℤ low) ≤ℤ pos a) × (pos a ≤ℤ (line +ℤ high))) × (a < words)
     there (f, g) =
         let w : a < words = omega arith in
-        (((hf a w).0 f, cases-int-cmp (line +ℤ high) (pos a) (λ l. absurd (let e = (he a w).1 (omega (arith, ints)) in omega arith)) (λ e. omega (arith, ints)) (λ m. omega (arith, ints))), w)
+        (((hf a w).0 f, cases-int_cmp (line +ℤ high) (pos a) (λ l. absurd (let e = (he a w).1 (omega (arith, ints)) in omega arith)) (λ e. omega (arith, ints)) (λ m. omega (arith, ints))), w)
 
     back : (((line +ℤ low) ≤ℤ pos a) × (pos a ≤ℤ (line +ℤ high))) × (a < words) → (first ≤ a) × (a < end)
     back ((l, h), w) = ((hf a w).1 l, ⊎_elim (λ b. b) (λ b. absurd (let z = (he a w).0 b in omega (arith, ints))) (cases_lt a end))

@@ -5,7 +5,7 @@ use Rattle.std.proofs.lemmas.Int.{ints}
 use Rattle.std.proofs.lemmas.Bool.{cases_lt, and_parts, not-true}
 use Rattle.std.proofs.lemmas.Bool.Decides.{nat_tests}
 use Rattle.plain_lemmas.proofs.IntegerLaws.{int_lt-true, int_lt-false}
-use Rattle.plain_lemmas.proofs.OrderLaws.{cases-int-cmp}
+use Rattle.plain_lemmas.proofs.OrderLaws.{cases-int_cmp}
 use Rattle.nest_lang.specs.declared.tree.Part.{Part}
 use Rattle.nest_lang.specs.declared.tree.Part.TheVariants.{Head, Pre, Post}
 use Rattle.domain.specs.declared.chunk.Chunk.{Chunk}
@@ -14,7 +14,7 @@ use Rattle.domain.specs.Instances.{Instance, instance, block_of, counter, turns_
 use Rattle.domain.specs.Steps.{turned, left_by, turn_by, head_rank, next_turn, after_loop, ends_loop, next_by, next}
 use Rattle.domain.proofs.PointLaws.{length-cut, cut-before, cut-after, trip-cut}
 use Rattle.domain.proofs.PlaceLaws.{place-counter, place-turns, place-rest}
-use Rattle.domain.proofs.SpotLaws.{Spot, Agree, Before, three, before-trans, before-right, before-left, agree_sym, by-text, between}
+use Rattle.domain.proofs.SpotLaws.{Spot, Agree, Before, three, before-trans, before-right, before-left, agree-sym, by-text, between}
 use Rattle.domain.proofs.RankLaws.{Stands, stands, has-rank, absent, Kind, AtHead, AtPre, AtPost, kind, text_at, text-stands, ranks-rise}
 use Rattle.domain.proofs.WithinLaws.{counters-of, turning-of, turns-trip, turns-none, trip-same, Begins, head-most, places-up, Within, Outer, Last, Inner, Test, within}
 use Rattle.domain.proofs.StepLaws.{next_turn-outermost, next_turn-inner}
@@ -54,7 +54,7 @@ module _ (D : ℕ) (t : Table) (is : IsTable D t) (chunk : Chunk) where
 
       good : (InTurn t chunk 1 (turned 0 at) → Predicted t chunk (instance 0 (turned 0 at))) → Predicted t chunk (instance 0 (turned 0 at)) ⊎ (instance 0 (turned 0 at) ≡ opening_at t (chunk.first +ℤ chunk.turns))
       good go =
-          cases-int-cmp (counter at 0 +ℤ pos 1) (chunk.first +ℤ chunk.turns)
+          cases-int_cmp (counter at 0 +ℤ pos 1) (chunk.first +ℤ chunk.turns)
           (λ less. inl (go (turned-turn D t is chunk 0 at size deep turn (λ e. less) (λ l. absurd (omega arith)))))
           (λ e. inr (ap₂ (λ (xs : List ℤ) (v : ℤ). instance 0 (set xs 0 v)) (cut-zeros at ∙ ap (λ (n : ℕ). replicate n (pos 0)) (size ∙ sym is.deep)) e))
           (λ more. absurd (let b = turn.below in omega (arith, ints)))
@@ -83,7 +83,7 @@ module _ (D : ℕ) (t : Table) (is : IsTable D t) (chunk : Chunk) where
       present : (r : ℕ) → Stands t Post k r → L a (instance r (cut k at))
       present r s = record {
         after = before-right D a (E k at) (At D t is chunk (instance r (cut k at))) same (sym text) before;
-        gap = λ z p l h. gap z p l (before-right D (At D t is chunk z) (At D t is chunk (instance r (cut k at))) (E k at) (agree_sym D (place t (post k) at) (place t (block_at t r) (cut k at)) same) text h);
+        gap = λ z p l h. gap z p l (before-right D (At D t is chunk z) (At D t is chunk (instance r (cut k at))) (E k at) (agree-sym D (place t (post k) at) (place t (block_at t r) (cut k at)) same) text h);
         inside = s.inside;
         good = inl (record {
           is = record { block = s.inside; size = length-cut k at ∙ size ∙ sym is.deep; rest = λ j l. cut-after k at j (omega (arith, c)) };
@@ -253,7 +253,7 @@ module _ (D : ℕ) (t : Table) (is : IsTable D t) (chunk : Chunk) where
   leads-left : (a b : Spot) (y : Instance) → Agree D a.place b.place → a.text ≡ b.text → L b y → L a y
   leads-left a b y same e lead = record {
     after = before-left D a b (At D t is chunk y) same e lead.after;
-    gap = λ z p l h. lead.gap z p (before-left D b a (At D t is chunk z) (agree_sym D a.place b.place same) (sym e) l) h;
+    gap = λ z p l h. lead.gap z p (before-left D b a (At D t is chunk z) (agree-sym D a.place b.place same) (sym e) l) h;
     inside = lead.inside;
     good = lead.good;
   }

@@ -8,13 +8,7 @@ ghost use Rattle.domain.specs.Launches.{outside, scalar_failure, scalars_failure
 use crate::held::HeldWhy;
 use crate::table::{AccessForm, BlockForms, LoopKind};
 use affine::Form;
-
-/// Whether the number is an i64.
-fn is_i64(number: i128) -> bool
-    ensures { result ≡ is_i64 number }
-{
-    -(1 << 63) <= number && number < 1 << 63
-}
+use nest_lang::is_i64;
 
 /// The value of a form, which is far from the ends of an i128.
 pub fn value<const D: usize>(form: &Form<D>, at: &[i64; D]) -> i128

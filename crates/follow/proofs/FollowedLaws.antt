@@ -15,10 +15,10 @@ use Rattle.follow.specs.Intervals.{Intervals, verified_by}
 use Rattle.follow.specs.Plans.{frame_with}
 use Rattle.follow.specs.Hows.{how_of_finish, scalars_differ}
 use Rattle.follow.specs.Followed.{Foretold, IsFollowed}
-use Rattle.follow.proofs.Begins.{announced-agree}
-use Rattle.follow.proofs.Closing.{same_all-self}
-use Rattle.follow.proofs.Showing.{f, FineTrace, instance-fine}
-use Rattle.follow.proofs.Comparing.{followed-cut, followed-scalar, followed-done}
+use Rattle.follow.proofs.OtherScalarLaws.{announced-agree}
+use Rattle.follow.proofs.ClosingLaws.{same_all-self}
+use Rattle.follow.proofs.VerifiedTraceLaws.{f, FineTrace, instance-fine}
+use Rattle.follow.proofs.ComparingLaws.{followed-cut, followed-scalar, followed-done}
 
 not-done : (c : code_cut.Cut) (halt : code.Halt) → finish_of (Err c) halt ≡ Done → ⊥
 not-done short.Halted halt e = cc

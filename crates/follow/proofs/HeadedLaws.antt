@@ -12,7 +12,7 @@ use Rattle.nest_lang.specs.Traces as traces
 use Rattle.nest_lang.specs.Expressions.{Frame}
 use Rattle.nest_lang.specs.Statements.{announced}
 use Rattle.nest_lang.specs.Heads.{Yield, head_of, head_step, as_number}
-use Rattle.nest_lang.proofs.Cuts.{trace_of, cut-stop, cut-cons, cut-end}
+use Rattle.nest_lang.proofs.CutLaws.{trace_of, cut-stop, cut-cons, cut-end}
 use Rattle.block_exec.specs.declared.halt.Halt as code
 use Rattle.block_exec.specs.declared.halt.Cut as code_cut
 use Rattle.block_exec.specs.declared.halt.Cut.TheVariants as short
@@ -32,10 +32,10 @@ use Rattle.follow.specs.Deviations.{Differs, Limit, IsFirst}
 use Rattle.follow.specs.Hows.{how_of_finish, scalars_differ}
 use Rattle.follow.specs.Turnings.{yield_by, IsTurning, condition_differs, turns_differ}
 use Rattle.follow.specs.Followed.{Foretold, IsFollowed}
-use Rattle.follow.proofs.Showing.{Fine, fine-one, HeadFine, head-fine}
-use Rattle.follow.proofs.Yields.{agree-append}
+use Rattle.follow.proofs.VerifiedTraceLaws.{Fine, fine-one, HeadFine, head-fine}
+use Rattle.follow.proofs.HeadYieldLaws.{agree-append}
 use Rattle.follow.proofs.FollowedLaws.{foretold-verified, foretold-announced}
-use Rattle.follow.proofs.Comparing.{run-by, Differ, Deviates, first-front, all-nil, followed-cut, followed-scalar, followed-done}
+use Rattle.follow.proofs.ComparingLaws.{run-by, Differ, Deviates, first-front, all-nil, followed-cut, followed-scalar, followed-done}
 
 module _ (p : Forecast) (next : Occurrence) (at : Occurrence) (values : List ℤ) where
   both-agree : (xs ys : List Observation) → all_agree p xs ≡ true → all_agree p ys ≡ true → all_agree p (xs ++ ys) ≡ true

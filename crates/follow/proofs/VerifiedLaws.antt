@@ -11,11 +11,11 @@ use Rattle.nest_lang.specs.Lookups.{Expectation}
 use Rattle.nest_lang.specs.Statements.{instance_trace}
 use Rattle.nest_lang.specs.Stores.{Store}
 use Rattle.nest_lang.specs.Traces.{Occurrence}
-use Rattle.orders.specs.Orders.{Has}
+use Rattle.plain_lemmas.specs.Lists.{Has}
 use Rattle.follow.specs.Intervals.{Intervals, verified_by}
 use Rattle.follow.specs.Plans.{frame_with}
 use Rattle.follow.specs.Verifies.{expected_by, VerifiesOwn}
-use Rattle.follow.proofs.Accessing.{SameBy, Same, instance-same, head-same}
+use Rattle.follow.proofs.AccessingLaws.{SameBy, Same, instance-same, head-same}
 
 module _ (at : Occurrence) (values : List ℤ) (x : Expectation) (intervals : Intervals) where
   same : (accesses : List Access) → (own : VerifiesOwn x intervals accesses) → Same at values x (verified_by intervals) own.verifies accesses

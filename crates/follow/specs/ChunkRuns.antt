@@ -21,8 +21,8 @@ HasTurnsIn [] o c = Unit {0}
 HasTurnsIn (l ∷ ls) o c = HasTurns l.head o c
 
 -- the scalars, observed as those that an instance begins with
-abbrev pub scalars_at : Occurrence → List ℤ → List Observation
-scalars_at at scalars = scalars_from (frame_with at [] plain) 0 scalars
+abbrev pub scalars_seen : Occurrence → List ℤ → List Observation
+scalars_seen at scalars = scalars_from (frame_with at [] plain) 0 scalars
 
 -- what is observed of some turns, in order, and how they finish
 pub record ChunkRun : Type 0 where
@@ -31,7 +31,7 @@ pub record ChunkRun : Type 0 where
 
 -- after all the turns come the closing scalars: those that the next turn's first instance begins with
 abbrev pub closing_at : Occurrence → Finish → List ℤ → List Observation
-closing_at at Done scalars = scalars_at at scalars
+closing_at at Done scalars = scalars_seen at scalars
 closing_at at (Halted halt) scalars = []
 closing_at at Limited scalars = []
 

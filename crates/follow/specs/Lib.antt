@@ -11,6 +11,7 @@ pub mod Instances
 pub mod PlannedLaws
 pub mod Footprints
 pub mod ReorderLaws
+pub mod Alike
 pub mod Intervals
 pub mod Verifies
 pub mod Hows

@@ -18,14 +18,14 @@ zeros zero = []
 zeros (suc d) = 0 ∷ zeros d
 
 -- what follows the counters of a post block: the expected turns of the next loop, and zeros
-abbrev pub behind : ℕ → ℕ → List ℕ
-behind zero n = []
-behind (suc d) n = n ∷ zeros d
+abbrev pub turns_and_zeros : ℕ → ℕ → List ℕ
+turns_and_zeros zero n = []
+turns_and_zeros (suc d) n = n ∷ zeros d
 
 abbrev pub padded_by : Forecast → ℕ → Part → ℕ → List ℤ → List ℤ
 padded_by p depth part.Head level cs = cs ++ map pos (zeros (depth - length cs))
 padded_by p depth part.Pre level cs = cs ++ map pos (zeros (depth - length cs))
-padded_by p depth part.Post level cs = cs ++ map pos (behind (depth - length cs) (turns_in (p.trip (record { part = part.Head; level = level + 1 }) cs)))
+padded_by p depth part.Post level cs = cs ++ map pos (turns_and_zeros (depth - length cs) (turns_in (p.trip (record { part = part.Head; level = level + 1 }) cs)))
 
 abbrev pub key_by : Forecast → ℕ → Part → ℕ → List ℤ → List ℤ
 key_by p depth part level cs = padded_by p depth part level cs ++ pos (text_place_by depth part level) ∷ []

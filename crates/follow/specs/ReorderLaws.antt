@@ -5,7 +5,8 @@ use Rattle.std.specs.Cmp.Lexicographic.{slice_cmp}
 use Rattle.nest_lang.specs.declared.tree.Loop.{Loop}
 use Rattle.nest_lang.specs.declared.state.Outer.{Outer}
 use Rattle.orders.specs.Runs.{Lawful}
-use Rattle.orders.specs.Orders.{Ordered, Has, SameElements, Differ, Before, Precedes, IsOrdering, range, placed}
+use Rattle.orders.specs.Orders.{Ordered, SameElements, Differ, Before, Precedes, IsOrdering, range, placed}
+use Rattle.plain_lemmas.specs.Lists.{Has}
 use Rattle.follow.specs.Forecasts.{Forecast}
 use Rattle.follow.specs.Plans.{planned, Item}
 use Rattle.follow.specs.FollowRuns.{follow_run}
@@ -20,8 +21,7 @@ item_touches p words i a = item_reads p words i a || item_writes p i a
 abbrev pub Conflict : Forecast → ℕ → Item → Item → Type 0
 Conflict p words x y = (a : ℕ) × (((item_writes p x a ≡ true) × (item_touches p words y a ≡ true)) ⊎ ((item_writes p y a ≡ true) × (item_touches p words x a ≡ true)))
 
--- an instance depends on its expected scalars, on what is expected of it and on the words of its footprint alone, and
--- changes only the words that it writes
+-- for each forecast, an instance depends on the words of its footprint alone, and changes only the words that it writes
 abbrev pub FollowIsLawful : Type 0
 FollowIsLawful = (p : Forecast) (after : Item → List ℤ) (words : ℕ) → Lawful (follow_machine p after words)
 

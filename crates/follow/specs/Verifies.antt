@@ -4,7 +4,7 @@ use Rattle.nest_lang.specs.declared.tree.Access.{Access}
 use Rattle.nest_lang.specs.declared.tree.AccessKind.{AccessKind}
 use Rattle.nest_lang.specs.declared.tree.AccessKind.TheVariants.{Load, Store}
 use Rattle.nest_lang.specs.Lookups.{Expectation, Interval}
-use Rattle.orders.specs.Orders.{Has}
+use Rattle.plain_lemmas.specs.Lists.{Has}
 use Rattle.follow.specs.Intervals.{Intervals}
 
 -- what is expected of a load, or of a store, of that number

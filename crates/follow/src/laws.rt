@@ -1,5 +1,6 @@
 //! Laws of instances that follow their prediction.
 
+ghost use Rattle.follow.specs.Alike.{FollowsAlike};
 ghost use Rattle.follow.specs.ChainLaw.{ChainHolds};
 ghost use Rattle.follow.specs.Deviations.{DeviationIsOne, DeviatesOrFollows, NotBoth};
 ghost use Rattle.follow.specs.Instances.{PlannedByInstance};
@@ -28,10 +29,16 @@ pub fn planned_in_order()
     ensures each { PlannedByInstance }
 {}
 
-/// What an instance gives depends on its expected scalars, on what is expected of it and on the words of
-/// its footprint alone, and only the words that it writes change.
+/// For each forecast, what an instance gives depends on the words of its footprint alone, and only the words that
+/// it writes change.
 pub fn follow_is_lawful()
     ensures { FollowIsLawful }
+{}
+
+/// Of a forecast, what an instance gives depends on its own expected scalars, on the intervals of its own accesses, on
+/// what its own head is expected to yield, and on the scalars that are expected after it, alone.
+pub fn follow_depends_on_expected()
+    ensures { FollowsAlike }
 {}
 
 /// The swap law: two neighbours in a list that do not conflict may be exchanged.

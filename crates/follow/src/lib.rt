@@ -10,23 +10,22 @@
 //! verified, and on `orders`, which has the laws of reordering for whatever runs on words. Its laws say
 //! which lists have one follow run, and that a chunk has no deviation exactly where its instances, one
 //! after another, follow from its first scalars within its steps. `VerifyingPort` refuses each address that
-//! is not expected of an instance before the port below is asked; `follow_block` and `follow_head` run one
-//! instance over it and say exactly whether it follows its prediction, and else how not. The layers above,
-//! which run instances in the order of a schedule and on several threads, rest on these laws and calls.
+//! is not expected of an instance before the port below is asked; `follow_block_verified` and
+//! `follow_head_verified` run one instance over it, or over another port that verifies by itself, and say exactly
+//! whether it follows its prediction, and else how not. `follow_chunk`, which finds the instances of a nest, calls
+//! these; the layers above, which run instances in the order of a schedule and on several threads, rest on it and on
+//! the laws.
 #![tactic(auto)]
 
 mod expected;
 mod head;
 mod how;
-mod instance;
 pub mod laws;
 mod verified;
 mod verify;
 
 pub use expected::Expected;
-pub use head::follow_head;
 pub use how::{Differs, How, Turning};
-pub use instance::follow_block;
 pub use verified::{follow_block_verified, follow_head_verified};
 pub use verify::{Interval, VerifyingPort};
 

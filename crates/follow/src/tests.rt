@@ -1,3 +1,5 @@
+//! Ports that verify, and instances of blocks and heads followed over them.
+
 ghost use Rattle.std.specs.Prelude.{◌≡◌, ◌≤◌, ◌^◌, true, None, slice_index_or};
 ghost use Rattle.follow.specs.Intervals.{interval_by};
 ghost use Rattle.nest_lang.specs.Rules.{strides};
@@ -107,14 +109,20 @@ fn followed(
     let expected = Listed { intervals, after };
     let mut scalars = [5, 6];
     let mut port = MemoryPort::new(words);
-    follow_block(
+    let mut verified = VerifyingPort::new(&mut port, &expected);
+    let mut how = How::Limit;
+    match follow_block_verified(
         &places.site(block_ref, 0),
         block,
         &expected,
         &mut scalars,
-        &mut port,
+        &mut verified,
         left,
-    )
+        &mut how,
+    ) {
+        Ok(steps) => Ok(steps),
+        Err(_) => Err(how),
+    }
 }
 
 /// Follows an instance of the head of a loop of that level over the words 9, 2, with the scalars 5 and 6.
@@ -140,15 +148,21 @@ fn evaluated(
     let mut words = [9, 2];
     let mut scalars = [5, 6];
     let mut port = MemoryPort::new(&mut words);
-    follow_head(
+    let mut verified = VerifyingPort::new(&mut port, &expected);
+    let mut how = How::Limit;
+    match follow_head_verified(
         &places.site(block_ref, 0),
         head,
         &expected,
         turning,
         &mut scalars,
-        &mut port,
+        &mut verified,
         left,
-    )
+        &mut how,
+    ) {
+        Ok(steps) => Ok(steps),
+        Err(_) => Err(how),
+    }
 }
 
 fn load(alloc: Global, access: u8, address: i64) -> Result<Expr, AllocError> {

@@ -1,4 +1,5 @@
-//! One instance, run over a port that verifies its accesses by itself.
+//! One instance, run from its expected scalars over a port that verifies its accesses by itself, and compared with what
+//! is expected of it.
 
 ghost use Rattle.std.specs.Prelude.{◌≡◌, ◌<◌, ◌≤◌, ◌^◌, ℕ, true, pos, [], length, slice_index_or, IsOk, FitsSigned};
 ghost use Rattle.std.specs.Int.{w64};
@@ -21,10 +22,12 @@ use crate::how::{Differs, How, Turning, compare_scalars, cut_short};
 use block_exec::{Blind, Halt, Port, Run, Site};
 use nest_lang::{Budget, Head, Stmt};
 
-/// Runs an instance of a block that has statements, as `follow_block` does, over a port that verifies its accesses by
-/// itself: for every forecast that says what is expected, where the port expects these intervals, it gives what
-/// `follow_block` gives, and where it differs `how` says how. The port's words are then those after the steps that were
-/// taken. The steps left are at most 2^32, and there are at most 256 scalars. In line, so that nothing is put by for its
+/// Runs an instance of a block that has statements, with these scalars, over a port that verifies its accesses by itself,
+/// and compares it with what is expected of it: each address before a word is touched, which the port does, and after
+/// the last statement each scalar. For every forecast that says what is expected, where the port expects these intervals,
+/// it gives the steps, which are at most those left, or that it differs; `how` then says how it differs first. The port's
+/// words are those after the steps that were taken; where it doesn't differ, the scalars that are expected after it are
+/// i64s. The steps left are at most 2^32, and there are at most 256 scalars. In line, so that nothing is put by for its
 /// caller.
 #[inline(always)]
 pub fn follow_block_verified<P: Port, E: Expected>(
@@ -63,9 +66,11 @@ pub fn follow_block_verified<P: Port, E: Expected>(
     }
 }
 
-/// Evaluates an instance of a head, as `follow_head` does, over a port that verifies its accesses by itself: for every
-/// forecast that says what is expected, where the port expects these intervals, it gives what `follow_head` gives, and
-/// where it differs `how` says how. The steps left are at most 2^32, there are at most 256 scalars, and a stride is not 0.
+/// Evaluates an instance of a head with these scalars, over a port that verifies its accesses by itself, and compares it
+/// with what is expected of it: each address before a word is touched, the lower bound and the trip of a `for` or the
+/// condition of a `while`, and then each scalar. For every forecast that says what is expected, where the port expects
+/// these intervals, it gives the steps or that it differs; `how` then says how it differs first. It leaves the words and
+/// the scalars. The steps left are at most 2^32, there are at most 256 scalars, and a stride is not 0.
 pub fn follow_head_verified<P: Port, E: Expected>(
     site: &Site<'_>,
     head: &Head,

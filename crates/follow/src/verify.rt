@@ -1,8 +1,9 @@
 //! A port that verifies addresses, over any port that does not.
 
-ghost use Rattle.std.specs.Prelude.{◌≡◌, false, Some, None, if◌then◌else◌};
+ghost use Rattle.std.specs.Prelude.{◌≡◌, true, false, Some, None, if◌then◌else◌};
 ghost use Rattle.std.specs.Borrow.{GName};
-ghost use Rattle.nest_lang.specs.Lookups.{Expectation, lies_in, line_of};
+ghost use Rattle.nest_lang.specs.Lookups.{Expectation, lies_in, line_of, look};
+ghost use Rattle.block_exec.specs.Ports.{without_word, memory_after};
 ghost use Rattle.follow.specs.Intervals.{interval_by, verified_by};
 
 use crate::expected::Expected;
@@ -34,6 +35,48 @@ impl<'p, 'e, P: Port, E: Expected> VerifyingPort<'p, 'e, P, E> {
     {
         VerifyingPort { port, expected }
     }
+
+    /// The word at an address, from the port below where that address is expected. Else that port is left as it is.
+    #[tactic(auto, using(crate::proofs::VerifyLaws::verifying))]
+    fn load_expected(&mut self, access: u8, address: i64) -> Result<i64, Stop>
+        ensures answer { result ≡ look true (E.intervals self.old.expected.now access) (P.memory self.old.port.now) address }
+        ensures unasked { lies_in (E.intervals self.old.expected.now access) address ≡ false → self.new.port.now ≡ self.old.port.now }
+        ensures memory { P.memory self.new.port.now ≡ P.memory self.old.port.now }
+        ensures expected { self.new.expected ≡ self.old.expected }
+        ensures below { P.expects self.new.port.now ≡ P.expects self.old.port.now }
+        ensures basis { P.basis self.new.port.now ≡ P.basis self.old.port.now }
+        ensures place { self.new.port.ghost_name ≡ self.old.port.ghost_name }
+    {
+        // Compared first, so that a refused load leaves the port below as it is.
+        if let Some(expected) = refused(self.expected, access, address) {
+            return Err(Stop::Unexpected {
+                seen: address,
+                expected,
+            });
+        }
+        self.port.load(access, address)
+    }
+
+    /// Sets the word at an address through the port below where that address is expected. Else that port is left as it is.
+    #[tactic(auto, using(crate::proofs::VerifyLaws::verifying))]
+    fn store_expected(&mut self, access: u8, address: i64, value: i64) -> Result<(), Stop>
+        ensures answer { result ≡ without_word (look true (E.intervals self.old.expected.now access) (P.memory self.old.port.now) address) }
+        ensures unasked { lies_in (E.intervals self.old.expected.now access) address ≡ false → self.new.port.now ≡ self.old.port.now }
+        ensures memory { P.memory self.new.port.now ≡ memory_after result (P.memory self.old.port.now) address value }
+        ensures expected { self.new.expected ≡ self.old.expected }
+        ensures below { P.expects self.new.port.now ≡ P.expects self.old.port.now }
+        ensures basis { P.basis self.new.port.now ≡ P.basis self.old.port.now }
+        ensures place { self.new.port.ghost_name ≡ self.old.port.ghost_name }
+    {
+        // Compared first, so that a refused store leaves the port below as it is.
+        if let Some(expected) = refused(self.expected, access, address) {
+            return Err(Stop::Unexpected {
+                seen: address,
+                expected,
+            });
+        }
+        self.port.store(access, address, value)
+    }
 }
 
 impl<P: Port, E: Expected> Port for VerifyingPort<'_, '_, P, E> {
@@ -45,26 +88,12 @@ impl<P: Port, E: Expected> Port for VerifyingPort<'_, '_, P, E> {
 
     ghost basis = { λ p. (P.basis p.port.now, P.expects p.port.now, p.port.ghost_name) };
 
-    #[tactic(auto, using(crate::proofs::VerifyLaws::verifying))]
     fn load(&mut self, access: u8, address: i64) -> Result<i64, Stop> {
-        if let Some(expected) = refused(self.expected, access, address) {
-            return Err(Stop::Unexpected {
-                seen: address,
-                expected,
-            });
-        }
-        self.port.load(access, address)
+        self.load_expected(access, address)
     }
 
-    #[tactic(auto, using(crate::proofs::VerifyLaws::verifying))]
     fn store(&mut self, access: u8, address: i64, value: i64) -> Result<(), Stop> {
-        if let Some(expected) = refused(self.expected, access, address) {
-            return Err(Stop::Unexpected {
-                seen: address,
-                expected,
-            });
-        }
-        self.port.store(access, address, value)
+        self.store_expected(access, address, value)
     }
 }
 

@@ -1,1 +1,3 @@
-pub mod FirstTurn
+pub mod FirstTurnLaws
+mod TurnLaws
+mod ListingLaws

@@ -1,7 +1,15 @@
 //! Runs an instance of a block as often as its input says: plainly, or followed against its prediction, alone or in a
-//! list of eight. Each line of its input has one of `plain`, `instance` and `list`, and a number. It writes the steps, or
-//! what differs. It stands on `follow_chunk`, and is what bench/follow.sh measures.
+//! list of eight. Each line of its input has one of `plain`, `instance` and `list`, and a number. A line with `turns` or
+//! `chunk`, a number and, behind a colon, the text of a file has a chunk of the file's first nest run so often by the plain
+//! interpreter, or followed. It writes the steps, or what differs. It stands on `follow_chunk`, and is what
+//! bench/follow.sh measures.
 #![tactic(auto)]
+
+mod chunks;
+mod instances;
+mod plain;
+mod profiled;
+mod tasks;
 
 ghost use Rattle.std.specs.Prelude.{◌≡◌, pos, Some, [], ◌∷◌, IfOk, length};
 ghost use Rattle.domain.specs.Examples.{row};
@@ -11,6 +19,7 @@ ghost use Rattle.follow_chunk.specs.Tasks.{IsTask};
 
 use affine::Form;
 use block_exec::{Blind, Halt, MemoryPort, Places, Run};
+use chunks::{Way, steps_text};
 use domain::{AccessForm, BlockForms, Chunk, Instance, LoopForms, LoopKind, Prediction};
 use follow_chunk::{Followed, Task, follow_instance, follow_list};
 use nest_lang::{BlockRef, Budget, Expr, Head, Loop, Nest, Outer, Part, Place, Stmt};
@@ -31,23 +40,43 @@ fn main(rt: HostRuntime) -> io::Result<()> {
     let pred = prediction(alloc)?;
     for line in BufReader::new(alloc, rt.reader())?.lines(alloc) {
         let line = line?;
-        let mut words = line.as_str().split(' ');
+        let (asked, text) = line.as_str().split_once(':').unwrap_or((line.as_str(), ""));
+        let mut words = asked.split(' ');
         let kind = words.next().unwrap_or("");
         let times = words.next().map_or(0, number);
-        let followed = match kind {
-            "plain" => Followed::Same {
-                steps: plain(&nest, times),
-            },
-            "instance" => alone(&nest, &pred, times),
-            "list" => listed(&nest, &pred, times),
-            _ => Followed::Same { steps: 0 },
+        let answer = match kind {
+            "turns" => steps_text(alloc, text, Way::Plainly, times)?,
+            "chunk" => steps_text(alloc, text, Way::Followed, times)?,
+            _ => block_text(alloc, &nest, &pred, kind, times)?,
         };
-        match followed {
-            Followed::Same { steps } => println!(rt; "{steps}")?,
-            Followed::Differs(deviation) => println!(rt; "{:?}", deviation)?,
-        }
+        println!(rt; "{answer}")?;
     }
     Ok(())
+}
+
+/// What is written of the block of one store.
+fn block_text(
+    alloc: Global,
+    nest: &Nest,
+    pred: &Prediction<1>,
+    kind: &str,
+    times: u32,
+) -> Result<String, AllocError>
+    requires nest { nest.now.loops ≡ one_row }
+    requires pred { pred.now ≡ row }
+{
+    let followed = match kind {
+        "plain" => Followed::Same {
+            steps: block_steps(nest, times),
+        },
+        "instance" => alone(nest, pred, times),
+        "list" => listed(nest, pred, times),
+        _ => Followed::Same { steps: 0 },
+    };
+    match followed {
+        Followed::Same { steps } => format!(in alloc; "{steps}"),
+        Followed::Differs(deviation) => format!(in alloc; "{deviation:?}"),
+    }
 }
 
 /// The number that a word is, or 0 where it is none of 32 bits.
@@ -56,7 +85,7 @@ fn number(word: &str) -> u32 {
 }
 
 /// The steps of so many plain runs of the block.
-fn plain(nest: &Nest, times: u32) -> u64 {
+fn block_steps(nest: &Nest, times: u32) -> u64 {
     let mut words = [0; 40];
     let mut steps: u64 = 0;
     if let Some(block) = nest.statements(PRE1) {

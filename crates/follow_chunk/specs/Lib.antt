@@ -1,7 +1,9 @@
 pub mod Predicted
 pub mod Items
+pub mod Nests
 pub mod Tasks
 pub mod Verifies
 pub mod Examples
 pub mod Followed
 pub mod Laws
+pub mod ReorderLaws

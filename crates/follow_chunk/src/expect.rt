@@ -12,7 +12,7 @@ use domain::{AccessForm, BlockForms, Instance, Prediction, What, expected};
 use follow::{Expected, Interval};
 
 /// A scalar expected as an instance begins, by number; 0 where there is no form of it.
-#[tactic(auto, using(crate::proofs::Predicting::scalar_expected))]
+#[tactic(auto, using(crate::proofs::PredictingLaws::scalar_expected))]
 pub fn expected_scalar<const D: usize>(pred: &Prediction<D>, inst: &Instance<D>, number: u8) -> i128
     requires { D < 7 }
     ensures { result ≡ slice_index_or (scalars_at pred.now inst.now) number (pos 0) }

@@ -35,7 +35,7 @@ impl<const D: usize> Task<'_, D> {
 
     /// An instance that is expected to begin with the scalars of the successor: that successor, and where there are no
     /// scalars any.
-    fn behind(&self, inst: &Instance<D>) -> Instance<D>
+    fn next_or_any(&self, inst: &Instance<D>) -> Instance<D>
         requires few { D < 7 }
         requires task { IsSomeTask D self.now.scalars self.now.nest.now.loops self.now.pred.now self.now.outer self.now.chunk }
         requires predicted { Predicted self.now.pred.now self.now.chunk inst.now }
@@ -71,7 +71,7 @@ impl<const D: usize> Task<'_, D> {
         Foreseen {
             pred: self.pred,
             inst,
-            next: self.behind(inst),
+            next: self.next_or_any(inst),
             forms: self.pred.block(inst.block),
         }
     }

@@ -4,7 +4,7 @@ use Rattle.std.specs.List.{flat_map}
 use Rattle.affine.specs.declared.row.Row.{Row}
 use Rattle.fourier_motzkin.specs.RowSets.{tidied, with_row, with_rows}
 use Rattle.fourier_motzkin.specs.Elimination.{judged, is_without, bounds_above, bounds_below, crossed, projected, eliminated}
-use Rattle.fourier_motzkin.proofs.Sets.{with_rows-is}
+use Rattle.fourier_motzkin.proofs.SetLaws.{with_rows-is}
 
 with_rows-append : (set xs ys : List Row) → with_rows set (xs ++ ys) ≡ with_rows (with_rows set xs) ys
 with_rows-append set [] ys = refl

@@ -12,8 +12,8 @@ use Rattle.fourier_motzkin.specs.declared.elimination.Eliminated.{Eliminated}
 use Rattle.fourier_motzkin.specs.declared.elimination.Eliminated.TheVariants as set
 use Rattle.fourier_motzkin.specs.Verdicts.{AreLevels, Bounds, bounds_of, levels, next, ruled, ruling, standing, verdict_of}
 use Rattle.fourier_motzkin.specs.declared.verdicts.Ruling.{Ruling}
-use Rattle.plain_lemmas.proofs.MembershipLaws.{All-from, list-any-none}
-use Rattle.fourier_motzkin.proofs.Points.{judged-cases, projected-over, tidied-over}
+use Rattle.plain_lemmas.proofs.MembershipLaws.{All-from, list_any-none}
+use Rattle.fourier_motzkin.proofs.PointLaws.{judged-cases, projected-over, tidied-over}
 
 -- rows with no wide number
 
@@ -30,13 +30,13 @@ either-second false b h = h
 
 narrow-row : (row : Row) → is_wide row ≡ false → IsWithin (2 ^ 62) row
 narrow-row row h = record {
-  coef = All-from (λ number. unsigned_abs number ≤ 2 ^ 62) row.coef.items (λ number k. narrow-number number (list-any-none is_wide_number row.coef.items (either-first (list_any is_wide_number row.coef.items) (is_wide_number row.cst) h) number k));
+  coef = All-from (λ number. unsigned_abs number ≤ 2 ^ 62) row.coef.items (λ number k. narrow-number number (list_any-none is_wide_number row.coef.items (either-first (list_any is_wide_number row.coef.items) (is_wide_number row.cst) h) number k));
   cst = narrow-number row.cst (either-second (list_any is_wide_number row.coef.items) (is_wide_number row.cst) h);
 }
 
 judged-sound : (n : ℕ) (rows : List Row) → AllOver n rows → IsSound n (judged rows)
 judged-sound n rows over = judged-cases (IsSound n) rows (λ some. tt) tt
-    (λ narrow few. (over, All-from (IsWithin (2 ^ 62)) rows (λ row h. narrow-row row (list-any-none is_wide rows narrow row h))))
+    (λ narrow few. (over, All-from (IsWithin (2 ^ 62)) rows (λ row h. narrow-row row (list_any-none is_wide rows narrow row h))))
 
 pub tidied-sound : (n : ℕ) (rows : List Row) → AllOver n rows → IsSound n (judged (tidied rows))
 tidied-sound n rows over = judged-sound n (tidied rows) (tidied-over n rows over)

@@ -14,9 +14,9 @@ use Rattle.plain_lemmas.proofs.IntegerLaws.{*ℤ-≤ℤ, one-*ℤ}
 use Rattle.affine.specs.declared.row.Row.{Row}
 use Rattle.affine.specs.Divisors.{common_divisor}
 use Rattle.affine.specs.Rows.{Meets, coefficient, normal, row_over}
-use Rattle.affine.proofs.DivisorLemmas.{IsGreatestDivisor-common_divisor}
-use Rattle.affine.proofs.FloorLemmas.{mul-floor}
-use Rattle.affine.proofs.NormalLemmas.{coefficient-normal-zero}
+use Rattle.affine.proofs.DivisorLaws.{IsGreatestDivisor-common_divisor}
+use Rattle.affine.proofs.FloorLaws.{mul-floor}
+use Rattle.affine.proofs.NormalLaws.{coefficient-normal-zero}
 use Rattle.fourier_motzkin.specs.Elimination.{bounds_above, bounds_below, crossed, eliminated, is_without, judged, projected}
 use Rattle.fourier_motzkin.specs.Laws.{AllowedPointsMeet, BoundedLevelsClose}
 use Rattle.fourier_motzkin.specs.Ranges.{IsAlone}
@@ -25,11 +25,12 @@ use Rattle.fourier_motzkin.specs.Verdicts.{bounds_of, levels, next, ruling, stan
 use Rattle.fourier_motzkin.specs.declared.elimination.Eliminated.{Eliminated}
 use Rattle.fourier_motzkin.specs.declared.elimination.Eliminated.TheVariants as set
 use Rattle.fourier_motzkin.specs.declared.verdicts.Ruling.TheVariants.{Empty, Maybe, Wide}
-use Rattle.plain_lemmas.proofs.MembershipLaws.{Has, All-has, has-filter, has-from-contains, has-left}
-use Rattle.fourier_motzkin.proofs.Levels.{below-or-last}
-use Rattle.fourier_motzkin.proofs.Points.{has-told, judged-cases, met-tidied}
+use Rattle.plain_lemmas.proofs.MembershipLaws.{All-has, has-filter, has-from-contains, has-left}
+use Rattle.plain_lemmas.specs.Lists.{Has}
+use Rattle.fourier_motzkin.proofs.LevelLaws.{below-or-last}
+use Rattle.fourier_motzkin.proofs.PointLaws.{has-told, judged-cases, met-tidied}
 use Rattle.fourier_motzkin.proofs.EliminationRunLaws.{length-levels}
-use Rattle.fourier_motzkin.proofs.Sets.{least-tidied, tied-coefficients}
+use Rattle.fourier_motzkin.proofs.SetLaws.{least-tidied, tied-coefficients}
 
 -- the normal form over its divisor
 

@@ -9,7 +9,7 @@ use Rattle.nest_tokens.specs.declared.token.Token.TheVariants as token
 use Rattle.nest_tokens.specs.declared.token.Mark.{Mark}
 use Rattle.nest_tokens.specs.declared.token.Mark.TheVariants as mark
 use Rattle.nest_tokens.specs.Tokens.{is_mark}
-use Rattle.nest_tokens.proofs.Marks.{is_mark-self, is_mark-true}
+use Rattle.nest_tokens.proofs.MarkLaws.{is_mark-self, is_mark-true}
 use Rattle.nest_grammar.specs.declared.fault.TextFault.{TextFault}
 use Rattle.nest_grammar.specs.declared.fault.TextKind.{TextKind}
 use Rattle.nest_grammar.specs.declared.fault.TextKind.TheVariants as kind
@@ -19,7 +19,7 @@ use Rattle.nest_grammar.specs.Readings.{Reading, after, ◌>>=◌, gives, refuse
 use Rattle.nest_grammar.specs.Names.{Names, place_of, fresh, fresh_at, unless_known, target, if_scalar}
 use Rattle.nest_grammar.specs.Expressions.{taken, closed, access}
 use Rattle.nest_grammar.specs.Grammar.{Room, AccessRoom, SeesNumber, SeesName, IsSigned, unsigned, negative}
-use Rattle.nest_grammar.proofs.Many.{bind-ok}
+use Rattle.nest_grammar.proofs.PartAfterPartLaws.{bind-ok}
 
 -- What each gives.
 

@@ -30,7 +30,7 @@ abbrev pub is_good : Token → Bool
 is_good (token.Bad b) = false
 is_good _ = true
 
--- a name, a number, a sign or a reserved word
+-- a name, a number, a sign or a keyword
 abbrev pub is_solid : Token → Bool
 is_solid (token.Bad b) = false
 is_solid token.End = false

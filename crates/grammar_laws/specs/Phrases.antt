@@ -23,7 +23,7 @@ use Rattle.grammar_laws.specs.Kinds.{comes_at}
 pub data Production : Type 0 where
   File Unit Scalar Item Loop Body Stmt Expr Sum Term Unary Signed Candidate Command : Production
 
--- How a production is written: a sign or a reserved word, a certain number, any number, any name, a
+-- How a production is written: a sign or a keyword, a certain number, any number, any name, a
 -- command's word, one form behind another, one of two, any number of times, or a production.
 pub data Form : Type 0 where
   Nothing : Form

@@ -7,13 +7,13 @@ ghost use Rattle.grammar_laws.specs.Laws.{FaultOrFile, OneReading, ReadingIsTheG
 
 /// A text reads as a file exactly where the grammar, as a relation between a text and a file, says that it is
 /// this file.
-#[tactic(auto, using(crate::proofs::Main::laws))]
+#[tactic(auto, using(crate::proofs::GrammarLaws::laws))]
 pub fn reading_is_the_grammar()
     ensures { ReadingIsTheGrammar }
 {}
 
 /// A text is at most one file.
-#[tactic(auto, using(crate::proofs::Main::laws))]
+#[tactic(auto, using(crate::proofs::GrammarLaws::laws))]
 pub fn one_reading()
     ensures { OneReading }
 {}
@@ -25,7 +25,7 @@ pub fn fault_or_file()
 
 /// Texts with the files that they are, texts with a fault of each kind, and texts at each limit and each rule and
 /// one step past it, each computed by hand.
-#[tactic(auto, using(crate::proofs::Computed::examples, crate::proofs::Refusals::refusals))]
+#[tactic(auto, using(crate::proofs::ExampleLaws::examples, crate::proofs::RefusalLaws::refusals))]
 pub fn examples()
     ensures readings { ReadingExamples }
     ensures faults { FaultExamples }
@@ -42,7 +42,7 @@ pub fn examples()
 /// in the innermost body. In each block of a nest the accesses are numbered from 1 on in the order of
 /// evaluation, at most 64; the scalars are the file's, the names those of the loops around it, and the locals
 /// at most 16; and there are fewer than 2^20 statements, nested ones counted.
-#[tactic(auto, using(crate::proofs::Rules::rules_kept))]
+#[tactic(auto, using(crate::proofs::RuleLaws::rules_kept))]
 pub fn files_keep_rules()
     ensures { FilesKeepRules }
 {}

@@ -6,7 +6,7 @@ ghost use Rattle.grammar_laws.specs.Phrases.{FaultNotTooLate, ReadTextIsSentence
 
 /// A fault is not too early: it stands at a token of the text, or at its end, and each text that has the
 /// same tokens up to and with this one has the same fault.
-#[tactic(auto, using(crate::proofs::Early::early))]
+#[tactic(auto, using(crate::proofs::EarlyFaultLaws::early))]
 pub fn not_too_early()
     ensures text { FaultNotTooEarly }
     ensures sight { ContentsFaultNotTooEarly }
@@ -19,7 +19,7 @@ pub fn not_too_early()
 /// A sentence is what the productions allow as they are written. The rules on names, numbers and how many
 /// there may be are left out: that these are judged at the first token that breaks them is said by the
 /// readings alone, production by production.
-#[tactic(auto, using(crate::proofs::Late::late))]
+#[tactic(auto, using(crate::proofs::LateFaultLaws::late))]
 pub fn not_too_late()
     ensures fault { FaultNotTooLate }
     ensures read { ReadTextIsSentence }
@@ -28,7 +28,7 @@ pub fn not_too_late()
 /// A fault stands at a token at which its kind may come: Known, Unknown and Fixed at a name, Version at a
 /// number, Empty at a `}`, Range at a number or a `-`, Script at a number or a command's word, Many at what
 /// begins something counted, and Byte, Number and Name exactly at what is no token.
-#[tactic(auto, using(crate::proofs::Late::late))]
+#[tactic(auto, using(crate::proofs::LateFaultLaws::late))]
 pub fn at_its_token()
     ensures { FaultAtItsToken }
 {}

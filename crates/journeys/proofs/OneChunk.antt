@@ -1,7 +1,9 @@
 -- A chunk leads one way.
 use Rattle.std.proofs.Common.{◌≡◌, refl, ap, ap₂, ◌∙◌, sym, subst, ℕ, suc, ◌+◌, ◌-◌, ℤ, List, [], ◌∷◌, ◌++◌, length, length-append, slice_get, Option, Some, inl, inr, ⊎_elim, arith}
-use Rattle.orders.specs.Orders.{Differ, Has, Ordered, SameElements}
-use Rattle.orders.proofs.Lists.{all_has, has-cases, has-left, has-right, has-split, has-without, ordered-weaker, ordered-without}
+use Rattle.orders.specs.Orders.{Differ, Ordered, SameElements}
+use Rattle.plain_lemmas.specs.Lists.{Has}
+use Rattle.orders.proofs.ListLaws.{has-split, has-without, ordered-weaker, ordered-without}
+use Rattle.plain_lemmas.proofs.MembershipLaws.{all-has, has-cases, has-left, has-right}
 use Rattle.nest_lang.specs.Traces.{Done}
 use Rattle.transform.specs.Schedules.{Schedule}
 use Rattle.domain.specs.Tables.{Table}
@@ -12,10 +14,9 @@ use Rattle.tiles.proofs.CountLaws.{cell-itself}
 use Rattle.follow.specs.declared.how.How.{How}
 use Rattle.follow.specs.Deviations.{Deviation}
 use Rattle.follow.specs.Hows.{how_of}
-use Rattle.follow.proofs.Deviating.{deviation-is-one, not-both}
+use Rattle.follow.proofs.DeviatingLaws.{deviation-is-one, not-both}
 use Rattle.follow_chunk.specs.Predicted.{forecast_of}
 use Rattle.compare.specs.Compared.{instance_in}
-use Rattle.compare.specs.Kept.{kept_deviation}
 use Rattle.chunk_run.specs.ChunkEnds.{ArePhaseKeysOf, HasNumbers}
 use Rattle.report.specs.declared.line.Line.{Line}
 use Rattle.journeys.specs.Settings.{Setting, Moment, chunk_turns, next_chunk, words_at}
@@ -39,7 +40,7 @@ same-count {X} (x ∷ xs) ys once only same =
     let us = split.0 in
     let vs = split.1 in
     let rest = same-count xs (us ++ vs) once.1 (ordered-without Differ us vs x (subst (Ordered Differ) split.2 only)) (record {
-      there = λ z h. without us vs z (subst (λ (l : List X). Has l z) split.2 (same.there z (inr h))) (all_has (Differ x) xs z once.0 h);
+      there = λ z h. without us vs z (subst (λ (l : List X). Has l z) split.2 (same.there z (inr h))) (all-has (Differ x) xs z once.0 h);
       back = λ z h. inner us vs z h (same.back z (subst (λ (l : List X). Has l z) (sym split.2) (has-without us vs x z h))) (subst (Ordered Differ) split.2 only);
     }) in
     let size : length ys ≡ length us + suc (length vs) = ap (λ (l : List X). length l) split.2 ∙ length-append us (x ∷ vs) in
@@ -51,8 +52,8 @@ same-count {X} (x ∷ xs) ys once only same =
 
     -- the element that was taken out isn't left
     gone : (us vs : List X) → Ordered Differ (us ++ x ∷ vs) → Has (us ++ vs) x → ⊥
-    gone [] vs ord h = all_has (Differ x) vs x ord.0 h refl
-    gone (u ∷ us) vs ord (inl e) = all_has (Differ u) (us ++ x ∷ vs) x ord.0 (has-right us (x ∷ vs) x (inl refl)) (sym e)
+    gone [] vs ord h = all-has (Differ x) vs x ord.0 h refl
+    gone (u ∷ us) vs ord (inl e) = all-has (Differ u) (us ++ x ∷ vs) x ord.0 (has-right us (x ∷ vs) x (inl refl)) (sym e)
     gone (u ∷ us) vs ord (inr h) = gone us vs ord.1 h
 
     inner : (us vs : List X) (z : X) → Has (us ++ vs) z → Has (x ∷ xs) z → Ordered Differ (us ++ x ∷ vs) → Has xs z
@@ -95,7 +96,7 @@ module _ (t : Table) (number : ℕ) (g : Setting) (m : Moment) where
   deviates-one at at' how how' a b =
       let run = chunk_run_from t g m in
       let same = deviation-is-one (forecast_of t) run a.0 b.0 a.1 b.1 in
-      (a.2 ∙ ap (instance_in t (next_chunk g m) run.observations) same ∙ sym b.2, a.3 ∙ ap (λ (d : Deviation). how_of (forecast_of t) (kept_deviation d)) same ∙ sym b.3)
+      (a.2 ∙ ap (instance_in t (next_chunk g m) run.observations) same ∙ sym b.2, a.3 ∙ ap (λ (d : Deviation). how_of (forecast_of t) d) same ∙ sym b.3)
 
   deviates-or-follows : (at : Instance) (how : How) → DeviatesAt t g m at how → FollowsIt t g m → ⊥
   deviates-or-follows at how a follows = not-both (forecast_of t) (chunk_run_from t g m) a.0 a.1 follows

@@ -18,7 +18,7 @@ use Rattle.journeys.specs.Tellings.{heading}
 use Rattle.journeys.specs.Journeys.{IsJourneyOf, entered_at, where_ended}
 use Rattle.journeys.specs.Journeys.IsNestJourney.{not_entered, entered}
 use Rattle.journeys.specs.Laws.{OneJourney, OneNestJourney, SameJourney, SameWay, StageLeadsOneWay}
-use Rattle.journeys.proofs.Entering.{same-err, same-ok, not-both as entry-both}
+use Rattle.journeys.proofs.EnteringLaws.{same-err, same-ok, not-both as entry-both}
 use Rattle.journeys.proofs.OneWay.{has-both, plain-leads-one-way, profile-leads-one-way}
 use Rattle.journeys.proofs.OneChunk.{chunk-leads-one-way}
 

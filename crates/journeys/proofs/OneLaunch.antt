@@ -8,9 +8,11 @@ use Rattle.std.proofs.Math.Seq.{drop-append_seam, take-append_seam}
 use Rattle.std.proofs.lemmas.List.FromFn.{get_or-map-range_with_len}
 use Rattle.std.proofs.lemmas.Option.{none-some}
 use Rattle.plain_lemmas.proofs.OrderLaws.{slice_cmp-exact}
-use Rattle.orders.specs.Orders.{Has, Ordered, SameElements}
-use Rattle.orders.proofs.Lists.{all-from, all_has, contains-from-has, has-from-contains, has-cases, has-left, has-split, ordered-across, ordered-right}
-use Rattle.orders.proofs.Sorts.{ordering-unique, never-both, never-itself}
+use Rattle.orders.specs.Orders.{Ordered, SameElements}
+use Rattle.plain_lemmas.specs.Lists.{Has}
+use Rattle.orders.proofs.ListLaws.{has-split, ordered-across, ordered-right}
+use Rattle.plain_lemmas.proofs.MembershipLaws.{all-from, all-has, contains-from-has, has-from-contains, has-cases, has-left}
+use Rattle.orders.proofs.SortLaws.{ordering-unique, never-both, never-itself}
 use Rattle.domain.specs.declared.chunk.Chunk.{Chunk}
 use Rattle.domain.specs.declared.held.HeldWhy.{HeldWhy}
 use Rattle.domain.specs.Tables.{Table, block_at, counters, depth}
@@ -111,12 +113,12 @@ module _ (t : Table) where
       where
         left : (bs ds : List Instance) → Ordered (Precedes t) (bs ++ ds) → Ordered (Precedes t) bs
         left [] ds o = tt
-        left (b ∷ bs) ds o = (all-from (Precedes t b) bs (λ z h. all_has (Precedes t b) (bs ++ ds) z o.0 (has-left bs ds z h)), left bs ds o.1)
+        left (b ∷ bs) ds o = (all-from (Precedes t b) bs (λ z h. all-has (Precedes t b) (bs ++ ds) z o.0 (has-left bs ds z h)), left bs ds o.1)
 
         among : (z : Instance) → Precedes t z x → Has us z ⊎ Has (x ∷ vs) z → Has us z
         among z less (inl h) = h
         among z less (inr (inl e)) = absurd (never-same x (subst (λ (y : Instance). Precedes t y x) e less))
-        among z less (inr (inr h)) = absurd (never-back z x less (all_has (Precedes t x) vs z (ordered-right (Precedes t) us (x ∷ vs) all.ordered).0 h))
+        among z less (inr (inr h)) = absurd (never-back z x less (all-has (Precedes t x) vs z (ordered-right (Precedes t) us (x ∷ vs) all.ordered).0 h))
 
     -- no chunk is held at an instance of which it passed
     passed : (x : Instance) (why : HeldWhy) (all : List Instance) → AreUpTo x all → Passes t words all → Has all x → IsHeld t words chunk x why → ⊥

@@ -17,7 +17,7 @@ use Rattle.journeys.specs.Journeys.{IsJourneyOf, IsNestJourney, entered_at, wher
 use Rattle.journeys.specs.Journeys.IsNestJourney.{not_entered, entered}
 use Rattle.journeys.specs.HandedRecords.{Launched, launched_at, launched_by, launched_on, launched_in_nest, launched_behind, launched_in_nests}
 use Rattle.journeys.specs.Laws.{OneLaunched}
-use Rattle.journeys.proofs.Entering.{same-ok, not-both as entry-both}
+use Rattle.journeys.proofs.EnteringLaws.{same-ok, not-both as entry-both}
 use Rattle.journeys.proofs.OneWay.{has-both}
 use Rattle.journeys.proofs.OneChunk.{launched-one}
 use Rattle.journeys.proofs.OneJourney.{one-nest-journey, over-stays, stage-leads-one-way}

@@ -19,13 +19,13 @@ use Rattle.nest_lang.specs.Stores.{Store}
 use Rattle.nest_lang.specs.Traces.{Cut, Done, Finish, Halt, Halted, Limited, Occurrence, cut_of}
 use Rattle.nest_lang.specs.Turns.{IsPosition, IsPositionIn, entry_steps, first_position, turns_later}
 use Rattle.nest_lang.specs.TurnLaws.{over_is_done}
-use Rattle.nest_lang.proofs.Cuts.{cut-left}
+use Rattle.nest_lang.proofs.CutLaws.{cut-left}
 use Rattle.nest_grammar.specs.declared.file.File.{File}
 use Rattle.nest_grammar.specs.declared.file.NestUnit.{NestUnit}
 use Rattle.nest_grammar.specs.declared.version.Version.{Version}
 use Rattle.nest_grammar.specs.Files.{first_store}
-use Rattle.plain_interp.proofs.Keeps.{loop_keeps-strides}
-use Rattle.plain_interp.proofs.OuterTurns.{position-later}
+use Rattle.plain_interp.proofs.NestRuleLaws.{loop_keeps-strides}
+use Rattle.plain_interp.proofs.OuterTurnLaws.{position-later}
 use Rattle.transform.specs.Schedules.{Schedule}
 use Rattle.domain.specs.Tables.{IsTable, Table}
 use Rattle.profile.specs.Reach.{HasI64s, IsOfI64s, head_numbers}
@@ -48,9 +48,9 @@ use Rattle.journeys.specs.Stages.Reaches.{begun, then}
 use Rattle.journeys.specs.Journeys.{IsJourneyOf, IsNestJourney, entered_at, where_ended}
 use Rattle.journeys.specs.Journeys.IsNestJourney.{not_entered, entered}
 use Rattle.journeys.specs.Laws.{IsRunnable, SomeJourney}
-use Rattle.journeys.proofs.Entering.{entry-goes, same-ok, yields-bounds}
+use Rattle.journeys.proofs.EnteringLaws.{entry-goes, same-ok, yields-bounds}
 use Rattle.journeys.proofs.SomeWay.{some-chunk, some-plain, some-profile}
-use Rattle.journeys.proofs.TurnSteps.{steps-taken, store-left}
+use Rattle.journeys.proofs.TurnStepLaws.{steps-taken, store-left}
 
 -- a nest that keeps the rules, whose numbers are i64s, with profiles and chunks of at least one turn
 pub record IsReady (g : Setting) : Type 0 where

@@ -6,9 +6,11 @@ use Rattle.std.specs.Cmp.Lexicographic.{slice_cmp}
 use Rattle.std.proofs.lemmas.Cmp.{lists_total, int_cmp_total, on_total, then_total, tied_itself}
 use Rattle.std.proofs.lemmas.Int.{ints}
 use Rattle.std.proofs.lemmas.Option.{none-some}
-use Rattle.plain_lemmas.proofs.OrderLaws.{cases-int-cmp, slice_cmp-exact}
-use Rattle.orders.specs.Orders.{Differ, Has, Ordered}
-use Rattle.orders.proofs.Lists.{all-from, all_has, contains-from-has, has-from-contains, ordered-weaker}
+use Rattle.plain_lemmas.proofs.OrderLaws.{cases-int_cmp, slice_cmp-exact}
+use Rattle.orders.specs.Orders.{Differ, Ordered}
+use Rattle.plain_lemmas.specs.Lists.{Has}
+use Rattle.orders.proofs.ListLaws.{ordered-weaker}
+use Rattle.plain_lemmas.proofs.MembershipLaws.{all-from, all-has, contains-from-has, has-from-contains}
 use Rattle.domain.specs.declared.chunk.Chunk.{Chunk}
 use Rattle.domain.specs.declared.held.HeldWhy.{HeldWhy}
 use Rattle.domain.specs.declared.held.HeldWhy.TheVariants.{Many}
@@ -31,7 +33,7 @@ module _ (D : ℕ) (t : Table) (is : IsTable D t) (chunk : Chunk) (words : ℤ) 
 
   -- a step of the walk of a launch
   walk-step : (x : Instance) (instances width : ℕ) (w : Walk D t words chunk x instances width) → (Predicted t chunk x → failure t words w.before x ≡ None → HasEnd) → HasEnd
-  walk-step x instances width w goes = cases-int-cmp (counter x.at 0) (chunk.first +ℤ chunk.turns) (λ h. inside (walk-in D t is chunk words x instances width w h)) (λ e. past (omega (arith, ints, e))) (λ h. past (omega (arith, ints, h)))
+  walk-step x instances width w goes = cases-int_cmp (counter x.at 0) (chunk.first +ℤ chunk.turns) (λ h. inside (walk-in D t is chunk words x instances width w h)) (λ e. past (omega (arith, ints, e))) (λ h. past (omega (arith, ints, h)))
     where
       past : (chunk.first +ℤ chunk.turns) ≤ℤ counter x.at 0 → HasEnd
       past h = inl (instances, walk-ends D t is chunk words x instances width w h)
@@ -70,7 +72,7 @@ module _ {X : Type 0} (cmp : X → X → Ordering) (total : IsTotalOrder cmp) (e
       by : (r : Ordering) → cmp x y ≡ r → Inserted x ys → Inserted x (y ∷ ys)
       by Less e rest = record {
         list = x ∷ y ∷ ys;
-        ordered = ((e, all-from (Below x) ys (λ z h. total.trans x y z e (all_has (Below y) ys z ord.0 h))), ord);
+        ordered = ((e, all-from (Below x) ys (λ z h. total.trans x y z e (all-has (Below y) ys z ord.0 h))), ord);
         there = λ z h. h;
         back = λ z h. h;
       }
@@ -90,7 +92,7 @@ module _ {X : Type 0} (cmp : X → X → Ordering) (total : IsTotalOrder cmp) (e
         where
           follows : (z : X) → cmp y x ≡ Less → (z ≡ x) ⊎ Has ys z → Below y z
           follows z above (inl same) = subst (Below y) (sym same) above
-          follows z above (inr h) = all_has (Below y) ys z ord.0 h
+          follows z above (inr h) = all-has (Below y) ys z ord.0 h
 
           there : (zs : List X) (z : X) → (Has zs z → (z ≡ x) ⊎ Has ys z) → Has (y ∷ zs) z → (z ≡ x) ⊎ Has (y ∷ ys) z
           there zs z goes (inl same) = inr (inl same)

@@ -6,17 +6,16 @@ use Rattle.nest_lang.specs.Lookups.{plain}
 use Rattle.nest_lang.specs.Traces.{Cut, Done, Finish, Halt, Halted, Limited, Observation, Trace, cut}
 use Rattle.nest_lang.specs.Stores.{Store}
 use Rattle.nest_lang.specs.Turns.{AreWhole, turns_later}
-use Rattle.nest_lang.proofs.Agree.{cut-alike}
+use Rattle.nest_lang.proofs.AgreementLaws.{cut-alike}
 use Rattle.transform.specs.Schedules.{Schedule}
 use Rattle.domain.specs.Tables.{IsTable, Table}
 use Rattle.domain.specs.Launches.{IsLaunched}
 use Rattle.follow.specs.Deviations.{Deviation, FollowsPrediction, IsDeviation}
 use Rattle.follow.specs.Hows.{how_of}
-use Rattle.follow.proofs.Bounds.{turns-alike}
-use Rattle.follow.proofs.Deviating.{deviates-or-follows}
+use Rattle.follow.proofs.BoundLaws.{turns-alike}
+use Rattle.follow.proofs.DeviatingLaws.{deviates-or-follows}
 use Rattle.follow_chunk.specs.Predicted.{forecast_of}
 use Rattle.compare.specs.Compared.{instance_in}
-use Rattle.compare.specs.Kept.{kept_deviation}
 use Rattle.profile.specs.Fits.{IsFitOf}
 use Rattle.profile.proofs.SomeFitLaws.{fit-or-first-unfit}
 use Rattle.profiling.specs.FirstProfiles.{has_turn}
@@ -29,7 +28,7 @@ use Rattle.journeys.specs.Stages.ProfileLeads.{stopped as profile_stopped, used_
 use Rattle.journeys.specs.Stages.ChunkLeads.{held, rolled_back, committed}
 use Rattle.journeys.specs.Stages.PlainLeads.{stopped as plain_stopped, gone_on}
 use Rattle.journeys.specs.Laws.{ChunkLeadsSomewhere, PlainLeadsSomewhere, ProfileLeadsSomewhere}
-use Rattle.journeys.proofs.PlainRuns.{no-turns}
+use Rattle.journeys.proofs.PlainRunLaws.{no-turns}
 use Rattle.journeys.proofs.SomeLaunch.{launch-ends, some-numbers}
 
 halted-done : (halt : Halt) → Halted halt ≡ Done → ⊥
@@ -208,7 +207,7 @@ module _ (t : Table) (number : ℕ) (g : Setting) (m : Moment) where
         lines = _;
         stage = _;
         after = m;
-        leads = rolled_back s instances (instance_in t (next_chunk g m) (chunk_run_from t g m).observations d) (how_of (forecast_of t) (kept_deviation d)) which launched (d, deviates, refl, refl);
+        leads = rolled_back s instances (instance_in t (next_chunk g m) (chunk_run_from t g m).observations d) (how_of (forecast_of t) d) which launched (d, deviates, refl, refl);
       }
       run instances launched (inr follows) = at instances launched follows (some-run g m (chunk_turns g m))
 

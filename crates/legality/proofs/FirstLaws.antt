@@ -3,7 +3,7 @@ use Rattle.std.proofs.Common.{◌≡◌, refl, sym, ap, ◌∙◌, ℕ, zero, su
 use Rattle.std.specs.Prelude.{if◌then◌else◌}
 use Rattle.std.specs.List.{find, flat_map}
 use Rattle.std.proofs.lemmas.List.{take_more, take_all}
-use Rattle.dependence.proofs.ViolationLaws.{flat-append}
+use Rattle.std.proofs.lemmas.Grind.{flat_map-append}
 
 take-drop : {Z : Type 0} (n : ℕ) (ys : List Z) → take n ys ++ drop n ys ≡ ys
 take-drop zero ys = refl
@@ -37,7 +37,7 @@ module _ {X Y : Type 0} (p : X → Bool) (f : X → Y) where
 
   module _ {Z : Type 0} (g : Z → List X) (zs : List Z) (k : ℕ) (z d : Z) where
     taken : k < length zs → get_or zs k d ≡ z → flat_map g (take (k + 1) zs) ≡ flat_map g (take k zs) ++ g z
-    taken l e = ap (flat_map g) (take_more zs k d l ∙ ap (λ (y : Z). take k zs ++ y ∷ []) e) ∙ flat-append g (take k zs) (z ∷ []) ∙ ap (λ (xs : List X). flat_map g (take k zs) ++ xs) (append-nil (g z))
+    taken l e = ap (flat_map g) (take_more zs k d l ∙ ap (λ (y : Z). take k zs ++ y ∷ []) e) ∙ flat_map-append g (take k zs) (z ∷ []) ∙ ap (λ (xs : List X). flat_map g (take k zs) ++ xs) (append-nil (g z))
 
     -- none passes in the lists of the first elements, and none in that of the next one
     pub none-more : (o : Option Y) → k < length zs → get_or zs k d ≡ z → first (flat_map g (take k zs)) ≡ None → o ≡ first (g z) → is_some o ≡ false → first (flat_map g (take (k + 1) zs)) ≡ None
@@ -46,7 +46,7 @@ module _ {X Y : Type 0} (p : X → Bool) (f : X → Y) where
     -- one passes in that of the next one
     pub found-here : (o : Option Y) → k < length zs → get_or zs k d ≡ z → first (flat_map g (take k zs)) ≡ None → o ≡ first (g z) → is_some o ≡ true → o ≡ first (flat_map g zs)
     found-here o l e before here some =
-        let whole : flat_map g (take (k + 1) zs ++ drop (k + 1) zs) ≡ flat_map g (take (k + 1) zs) ++ flat_map g (drop (k + 1) zs) = flat-append g (take (k + 1) zs) (drop (k + 1) zs) in
+        let whole : flat_map g (take (k + 1) zs ++ drop (k + 1) zs) ≡ flat_map g (take (k + 1) zs) ++ flat_map g (drop (k + 1) zs) = flat_map-append g (take (k + 1) zs) (drop (k + 1) zs) in
         let here-too : first (flat_map g (take (k + 1) zs)) ≡ o = ap first (taken l e) ∙ first-past (flat_map g (take k zs)) (g z) before ∙ sym here in
         sym here-too
         ∙ sym (first-within (flat_map g (take (k + 1) zs)) (flat_map g (drop (k + 1) zs)) (ap is_some here-too ∙ some))

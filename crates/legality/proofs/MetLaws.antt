@@ -15,9 +15,10 @@ use Rattle.domain.specs.Tables.{Table}
 use Rattle.nest_lang.specs.declared.tree.AccessRef.{AccessRef}
 use Rattle.dependence.specs.Systems.{System, IsSystemOf, refs, systems, systems_of}
 use Rattle.dependence.specs.Legality.{is_empty, joint_variables, violation}
-use Rattle.dependence.proofs.ViolationLaws.{flat-append, violation-over}
+use Rattle.dependence.proofs.ViolationLaws.{violation-over}
 use Rattle.legality.specs.declared.listing.Dependence.{Dependence}
 use Rattle.legality.specs.Dependences.{dependences, depends, met}
+use Rattle.std.proofs.lemmas.Grind.{flat_map-append}
 
 put-by : (w : Bool) (d : Dependence) (all front back : List Dependence) → all ≡ front ++ back → (if w then d ∷ all else all) ≡ (if w then d ∷ front else front) ++ back
 put-by true d all front back e = ap (λ (rest : List Dependence). d ∷ rest) e
@@ -31,7 +32,7 @@ met-append t (x ∷ xs) ys = put-by (not (is_empty (depends t x).verdict)) (depe
 pub more-met : {Z : Type 0} (t : Table) (g : Z → List System) (zs : List Z) (k : ℕ) (z d : Z) (old before after : List Dependence) → k < length zs → get_or zs k d ≡ z
     → before ≡ old ++ met t (flat_map g (take k zs)) → after ≡ before ++ met t (g z) → after ≡ old ++ met t (flat_map g (take (k + 1) zs))
 more-met {Z} t g zs k z d old before after l e b a =
-    let grown : flat_map g (take (k + 1) zs) ≡ flat_map g (take k zs) ++ g z = ap (flat_map g) (take_more zs k d l ∙ ap (λ (y : Z). take k zs ++ y ∷ []) e) ∙ flat-append g (take k zs) (z ∷ []) ∙ ap (λ (xs : List System). flat_map g (take k zs) ++ xs) (append-nil (g z)) in
+    let grown : flat_map g (take (k + 1) zs) ≡ flat_map g (take k zs) ++ g z = ap (flat_map g) (take_more zs k d l ∙ ap (λ (y : Z). take k zs ++ y ∷ []) e) ∙ flat_map-append g (take k zs) (z ∷ []) ∙ ap (λ (xs : List System). flat_map g (take k zs) ++ xs) (append-nil (g z)) in
     a ∙ ap (λ (ds : List Dependence). ds ++ met t (g z)) b ∙ append_assoc old (met t (flat_map g (take k zs))) (met t (g z))
     ∙ ap (λ (ds : List Dependence). old ++ ds) (sym (ap (met t) grown ∙ met-append t (flat_map g (take k zs)) (g z)))
 

@@ -3,7 +3,8 @@ use Rattle.std.proofs.Common.{◌≡◌, refl, sym, ap, subst, ℕ, ◌≤◌, �
 use Rattle.std.specs.Prelude.{if◌then◌else◌, not, ◌≢◌}
 use Rattle.std.specs.List.{find, filter_map, cons_option, range_with_len}
 use Rattle.std.proofs.lemmas.Bool.Decides.{nat_tests}
-use Rattle.plain_lemmas.proofs.MembershipLaws.{Has, All-from, filter-has, flat-map-has, map-has}
+use Rattle.plain_lemmas.proofs.MembershipLaws.{All-from, filter-has, flat_map-has, map-has}
+use Rattle.plain_lemmas.specs.Lists.{Has}
 use Rattle.fourier_motzkin.specs.declared.verdicts.Ruling.{Ruling}
 use Rattle.fourier_motzkin.specs.declared.verdicts.Ruling.TheVariants.{Empty, Maybe, Wide}
 use Rattle.domain.specs.Tables.{Table, depth}
@@ -67,12 +68,12 @@ pub record IsTrial (t : Table) (v : Trial) : Type 0 where
 trial-is : (t : Table) (s : Schedule) (L : ℤ) (v : Trial) → Has (trials t s L) v → IsTrial t v
 unfolding trials
 trial-is t s L v h =
-    let (sys, in-s, k) = flat-map-has (trials_of t s) (systems t L) v h in
+    let (sys, in-s, k) = flat_map-has (trials_of t s) (systems t L) v h in
     by sys (names t L sys in-s) (nat_le sys.case (depth t)) refl k
   where
     with_row : (sys : System) → Names t sys → sys.case ≤ depth t → (u : Violated) → Has (violations t s) u → IsTrial t (trial sys u)
     with_row sys n l u in-u =
-        let (row, in-row, k) = flat-map-has (violations_of s) (range_with_len 1 (depth t)) u in-u in
+        let (row, in-row, k) = flat_map-has (violations_of s) (range_with_len 1 (depth t)) u in-u in
         let (from, to) = in-range 1 (depth t) row in-row in
         let same = row-of-violation s row u k in
         record { system = n; case = l; from = omega (arith, same, from); to = omega (arith, same, to) }

@@ -4,7 +4,8 @@ use Rattle.std.specs.Prelude.{◌↔◌, if◌then◌else◌, not}
 use Rattle.std.specs.List.{find, flat_map, range_with_len}
 use Rattle.std.proofs.lemmas.List.{map-append}
 use Rattle.std.proofs.lemmas.Bool.Decides.{nat_tests}
-use Rattle.plain_lemmas.proofs.MembershipLaws.{Has, All-has, All-from}
+use Rattle.plain_lemmas.proofs.MembershipLaws.{All-has, All-from}
+use Rattle.plain_lemmas.specs.Lists.{Has}
 use Rattle.fourier_motzkin.specs.declared.verdicts.Ruling.{Ruling}
 use Rattle.fourier_motzkin.specs.declared.verdicts.Ruling.TheVariants.{Empty, Maybe, Wide}
 use Rattle.affine.specs.declared.row.Row.{Row}
@@ -16,10 +17,10 @@ use Rattle.dependence.specs.declared.violations.Side.TheVariants.{Below, Above}
 use Rattle.dependence.specs.Sides.{is_above, side_of}
 use Rattle.dependence.specs.Systems.{System, refs, systems, systems_of}
 use Rattle.dependence.specs.Legality.{Legal, joint_variables, violation, Trial, above, below, is_empty, judgement, trial, trials, trials_of, violations_of}
-use Rattle.dependence.proofs.ViolationLaws.{flat-append}
 use Rattle.legality.specs.declared.refusals.Refusal.{Refusal}
 use Rattle.legality.specs.declared.refusals.Judged.TheVariants as answer
 use Rattle.legality.specs.Judgements.{climbs, first_refusal, judged, judged_by, refused, refuses, told}
+use Rattle.std.proofs.lemmas.Grind.{flat_map-append}
 
 -- ---- one trial
 
@@ -72,12 +73,9 @@ trials_of-none D t s sys deep l = let e : nat_le sys.case (depth t) ≡ false = 
 
 -- ---- all trials
 
-flat-flat : {X Y Z : Type 0} (h : Y → List Z) (f : X → List Y) (xs : List X) → flat_map h (flat_map f xs) ≡ flat_map (λ x. flat_map h (f x)) xs
-flat-flat h f [] = refl
-flat-flat {Z = Z} h f (x ∷ xs) = flat-append h (f x) (flat_map f xs) ∙ ap (λ (zs : List Z). flat_map h (f x) ++ zs) (flat-flat h f xs)
-
-pub flat_flat : {X Y Z : Type 0} (h : Y → List Z) (f : X → List Y) (xs : List X) → flat_map (λ x. flat_map h (f x)) xs ≡ flat_map h (flat_map f xs)
-flat_flat h f xs = sym (flat-flat h f xs)
+pub flat_map-flat_map : {X Y Z : Type 0} (h : Y → List Z) (f : X → List Y) (xs : List X) → flat_map h (flat_map f xs) ≡ flat_map (λ x. flat_map h (f x)) xs
+flat_map-flat_map h f [] = refl
+flat_map-flat_map {Z = Z} h f (x ∷ xs) = flat_map-append h (f x) (flat_map f xs) ∙ ap (λ (zs : List Z). flat_map h (f x) ++ zs) (flat_map-flat_map h f xs)
 
 -- ---- legal
 
@@ -111,7 +109,7 @@ judged-legal t s L = (λ e. legal-none t s L (there (refused t L s) e), λ h. ap
 
 pub refused-is : (t : Table) (s : Schedule) (L : ℤ) → first_refusal t s (flat_map (λ a. flat_map (trials_of t s) (flat_map (systems_of t L a) (refs t))) (refs t)) ≡ refused t L s
 unfolding trials systems
-refused-is t s L = ap (first_refusal t s) (flat_flat (trials_of t s) (λ a. flat_map (systems_of t L a) (refs t)) (refs t))
+refused-is t s L = ap (first_refusal t s) (sym (flat_map-flat_map (trials_of t s) (λ a. flat_map (systems_of t L a) (refs t)) (refs t)))
 
 pub judgement-is : (t : Table) (s : Schedule) (sys : System) (row : ℕ) (above : Bool) (n : ℕ) (rows : List Row) (r : Ruling) → n ≡ joint_variables t sys → rows ≡ violation t s sys row above → r ≡ verdict_of n rows → r ≡ judgement t s (trial sys (record { row = row; above = above }))
 unfolding judgement

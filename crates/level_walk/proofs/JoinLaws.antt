@@ -5,21 +5,22 @@ use Rattle.std.specs.Cmp.{int_ranks}
 use Rattle.std.specs.Cmp.Lexicographic.{slice_cmp}
 use Rattle.std.specs.Ordering.{MatchOrdering, ordering_then}
 use Rattle.std.proofs.lemmas.Int.{ints}
-use Rattle.std.proofs.lemmas.List.{drop_more, take_all, take_more, take-append-drop}
+use Rattle.std.proofs.lemmas.List.{drop_more, take_all, take_more, take-append-drop, append-nil}
 use Rattle.std.proofs.lemmas.Cmp.{int_cmp_total, lists_total, tied_itself}
-use Rattle.plain_lemmas.proofs.OrderLaws.{cases-int-cmp, slice_cmp-append-same, slice_cmp-exact}
+use Rattle.plain_lemmas.proofs.OrderLaws.{cases-int_cmp, slice_cmp-append-same, slice_cmp-exact}
 use Rattle.arrayvec.specs.ArrayVec.{ArrayVec}
-use Rattle.orders.specs.Orders.{Has, Ordered}
-use Rattle.orders.proofs.Lists.{ordered-across, ordered-without}
+use Rattle.orders.specs.Orders.{Ordered}
+use Rattle.plain_lemmas.specs.Lists.{Has}
+use Rattle.orders.proofs.ListLaws.{ordered-across, ordered-without, ordered-append}
 use Rattle.level_walk.specs.Lattices.{in_box}
 use Rattle.level_walk.specs.Listed.{left_after}
 use Rattle.level_walk.specs.Listings.{IsListing, listed_in}
 use Rattle.level_walk.specs.Orders.{Precedes}
 use Rattle.level_walk.specs.Stretches.{AreRunsOf, IsRunOf, LiesAmong, RunComes, point_at}
 use Rattle.level_walk.specs.declared.runs.Run.{Run}
-use Rattle.level_walk.proofs.ListLemmas.{from-listed, long-listed, never-itself}
-use Rattle.level_walk.proofs.ListedLemmas.{left-from, left-to}
-use Rattle.level_walk.proofs.Points.{has-cases, has-left, has-right, ordered-append}
+use Rattle.level_walk.proofs.ListLaws.{from-listed, long-listed, never-itself}
+use Rattle.level_walk.proofs.LeastOfListLaws.{left-from, left-to}
+use Rattle.plain_lemmas.proofs.MembershipLaws.{has-cases, has-left, has-right}
 use Rattle.level_walk.proofs.RunLaws.{runs-meet, runs-same, same-last}
 
 -- ---- order
@@ -58,10 +59,6 @@ same-or-not xs ys = at (slice_cmp int_cmp xs ys) refl
     at Less f = inr (λ e. let w : Less ≡ Equal = sym f ∙ ap (λ (zs : List ℤ). slice_cmp int_cmp zs ys) e ∙ itself in cc)
     at Equal f = inl (slice_cmp-exact xs ys f)
     at Greater f = inr (λ e. let w : Greater ≡ Equal = sym f ∙ ap (λ (zs : List ℤ). slice_cmp int_cmp zs ys) e ∙ itself in cc)
-
-append_nil : {X : Type 0} (l : List X) → l ++ [] ≡ l
-append_nil [] = refl
-append_nil (y ∷ ys) = ap (λ k. y ∷ k) (append_nil ys)
 
 -- the run up to another last value
 abbrev pub lengthened : Run → ℤ → Run
@@ -126,7 +123,7 @@ module _ (xs : List (List ℤ)) (rs : List Run) (p : Run) (joined : AreRunsOf xs
 
   -- the point lies in a run or it doesn't
   lies : (r : Run) → ((r.front.items ≡ p.front.items) × (r.low ≤ℤ p.low) × (p.low ≤ℤ r.high)) ⊎ (r.front.items ≡ p.front.items → r.low ≤ℤ p.low → p.low ≤ℤ r.high → ⊥)
-  lies r = ⊎_elim (λ e. cases-int-cmp p.low r.low
+  lies r = ⊎_elim (λ e. cases-int_cmp p.low r.low
       (λ l. inr (λ f g h. omega (arith, ints, l, g)))
       (λ l. up e (omega (arith, ints, l)))
       (λ l. up e (omega (arith, ints, l))))
@@ -134,7 +131,7 @@ module _ (xs : List (List ℤ)) (rs : List Run) (p : Run) (joined : AreRunsOf xs
       (same-or-not r.front.items p.front.items)
     where
       up : r.front.items ≡ p.front.items → r.low ≤ℤ p.low → ((r.front.items ≡ p.front.items) × (r.low ≤ℤ p.low) × (p.low ≤ℤ r.high)) ⊎ (r.front.items ≡ p.front.items → r.low ≤ℤ p.low → p.low ≤ℤ r.high → ⊥)
-      up e g = cases-int-cmp r.high p.low (λ l. inr (λ f g h. omega (arith, ints, l, h))) (λ l. inl (e, g, omega (arith, ints, l))) (λ l. inl (e, g, omega (arith, ints, l)))
+      up e g = cases-int_cmp r.high p.low (λ l. inr (λ f g h. omega (arith, ints, l, h))) (λ l. inl (e, g, omega (arith, ints, l))) (λ l. inl (e, g, omega (arith, ints, l)))
 
   -- ---- the point begins a run
 
@@ -199,7 +196,7 @@ module _ (xs : List (List ℤ)) (rs : List Run) (p : Run) (joined : AreRunsOf xs
       isl = run-of l (subst (λ (list : List Run). Has list l) (sym split) (has-right us (l ∷ []) l (inl refl)))
 
       top : q.high ≡ p.low -ℤ pos 1
-      top = cases-int-cmp q.high (p.low -ℤ pos 1)
+      top = cases-int_cmp q.high (p.low -ℤ pos 1)
           (λ k. let e = same.1 in let t = lying.to in absurd (omega (arith, ints, k, e, t)))
           (λ e. e)
           (λ k. let e = same.1 in let f = lying.from in
@@ -226,7 +223,7 @@ module _ (xs : List (List ℤ)) (rs : List Run) (p : Run) (joined : AreRunsOf xs
 
   pub joined-on : (us : List Run) (l : Run) → rs ≡ us ++ l ∷ [] → l.front.items ≡ p.front.items → l.high +ℤ pos 1 ≡ p.low → AreRunsOf (xs ++ point_at p p.low ∷ []) (us ++ lengthened l p.high ∷ [])
   joined-on us l split front next = record {
-    ordered = ordered-append RunComes us ((lengthened l p.high) ∷ []) (subst (Ordered RunComes) (append_nil us) (ordered-without RunComes us [] l ordered)) (tt, tt) across;
+    ordered = ordered-append RunComes us ((lengthened l p.high) ∷ []) (subst (Ordered RunComes) (append-nil us) (ordered-without RunComes us [] l ordered)) (tt, tt) across;
     has = λ r. (
       λ h. ⊎_elim (λ k. kept r (run-of r (in-rs r k)) (λ f e. absurd (apart r k f e))) (λ k. only r k) (has-cases us ((lengthened l p.high) ∷ []) r h),
       λ is. ⊎_elim
@@ -257,7 +254,7 @@ module _ (xs : List (List ℤ)) (rs : List Run) (p : Run) (joined : AreRunsOf xs
       longer : IsRunOf more (lengthened l p.high)
       longer = record {
         some = let s = isl.some in omega (arith, ints, s, next, one);
-        all = λ v a b. cases-int-cmp v p.low
+        all = λ v a b. cases-int_cmp v p.low
             (λ k. old (point_at (lengthened l p.high) v) (isl.all v a (omega (arith, ints, k, next))))
             (λ e. subst (λ (z : ℤ). Has more (l.front.items ++ z ∷ [])) (sym e) (subst (λ (fs : List ℤ). Has more (fs ++ p.low ∷ [])) (sym front) new))
             (λ k. absurd (omega (arith, ints, k, b, one)));
@@ -335,7 +332,7 @@ module _ (n : ℕ) (lows highs : List ℤ) (ps : List (ArrayVec ℤ)) (is : IsLi
     where
       by : (b : Bool) → in_box lows highs p.items ≡ b → listed_in lows highs (take i ps) ++ (if in_box lows highs p.items then p.items ∷ [] else []) ≡ (if b then listed_in lows highs (take i ps) ++ p.items ∷ [] else listed_in lows highs (take i ps))
       by true e = rw e refl
-      by false e = rw e (append_nil (listed_in lows highs (take i ps)))
+      by false e = rw e (append-nil (listed_in lows highs (take i ps)))
 
   -- the points before one come before it
   pub before-point : (i : ℕ) (p : ArrayVec ℤ) (z : List ℤ) → i < length ps → p ≡ get_or ps i p → Has (listed_in lows highs (take i ps)) z → Precedes z p.items

@@ -4,18 +4,21 @@ use Rattle.std.specs.Prelude.{◌↔◌}
 use Rattle.std.specs.List.{AllByRecursion}
 use Rattle.std.proofs.Math.ListN.{set}
 use Rattle.std.proofs.lemmas.Int.{ints}
-use Rattle.plain_lemmas.proofs.OrderLaws.{cases-int-cmp, slice_cmp-append-less}
-use Rattle.orders.specs.Orders.{Has, Ordered}
+use Rattle.plain_lemmas.proofs.OrderLaws.{cases-int_cmp, slice_cmp-append-less}
+use Rattle.orders.specs.Orders.{Ordered}
+use Rattle.plain_lemmas.specs.Lists.{Has}
 use Rattle.level_walk.specs.Orders.{Precedes}
 use Rattle.level_walk.specs.Spaces.{IsPoint, IsWithin, Space, points, span}
 use Rattle.level_walk.specs.Places.{left}
 use Rattle.level_walk.specs.Fronts.{fronts, run}
 use Rattle.level_walk.specs.Stretches.{AreRunsOf, IsRunOf, RunComes, point_at}
 use Rattle.level_walk.specs.declared.runs.Run.{Run}
-use Rattle.level_walk.proofs.Fronts.{some-to}
-use Rattle.level_walk.proofs.Moves.{later-start, place_of}
-use Rattle.level_walk.proofs.Points.{all-from, all_has, has-cases, has-left, has-right, lists-points, points-from, points-to, spread-from, spread-to}
-use Rattle.level_walk.proofs.Spreads.{span-inside, span-is}
+use Rattle.level_walk.proofs.FrontLaws.{some-to}
+use Rattle.level_walk.proofs.MoveLaws.{later-start, place_of}
+use Rattle.level_walk.proofs.PointLaws.{lists-points, points-from, points-to, spread-from, spread-to}
+use Rattle.plain_lemmas.proofs.MembershipLaws.{all-from, all-has, has-cases, has-left, has-right}
+use Rattle.level_walk.proofs.SpreadLaws.{span-inside, span-is}
+use Rattle.std.proofs.lemmas.List.{append-nil}
 
 -- ---- lists
 
@@ -32,17 +35,13 @@ map-has f (y ∷ ys) z (inr h) = let (x, k, e) = map-has f ys z h in (x, inr k, 
 ordered-unmap : {X Y : Type 0} (f : X → Y) (R : X → X → Type 0) (S : Y → Y → Type 0) (xs : List X) → ((a b : X) → Has xs a → Has xs b → S (f a) (f b) → R a b) → Ordered S (map f xs) → Ordered R xs
 ordered-unmap f R S [] h o = tt
 ordered-unmap f R S (x ∷ xs) h o = (
-  all-from (R x) xs (λ y k. h x y (inl refl) (inr k) (all_has (S (f x)) (map f xs) (f y) o.0 (has-map f xs y k))),
+  all-from (R x) xs (λ y k. h x y (inl refl) (inr k) (all-has (S (f x)) (map f xs) (f y) o.0 (has-map f xs y k))),
   ordered-unmap f R S xs (λ a b k l. h a b (inr k) (inr l)) o.1,
 )
 
 map-push : {X Y : Type 0} (f : X → Y) (xs : List X) (x : X) → map f (xs ++ x ∷ []) ≡ map f xs ++ f x ∷ []
 map-push f [] x = refl
 map-push f (y ∷ ys) x = ap (λ l. f y ∷ l) (map-push f ys x)
-
-append_nil : {X : Type 0} (l : List X) → l ++ [] ≡ l
-append_nil [] = refl
-append_nil (y ∷ ys) = ap (λ k. y ∷ k) (append_nil ys)
 
 pub same-last : (us vs : List ℤ) (a b : ℤ) → us ++ a ∷ [] ≡ vs ++ b ∷ [] → (us ≡ vs) × (a ≡ b)
 same-last [] [] a b e = (refl, cc)
@@ -91,10 +90,10 @@ runs-meet list r q value a b front rl rh ql qh = one (lows r q a b front rl rh q
     behind r q a b f rl rh ql qh l = a.ends (subst (λ (fs : List ℤ). Has list (fs ++ (r.high +ℤ pos 1) ∷ [])) (sym f) (b.all (r.high +ℤ pos 1) (omega (arith, ints)) (omega (arith, ints))))
 
     lows : (r q : Run) → IsRunOf list r → IsRunOf list q → r.front.items ≡ q.front.items → r.low ≤ℤ value → value ≤ℤ r.high → q.low ≤ℤ value → value ≤ℤ q.high → r.low ≡ q.low
-    lows r q a b f rl rh ql qh = cases-int-cmp r.low q.low (λ l. absurd (before q r b a (sym f) ql qh rl rh l)) (λ e. e) (λ l. absurd (before r q a b f rl rh ql qh l))
+    lows r q a b f rl rh ql qh = cases-int_cmp r.low q.low (λ l. absurd (before q r b a (sym f) ql qh rl rh l)) (λ e. e) (λ l. absurd (before r q a b f rl rh ql qh l))
 
     highs : (r q : Run) → IsRunOf list r → IsRunOf list q → r.front.items ≡ q.front.items → r.low ≤ℤ value → value ≤ℤ r.high → q.low ≤ℤ value → value ≤ℤ q.high → r.high ≡ q.high
-    highs r q a b f rl rh ql qh = cases-int-cmp r.high q.high (λ l. absurd (behind r q a b f rl rh ql qh l)) (λ e. e) (λ l. absurd (behind q r b a (sym f) ql qh rl rh l))
+    highs r q a b f rl rh ql qh = cases-int_cmp r.high q.high (λ l. absurd (behind r q a b f rl rh ql qh l)) (λ e. e) (λ l. absurd (behind q r b a (sym f) ql qh rl rh l))
 
     one : r.low ≡ q.low → r.high ≡ q.high → r ≡ q
     one e f = same-run r q front e f
@@ -133,14 +132,14 @@ unfolding left
 scan-start s some =
     let whole : (s.levels - 1) - 0 ≡ s.levels - 1 = omega arith in
     record {
-      fronts = ap (λ l. points (fronts s) ((s.levels - 1) - 0) [] ++ l) (later-start (fronts s) (s.levels - 1)) ∙ append_nil (points (fronts s) ((s.levels - 1) - 0) []) ∙ ap (λ n. points (fronts s) n []) whole;
+      fronts = ap (λ l. points (fronts s) ((s.levels - 1) - 0) [] ++ l) (later-start (fronts s) (s.levels - 1)) ∙ append-nil (points (fronts s) ((s.levels - 1) - 0) []) ∙ ap (λ n. points (fronts s) n []) whole;
       each = tt;
     }
 
 pub scan-more : (s : Space) (runs : List Run) (r : Run) (old new : List (List ℤ)) → IsScannedTo s runs old → old ≡ r.front.items ∷ new → IsFrontRun s r → IsScannedTo s (runs ++ r ∷ []) new
 scan-more s runs r old new is e one = record {
   fronts = ap (λ l. l ++ new) (map-push (λ (r : Run). r.front.items) runs r) ∙ append_assoc (map (λ (r : Run). r.front.items) runs) (r.front.items ∷ []) new ∙ ap (λ l. map (λ (r : Run). r.front.items) runs ++ l) (sym e) ∙ is.fronts;
-  each = all-from (IsFrontRun s) (runs ++ r ∷ []) (λ q h. ⊎_elim (λ k. all_has (IsFrontRun s) runs q is.each k) (λ k. only q k) (has-cases runs (r ∷ []) q h));
+  each = all-from (IsFrontRun s) (runs ++ r ∷ []) (λ q h. ⊎_elim (λ k. all-has (IsFrontRun s) runs q is.each k) (λ k. only q k) (has-cases runs (r ∷ []) q h));
 }
   where
     only : (q : Run) → Has (r ∷ []) q → IsFrontRun s q
@@ -157,14 +156,14 @@ module _ (s : Space) (some : 0 < s.levels) (runs : List Run) (is : IsScannedTo s
   front-of : (r : Run) → Has runs r → IsPoint (fronts s) r.front.items
   front-of r h =
       let there = has-map (λ (r : Run). r.front.items) runs r h in
-      ((lists-points (fronts s)).same r.front.items).0 (subst (λ l. Has l r.front.items) (sym (append_nil (map (λ (r : Run). r.front.items) runs)) ∙ is.fronts) there)
+      ((lists-points (fronts s)).same r.front.items).0 (subst (λ l. Has l r.front.items) (sym (append-nil (map (λ (r : Run). r.front.items) runs)) ∙ is.fronts) there)
 
   -- the last values of a front that was scanned
   values : (r : Run) → Has runs r → (value : ℤ) → Has list (point_at r value) ↔ ((r.low ≤ℤ value) × (value ≤ℤ r.high))
   values r h value = (
     λ k.
         let point = ((lists-points s).same (point_at r value)).0 k in
-        let within : IsWithin s.least s.greatest value = all_has (IsWithin s.least s.greatest) (point_at r value) value point.within (has-right r.front.items (value ∷ []) value (inl refl)) in
+        let within : IsWithin s.least s.greatest value = all-has (IsWithin s.least s.greatest) (point_at r value) value point.within (has-right r.front.items (value ∷ []) value (inl refl)) in
         let here = points-to s 1 r.front.items (value ∷ []) refl (within, tt) point.accepted in
         let (i, below, there) = spread-from (span r.low r.high) r.low (λ v. (r.front.items ++ v ∷ []) ∷ []) (point_at r value) (subst (λ l. Has l (point_at r value)) one.is here) in
         let e = at i there in
@@ -180,8 +179,8 @@ module _ (s : Space) (some : 0 < s.levels) (runs : List Run) (is : IsScannedTo s
         ((lists-points s).same (point_at r value)).1 (record {
           long = length-append r.front.items (value ∷ []) ∙ one.long;
           within = subst (AllByRecursion (IsWithin s.least s.greatest)) (sym from.is) (all-from (IsWithin s.least s.greatest) (r.front.items ++ from.rest) (λ v h. ⊎_elim
-              (λ k. all_has (IsWithin s.least s.greatest) r.front.items v (front-of r h').within k)
-              (λ k. all_has (IsWithin s.least s.greatest) from.rest v from.within k)
+              (λ k. all-has (IsWithin s.least s.greatest) r.front.items v (front-of r h').within k)
+              (λ k. all-has (IsWithin s.least s.greatest) from.rest v from.within k)
               (has-cases r.front.items from.rest v h)));
           accepted = from.accepted;
         }),
@@ -191,7 +190,7 @@ module _ (s : Space) (some : 0 < s.levels) (runs : List Run) (is : IsScannedTo s
       h' = h
 
       one : IsFrontRun s r
-      one = all_has (IsFrontRun s) runs r is.each h
+      one = all-has (IsFrontRun s) runs r is.each h
 
       at : (i : ℕ) → Has ((r.front.items ++ (r.low +ℤ pos i) ∷ []) ∷ []) (point_at r value) → value ≡ r.low +ℤ pos i
       at i (inl e) = (same-last r.front.items r.front.items value (r.low +ℤ pos i) e).1
@@ -210,18 +209,18 @@ module _ (s : Space) (some : 0 < s.levels) (runs : List Run) (is : IsScannedTo s
       let point = ((lists-points s).same (front ++ value ∷ [])).0 k in
       let long = point.long in
       let size = length-append front (value ∷ []) in
-      let within : IsWithin s.least s.greatest value = all_has (IsWithin s.least s.greatest) (front ++ value ∷ []) value point.within (has-right front (value ∷ []) value (inl refl)) in
+      let within : IsWithin s.least s.greatest value = all-has (IsWithin s.least s.greatest) (front ++ value ∷ []) value point.within (has-right front (value ∷ []) value (inl refl)) in
       let here = points-to s 1 front (value ∷ []) refl (within, tt) point.accepted in
       let there = ((lists-points (fronts s)).same front).1 (record {
         long = omega (arith, long, size, some);
-        within = all-from (IsWithin s.least s.greatest) front (λ v h. all_has (IsWithin s.least s.greatest) (front ++ value ∷ []) v point.within (has-left front (value ∷ []) v h));
+        within = all-from (IsWithin s.least s.greatest) front (λ v h. all-has (IsWithin s.least s.greatest) (front ++ value ∷ []) v point.within (has-left front (value ∷ []) v h));
         accepted = some-to (points s 1 front) (front ++ value ∷ []) here;
       }) in
-      map-has (λ (r : Run). r.front.items) runs front (subst (λ l. Has l front) (sym is.fronts ∙ append_nil (map (λ (r : Run). r.front.items) runs)) there)
+      map-has (λ (r : Run). r.front.items) runs front (subst (λ l. Has l front) (sym is.fronts ∙ append-nil (map (λ (r : Run). r.front.items) runs)) there)
 
   is-run : (r : Run) → Has runs r → IsRunOf list r
   is-run r h = record {
-    some = (all_has (IsFrontRun s) runs r is.each h).some;
+    some = (all-has (IsFrontRun s) runs r is.each h).some;
     all = λ v l k. (values r h v).1 (l, k);
     begins = λ k. let l = ((values r h (r.low -ℤ pos 1)).0 k).0 in omega (arith, ints, l);
     ends = λ k. let l = ((values r h (r.high +ℤ pos 1)).0 k).1 in omega (arith, ints, l);
@@ -231,10 +230,10 @@ module _ (s : Space) (some : 0 < s.levels) (runs : List Run) (is : IsScannedTo s
   scan-end = record {
     ordered = ordered-unmap (λ (r : Run). r.front.items) RunComes Precedes runs
         (λ a b h k l.
-        let m = (all_has (IsFrontRun s) runs a is.each h).long in
-        let n = (all_has (IsFrontRun s) runs b is.each k).long in
+        let m = (all-has (IsFrontRun s) runs a is.each h).long in
+        let n = (all-has (IsFrontRun s) runs b is.each k).long in
         slice_cmp-append-less a.front.items b.front.items (a.low ∷ []) (b.low ∷ []) (omega (arith, m, n)) l)
-        (subst (Ordered Precedes) (sym is.fronts ∙ append_nil (map (λ (r : Run). r.front.items) runs)) (lists-points (fronts s)).ordered);
+        (subst (Ordered Precedes) (sym is.fronts ∙ append-nil (map (λ (r : Run). r.front.items) runs)) (lists-points (fronts s)).ordered);
     has = λ r. (
       is-run r,
       λ k.

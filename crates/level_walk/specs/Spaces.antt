@@ -1,7 +1,8 @@
 -- Points level by level: the whole-number points of a box that a test accepts.
 use Rattle.std.specs.Prelude.{◌≡◌, ℕ, zero, suc, ℤ, pos, negsuc, ◌+ℤ◌, ◌-ℤ◌, ◌≤ℤ◌, Bool, true, if◌then◌else◌, ◌+◌, ◌↔◌, List, [], ◌∷◌, ◌++◌, length}
 use Rattle.std.specs.List.{AllByRecursion}
-use Rattle.orders.specs.Orders.{Has, Ordered}
+use Rattle.orders.specs.Orders.{Ordered}
+use Rattle.plain_lemmas.specs.Lists.{Has}
 use Rattle.level_walk.specs.Orders.{Precedes}
 
 -- how many levels, the least and the greatest value at each of them, and the test of a point with a value for each

@@ -1,6 +1,7 @@
 -- The runs of a list of points: its longest stretches of points that differ by 1 in their last value alone.
 use Rattle.std.specs.Prelude.{◌≡◌, ◌+◌, ℤ, pos, ◌≤ℤ◌, ◌+ℤ◌, ◌-ℤ◌, List, [], ◌∷◌, ◌++◌, ◌↔◌, length}
-use Rattle.orders.specs.Orders.{Has, Ordered}
+use Rattle.orders.specs.Orders.{Ordered}
+use Rattle.plain_lemmas.specs.Lists.{Has}
 use Rattle.level_walk.specs.Orders.{Precedes}
 use Rattle.level_walk.specs.declared.runs.Run.{Run}
 

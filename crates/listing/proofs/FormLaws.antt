@@ -18,7 +18,7 @@ use Rattle.profile.specs.Data.{bounds_of, data_of, tube_about, tube_in, tube_of_
 use Rattle.report.specs.declared.line.ListingLine.{ListingLine}
 use Rattle.report.specs.Places.{block_of}
 use Rattle.listing.specs.Lists.{block_forms, forms_of}
-use Rattle.listing.proofs.Growing.{ranged-more}
+use Rattle.listing.proofs.GrowingListLaws.{ranged-more}
 
 -- a form with its tube
 abbrev pub tube_with : Affine → ℤ → ℤ → Tube

@@ -1,4 +1,4 @@
-pub mod Growing
+pub mod GrowingListLaws
 pub mod FormLaws
 pub mod PresentLaws
 pub mod CandidateLaws

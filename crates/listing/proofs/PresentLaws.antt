@@ -2,7 +2,8 @@
 use Rattle.std.proofs.Common.{◌≡◌, refl, sym, ap, subst, ◌∙◌, ℕ, ◌<◌, ℤ, Bool, true, false, nat_le, Option, Some, None, option_map, inl, inr, List, [], ◌∷◌, map, length, get_or}
 use Rattle.std.specs.Prelude.{if◌then◌else◌, not, ◌≢◌}
 use Rattle.std.specs.List.{Contains, find}
-use Rattle.plain_lemmas.proofs.MembershipLaws.{Has, contains-from-has, filter-has, flat-map-has, has-get-or, map-has}
+use Rattle.plain_lemmas.proofs.MembershipLaws.{contains-from-has, filter-has, flat_map-has, has-get_or, map-has}
+use Rattle.plain_lemmas.specs.Lists.{Has}
 use Rattle.fourier_motzkin.specs.declared.verdicts.Ruling.{Ruling}
 use Rattle.fourier_motzkin.specs.declared.verdicts.Ruling.TheVariants.{Empty, Maybe, Wide}
 use Rattle.nest_lang.specs.declared.tree.AccessRef.{AccessRef}
@@ -45,7 +46,7 @@ no_dependence = record { first = record { block = 0; access = 0 }; second = reco
 
 pub dependence-at : (t : Table) (L : ℤ) (items : List Dependence) (k : ℕ) → items ≡ dependences t L → k < length items → AreListed t (get_or items k no_dependence).first (get_or items k no_dependence).second (get_or items k no_dependence).verdict
 dependence-at t L items k is l =
-    dependence-listed t L (get_or items k no_dependence) (subst (λ (xs : List Dependence). Has xs (get_or items k no_dependence)) is (has-get-or items k no_dependence l))
+    dependence-listed t L (get_or items k no_dependence) (subst (λ (xs : List Dependence). Has xs (get_or items k no_dependence)) is (has-get_or items k no_dependence l))
 
 -- the first element that passes
 find-by : {X : Type 0} (p : X → Bool) (y : X) (ys : List X) (x : X) (w : Bool) → p y ≡ w → (find p ys ≡ Some x → Has ys x × (p x ≡ true)) → (if w then Some y else find p ys) ≡ Some x → Has (y ∷ ys) x × (p x ≡ true)
@@ -59,7 +60,7 @@ find-has p (y ∷ ys) x e = find-by p y ys x (p y) refl (find-has p ys x) e
 trial-of : (t : Table) (s : Schedule) (L : ℤ) (v : Trial) → Has (trials t s L) v → IsSystemOf t v.system
 unfolding trials
 trial-of t s L v h =
-    let k = flat-map-has (trials_of t s) (systems t L) v h in
+    let k = flat_map-has (trials_of t s) (systems t L) v h in
     (L, subst (λ (sys : System). Contains (systems t L) sys) (by k.0 (nat_le k.0.case (depth t)) k.2) (contains-from-has (systems t L) k.0 k.1))
   where
     by : (sys : System) (w : Bool) → Has (if w then map (trial sys) (violations t s) else []) v → sys ≡ v.system

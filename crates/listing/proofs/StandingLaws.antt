@@ -3,7 +3,8 @@ use Rattle.std.proofs.Common.{◌≡◌, refl, sym, subst, ℕ, suc, zero, ◌+�
 use Rattle.std.specs.Prelude.{IfSome, if◌then◌else◌, slice_index_or}
 use Rattle.std.proofs.lemmas.Option.{get_or_from_slice_get, slice_get_within}
 use Rattle.std.specs.List.{All, flat_map, range_with_len}
-use Rattle.plain_lemmas.proofs.MembershipLaws.{Has, All-from, flat-map-has, has-at, has-cases, map-has}
+use Rattle.plain_lemmas.proofs.MembershipLaws.{All-from, flat_map-has, has-at, has-cases, map-has}
+use Rattle.plain_lemmas.specs.Lists.{Has}
 use Rattle.nest_lang.specs.declared.command.Command.{Command}
 use Rattle.nest_lang.specs.declared.tree.BlockRef.{BlockRef}
 use Rattle.nest_lang.specs.declared.tree.Loop.{Loop}
@@ -58,7 +59,7 @@ stand-both : (scalars : ℕ) (xs ys : List ListingLine) → Stand scalars xs →
 stand-both scalars xs ys a b = λ line h. ⊎_elim (λ k. a line k) (λ k. b line k) (has-cases xs ys line h)
 
 stand-flat : {X : Type 0} (scalars : ℕ) (f : X → List ListingLine) (xs : List X) → ((x : X) → Has xs x → Stand scalars (f x)) → Stand scalars (flat_map f xs)
-stand-flat scalars f xs each = λ line h. let k = flat-map-has f xs line h in each k.0 k.1 line k.2
+stand-flat scalars f xs each = λ line h. let k = flat_map-has f xs line h in each k.0 k.1 line k.2
 
 -- ---- data
 

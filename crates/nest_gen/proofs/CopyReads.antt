@@ -19,8 +19,8 @@ use Rattle.nest_grammar.specs.Contents.{reading}
 use Rattle.nest_grammar.specs.Grammar as grammar
 use Rattle.canonical.specs.Pieces.{Piece, Space, plain, number, piece_text, token_text, text_of}
 use Rattle.canonical.specs.Layout.{words, AllWritten}
-use Rattle.canonical.proofs.LayoutPieces.{Laid, Free, is_sign, with_equals}
-use Rattle.nest_gen.proofs.Named.{named_i, written-i}
+use Rattle.canonical.proofs.LayoutPieceLaws.{Laid, Free, is_sign, with_equals}
+use Rattle.nest_gen.proofs.NameLaws.{named_i, written-i}
 use Rattle.nest_gen.proofs.TextReads.{Parsed, sight, text-read, length-brief}
 use Rattle.nest_gen.specs.Texts.{copy_of}
 

@@ -20,13 +20,13 @@ use Rattle.nest_grammar.specs.Contents.{reading}
 use Rattle.nest_grammar.specs.Grammar as grammar
 use Rattle.canonical.specs.Pieces.{Piece, Space, plain, number, piece_text, token_text, text_of}
 use Rattle.canonical.specs.Layout.{words, AllWritten}
-use Rattle.canonical.proofs.LayoutPieces.{Laid, Free, is_sign, with_equals}
-use Rattle.nest_gen.proofs.Named.{named_i, named_j, named_tile, written-i, written-j, written-tile}
+use Rattle.canonical.proofs.LayoutPieceLaws.{Laid, Free, is_sign, with_equals}
+use Rattle.nest_gen.proofs.NameLaws.{named_i, named_j, named_tile, written-i, written-j, written-tile}
 use Rattle.nest_gen.proofs.TextReads.{Parsed, sight, text-read, length-brief}
 use Rattle.nest_gen.specs.Texts.{grid_of}
 use Rattle.nest_gen.specs.Texts.{rows, upper, lower}
-use Rattle.canonical.proofs.Texts.{text-append}
-use Rattle.nest_gen.proofs.Items.{ramp-in, one-is-not-zero, square-small}
+use Rattle.canonical.proofs.PieceLaws.{text-append}
+use Rattle.nest_gen.proofs.ItemLaws.{ramp-in, one-is-not-zero, square-small}
 
 module _ (m v : ℕ) (from : 2 ≤ m) (to : m ≤ 258) (small : v < 1000) where
   abbrev rows_pieces : List Piece

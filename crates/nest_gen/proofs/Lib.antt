@@ -1,6 +1,6 @@
-mod Named
+mod NameLaws
 mod TextReads
-mod Items
+mod ItemLaws
 mod CopyReads
 mod GridReads
 mod ListReads

@@ -23,15 +23,15 @@ use Rattle.nest_grammar.specs.Grammar.{IsItems}
 use Rattle.nest_grammar.specs.Grammar as grammar
 use Rattle.canonical.specs.Pieces.{Piece, Space, plain, number, piece_text, token_text, text_of}
 use Rattle.canonical.specs.Layout.{words, AllWritten}
-use Rattle.canonical.proofs.LayoutPieces.{Laid, Free, is_sign, with_equals}
-use Rattle.nest_gen.proofs.Named.{named_p, written-p}
+use Rattle.canonical.proofs.LayoutPieceLaws.{Laid, Free, is_sign, with_equals}
+use Rattle.nest_gen.proofs.NameLaws.{named_p, written-p}
 use Rattle.nest_gen.proofs.TextReads.{Parsed, sight, text-read, length-brief}
 use Rattle.nest_gen.specs.Texts.{shortcut, list_of}
 use Rattle.nest_tokens.specs.Lexing.{name_of}
 use Rattle.nest_gen.specs.Texts.{chain}
-use Rattle.canonical.proofs.Texts.{text-append}
+use Rattle.canonical.proofs.PieceLaws.{text-append}
 use Rattle.nest_gen.proofs.TextReads.{is_brief}
-use Rattle.nest_gen.proofs.Items.{ramp-in, two-is-not-zero}
+use Rattle.nest_gen.proofs.ItemLaws.{ramp-in, two-is-not-zero}
 
 -- each of these numbers is below n - 1
 abbrev pub Below : ℕ → List ℕ → Type 0

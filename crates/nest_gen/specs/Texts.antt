@@ -1,5 +1,5 @@
 -- The text of each shape: words and numbers, one behind another.
-use Rattle.std.specs.Prelude.{ℕ, ◌+◌, ◌*◌, ◌-◌, List, [], ◌∷◌, ◌++◌, codes}
+use Rattle.std.specs.Prelude.{ℕ, ◌+◌, ◌*◌, ◌-◌, List, [], ◌∷◌, ◌++◌, codes, map}
 use Rattle.std.specs.List.{concat, flat_map, range_with_len}
 use Rattle.std.specs.Fmt.{decimal}
 use Rattle.nest_gen.specs.Draws.{draw}
@@ -28,7 +28,7 @@ list_of n nodes =
 
 -- 1 to 4 nodes, each from 1 on and below n - 1
 abbrev pub drawn_nodes : ℕ → ℕ → List ℕ
-drawn_nodes seed n = Rattle.std.specs.Prelude.map (λ i. 1 + draw seed (i + 1) (n - 2)) (range_with_len 0 (1 + draw seed 0 4))
+drawn_nodes seed n = map (λ i. 1 + draw seed (i + 1) (n - 2)) (range_with_len 0 (1 + draw seed 0 4))
 
 abbrev pub list_text : ℕ → ℕ → List ℕ
 list_text seed size = list_of (64 * size) (drawn_nodes seed (64 * size))

@@ -1,5 +1,5 @@
-pub mod Many
-pub mod Local
-pub mod Productions
-pub mod Chains
-pub mod Accesses
+pub mod PartAfterPartLaws
+pub mod LocalLaws
+pub mod ProductionLaws
+pub mod ChainLaws
+pub mod AccessLaws

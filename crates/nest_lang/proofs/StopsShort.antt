@@ -2,7 +2,7 @@
 use Rattle.std.proofs.Common.{◌≡◌, refl, ap, ◌∙◌, sym, subst, ℕ, ℤ, zero, suc, ◌<◌, ◌+◌, ◌≤◌, ◌⊎◌, inl, inr, Bool, true, false, nat_le, List, [], ◌∷◌, ◌++◌, length, append_assoc, Option, Some, None, arith}
 use Rattle.nest_lang.specs.Stores.{Store, effect_on}
 use Rattle.nest_lang.specs.Traces.{Observation, Entry, Halt, Stopped, Trace, joined, and_then, in_turn, Transition, traced, after_all, Halted, Cut, cut, seen_of, seen_in}
-use Rattle.nest_lang.proofs.Cuts.{trace_of, cut-stop, cut-cons, cut-end}
+use Rattle.nest_lang.proofs.CutLaws.{trace_of, cut-stop, cut-cons, cut-end}
 use Rattle.nest_lang.specs.TurnLaws.{IsStopped}
 
 -- the first trace stops in a step before which both show the same

@@ -16,7 +16,7 @@ use Rattle.nest_lang.specs.Heads.{Yield, Bounds, Tested, head_of, head_step, hea
 use Rattle.nest_lang.specs.Loops.{Around, inward, outside, frame_of, turn_trace, turns_from, turns_of, loop_by, loops_trace}
 use Rattle.nest_lang.specs.Turns.{counted_turns, turn_or_over, tested_turns, number_left, turns_by, turns_trace, left_after, turns_later, first_position}
 use Rattle.nest_lang.specs.TurnLaws.{TurnsJoin, FewerTurnsBegin, ForIsItsTurns, all_turns}
-use Rattle.nest_lang.proofs.Cuts.{rest_seen, seen-and_then}
+use Rattle.nest_lang.proofs.CutLaws.{rest_seen, seen-and_then}
 use Rattle.nest_lang.proofs.TraceLaws.{and_then-and_then, and_then-same, and_then-ends}
 
 -- turns, and then more of them

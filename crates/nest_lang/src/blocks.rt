@@ -11,7 +11,7 @@ use sqlite_items::Items;
 
 impl Nest {
     /// The present blocks: at most 18, which are three for each loop.
-    #[tactic(auto, using(crate::proofs::Present::present), unfolding(crate::specs::Blocks::present_blocks))]
+    #[tactic(auto, using(crate::proofs::PresentBlockLaws::present), unfolding(crate::specs::Blocks::present_blocks))]
     pub fn blocks(&self) -> ArrayVec<BlockRef, 18>
         requires { length self.now.loops ≤ 6 }
         ensures { result.items ≡ present_blocks self.now.loops }

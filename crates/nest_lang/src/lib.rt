@@ -28,4 +28,4 @@ pub use state::{Outer, State};
 pub use tree::{
     Access, AccessKind, AccessRef, BlockRef, Expr, Head, Loop, Nest, Op, Part, Place, Stmt, Trap,
 };
-pub use value::{apply, negate, trip_of, value_of_turn};
+pub use value::{apply, is_i64, negate, trip_of, value_of_turn};

@@ -2,9 +2,16 @@
 
 ghost use Rattle.std.specs.Prelude.{◌≡◌, ◌≢◌, ◌↔◌, ℕ, ◌<◌, pos, ◌-ℤ◌, FitsSigned};
 ghost use Rattle.std.specs.Int.{w64};
-ghost use Rattle.nest_lang.specs.Values.{apply_of, negate_of, trip_count, steps_over, turn_value, IsTurn};
+ghost use Rattle.nest_lang.specs.Values.{apply_of, is_i64, negate_of, trip_count, steps_over, turn_value, IsTurn};
 
 use crate::tree::{Op, Trap};
+
+/// Whether a number is an i64.
+pub fn is_i64(value: i128) -> bool
+    ensures { result ≡ is_i64 value }
+{
+    i128::from(i64::MIN) <= value && value <= i128::from(i64::MAX)
+}
 
 /// The value of an operator at two operands. `Overflow` where the exact value is no i64 (for a
 /// remainder: where the quotient is none), `ZeroDivisor` for a division or remainder by 0.

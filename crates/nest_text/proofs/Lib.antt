@@ -1,6 +1,6 @@
 pub mod ProductionLaws
-pub mod Listing
-pub mod Marked
-pub mod Levels
+pub mod ListingLaws
+pub mod MarkedPartLaws
+pub mod LevelLaws
 pub mod ScalarNameLaws
-pub mod Stored
+pub mod StoredItemLaws

@@ -26,8 +26,8 @@ use Rattle.nest_grammar.specs.Loops.{not_zero}
 use Rattle.nest_grammar.specs.Scripts.{is_factor}
 use Rattle.nest_grammar.specs.Names.{Names, place_of, unless_known, fresh_at, fresh}
 use Rattle.nest_grammar.specs.Expressions.{start_of, operand, closed, access, access_number, entered, taken, unary, expr, term, sum, expression}
-use Rattle.nest_grammar.proofs.Many.{after-same, bind-ok}
-use Rattle.nest_grammar.proofs.Accesses.{Keeps, keeps-gives, keeps-refused, keeps-skipped, keeps-need, keeps-taken, keeps-closed, keeps-expr, keeps-expression}
+use Rattle.nest_grammar.proofs.PartAfterPartLaws.{after-same, bind-ok}
+use Rattle.nest_grammar.proofs.AccessLaws.{Keeps, keeps-gives, keeps-refused, keeps-skipped, keeps-need, keeps-taken, keeps-closed, keeps-expr, keeps-expression}
 use Rattle.nest_grammar.specs.Statements.{listed, statements, branches}
 use Rattle.nest_text.specs.declared.refusal.ReadRefusal.{ReadRefusal}
 use Rattle.nest_text.specs.declared.refusal.ReadRefusal.TheVariants.{Text, NoMemory}

@@ -63,7 +63,7 @@ impl<'a> Reader<'a> {
     }
 
     /// Reads the scalars, and adds their names.
-    #[tactic(auto, using(crate::proofs::Marked::scalar_loop), unfolding(nest_grammar::specs::Contents::scalars))]
+    #[tactic(auto, using(crate::proofs::MarkedPartLaws::scalar_loop), unfolding(nest_grammar::specs::Contents::scalars))]
     fn scalars(&mut self, names: &mut Vec<Declared>) -> Result<Items<Scalar>, ReadRefusal>
         requires { names.old.items ≡ [] }
         ensures read { Gives result self.new (scalars self.old) }
@@ -111,7 +111,7 @@ impl<'a> Reader<'a> {
     }
 
     /// Reads the nests of a file of version 2.
-    #[tactic(auto, using(crate::proofs::Marked::unit_loop))]
+    #[tactic(auto, using(crate::proofs::MarkedPartLaws::unit_loop))]
     fn several_units(
         &mut self,
         names: &mut Vec<Declared>,

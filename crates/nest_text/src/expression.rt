@@ -201,7 +201,7 @@ impl<'a> Reader<'a> {
 
     /// Reads operands between operators of a term, grouped to the left.
     #[cycle(expression)]
-    #[tactic(auto, using(nest_grammar::proofs::Chains::operator_chains), unfolding(nest_grammar::specs::Expressions::term))]
+    #[tactic(auto, using(nest_grammar::proofs::ChainLaws::operator_chains), unfolding(nest_grammar::specs::Expressions::term))]
     fn term(&mut self, names: &[Declared], depth: usize) -> Result<Expr, ReadRefusal>
         ensures { Gives result self.new (term names.now depth self.old) }
     {
@@ -216,7 +216,7 @@ impl<'a> Reader<'a> {
 
     /// Reads terms between operators of a sum, grouped to the left.
     #[cycle(expression)]
-    #[tactic(auto, using(nest_grammar::proofs::Chains::operator_chains), unfolding(nest_grammar::specs::Expressions::sum))]
+    #[tactic(auto, using(nest_grammar::proofs::ChainLaws::operator_chains), unfolding(nest_grammar::specs::Expressions::sum))]
     fn sum(&mut self, names: &[Declared], depth: usize) -> Result<Expr, ReadRefusal>
         ensures { Gives result self.new (sum names.now depth self.old) }
     {

@@ -13,6 +13,7 @@ use crate::limits::MOST_WORDS;
 use crate::reader::{Reader, signed_value};
 use crate::refusal::ReadRefusal;
 use nest_grammar::{Item, ItemKeyword, TextKind};
+use nest_lang::is_i64;
 use nest_tokens::{Mark, Token};
 use sqlite_items::Items;
 
@@ -64,13 +65,6 @@ fn last_value(start: i64, growth: i64, steps: u64) -> i128
     i128::from(start) + grown(growth, steps)
 }
 
-/// Whether a number is an i64.
-fn is_i64(value: i128) -> bool
-    ensures { result ≡ is_i64 value }
-{
-    i128::from(i64::MIN) <= value && value <= i128::from(i64::MAX)
-}
-
 /// Whether a ramp stays within so many words, and its values within i64.
 fn ramp_fits(words: u64, first: u64, count: u64, stride: u64, start: i64, growth: i64) -> bool
     requires sizes { (first < 2 ^ 63) × (count < 2 ^ 63) × (stride < 2 ^ 63) }
@@ -109,7 +103,7 @@ impl<'a> Reader<'a> {
     }
 
     /// Reads values for the words from an address on.
-    #[tactic(auto, using(crate::proofs::Marked::value_loop), unfolding(nest_grammar::specs::Contents::data_values))]
+    #[tactic(auto, using(crate::proofs::MarkedPartLaws::value_loop), unfolding(nest_grammar::specs::Contents::data_values))]
     fn data_values(&mut self, words: usize, first: u64) -> Result<Items<i64>, ReadRefusal>
         requires { first < 2 ^ 63 }
         ensures { Gives result self.new (data_values words first self.old) }
@@ -189,7 +183,7 @@ impl<'a> Reader<'a> {
     }
 
     /// Reads the items of a memory of so many words.
-    #[tactic(auto, using(crate::proofs::Marked::item_loop), unfolding(nest_grammar::specs::Contents::items))]
+    #[tactic(auto, using(crate::proofs::MarkedPartLaws::item_loop), unfolding(nest_grammar::specs::Contents::items))]
     pub fn items(&mut self, words: usize) -> Result<Items<Item>, ReadRefusal>
         ensures { Gives result self.new (items words self.old) }
     {

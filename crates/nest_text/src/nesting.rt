@@ -129,7 +129,7 @@ impl<'a> Reader<'a> {
     }
 
     /// Reads the `}` of a body with these statements before its inner loops.
-    #[tactic(auto, using(crate::proofs::Levels::bodies), unfolding(nest_grammar::specs::Loops::body_end, nest_grammar::specs::Readings::refused))]
+    #[tactic(auto, using(crate::proofs::LevelLaws::bodies), unfolding(nest_grammar::specs::Loops::body_end, nest_grammar::specs::Readings::refused))]
     fn body_end(&mut self, pre: &[Stmt], inner: &[Loop]) -> Result<(), ReadRefusal>
         ensures { Gives result self.new (body_end pre.now inner.now self.old) }
     {
@@ -167,7 +167,7 @@ impl<'a> Reader<'a> {
 
     /// Reads a loop that begins with this word, in which so many levels more are allowed.
     #[cycle(nesting)]
-    #[tactic(auto, using(crate::proofs::Levels::insides))]
+    #[tactic(auto, using(crate::proofs::LevelLaws::insides))]
     fn loop_of(
         &mut self,
         names: &mut Vec<Declared>,
@@ -193,7 +193,7 @@ impl<'a> Reader<'a> {
 
     /// Reads a loop at a level, from 0, where so many levels are allowed.
     #[cycle(nesting)]
-    #[tactic(auto, using(crate::proofs::Levels::levels))]
+    #[tactic(auto, using(crate::proofs::LevelLaws::levels))]
     pub fn loops(
         &mut self,
         names: &mut Vec<Declared>,

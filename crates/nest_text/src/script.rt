@@ -176,7 +176,7 @@ impl<'a> Reader<'a> {
     }
 
     /// Reads the numbers of rows.
-    #[tactic(auto, using(crate::proofs::Marked::row_loop), unfolding(nest_grammar::specs::Scripts::rows))]
+    #[tactic(auto, using(crate::proofs::MarkedPartLaws::row_loop), unfolding(nest_grammar::specs::Scripts::rows))]
     fn rows(&mut self, depth: u8) -> Result<ArrayVec<u8, 6>, ReadRefusal>
         ensures { GivesAs (λ rows. rows.items) result self.new (rows depth self.old) }
     {
@@ -247,7 +247,7 @@ impl<'a> Reader<'a> {
     }
 
     /// Reads commands with a `;` between them.
-    #[tactic(auto, using(crate::proofs::Marked::command_loop))]
+    #[tactic(auto, using(crate::proofs::MarkedPartLaws::command_loop))]
     fn commands(&mut self, depth: u8) -> Result<Items<Command>, ReadRefusal>
         ensures { Gives result self.new (commands depth self.old) }
     {
@@ -291,7 +291,7 @@ impl<'a> Reader<'a> {
     }
 
     /// Reads the candidates of a nest of this depth.
-    #[tactic(auto, using(crate::proofs::Marked::candidate_loop), unfolding(nest_grammar::specs::Scripts::candidates))]
+    #[tactic(auto, using(crate::proofs::MarkedPartLaws::candidate_loop), unfolding(nest_grammar::specs::Scripts::candidates))]
     pub fn candidates(&mut self, depth: u8) -> Result<Items<Items<Command>>, ReadRefusal>
         ensures { Gives result self.new (candidates depth self.old) }
     {

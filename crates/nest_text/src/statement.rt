@@ -30,7 +30,7 @@ fn opening_of(token: Token) -> Option<Opening>
 
 impl<'a> Reader<'a> {
     /// Reads a `let`. Its name is visible from behind it on.
-    #[tactic(auto, using(crate::proofs::ProductionLaws::lets, crate::proofs::Listing::keeping), unfolding(nest_grammar::specs::Readings::obeys, nest_grammar::specs::Sights::skip))]
+    #[tactic(auto, using(crate::proofs::ProductionLaws::lets, crate::proofs::ListingLaws::keeping), unfolding(nest_grammar::specs::Readings::obeys, nest_grammar::specs::Sights::skip))]
     fn let_statement(&mut self, names: &mut Vec<Declared>) -> Result<Stmt, ReadRefusal>
         ensures read { GivesAs (λ st. (st, names.new.items)) result self.new (simple names.old.items Letting self.old) }
         ensures kept { OnOk result (take (length names.old.items) names.new.items ≡ names.old.items) }
@@ -157,7 +157,7 @@ impl<'a> Reader<'a> {
 
     /// Reads statements. The names that they declare are visible up to their end.
     #[cycle(statement)]
-    #[tactic(auto, using(crate::proofs::Listing::listings))]
+    #[tactic(auto, using(crate::proofs::ListingLaws::listings))]
     fn statements(
         &mut self,
         names: &mut Vec<Declared>,

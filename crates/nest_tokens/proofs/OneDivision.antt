@@ -10,11 +10,11 @@ use Rattle.nest_tokens.specs.declared.token.Spot.{Spot}
 use Rattle.nest_tokens.specs.Tokens.{spelling, sign_at, signs}
 use Rattle.nest_tokens.specs.Lexing.{is_letter, is_digit, is_blank, between, gap, lexed, sign_or_byte, tokens_from}
 use Rattle.nest_tokens.specs.Division.{Gap, none, blank, opens, inside, closes, IsOneOf, IsSign, StandsAt, Spells, name, number, sign, bad_byte, Divides, ends, goes_on, OneDivision}
-use Rattle.nest_tokens.proofs.Marks.{same-mark}
+use Rattle.nest_tokens.proofs.MarkLaws.{same-mark}
 use Rattle.nest_tokens.proofs.NameLaws.{sign-begins}
-use Rattle.nest_tokens.proofs.Places.{gap-stays, tokens-nil, tokens-gap, tokens-cons, spelling-moves}
+use Rattle.nest_tokens.proofs.PlaceLaws.{gap-stays, tokens-nil, tokens-gap, tokens-cons, spelling-moves}
 use Rattle.nest_tokens.proofs.SignLaws.{found_len, sign_at-sign, sign_at-longest}
-use Rattle.nest_tokens.proofs.Spelled.{take-front, drop-front, lexed-other, lexed-run, lexed-digits}
+use Rattle.nest_tokens.proofs.SpelledLaws.{take-front, drop-front, lexed-other, lexed-run, lexed-digits}
 
 -- a gap is left out
 gap-append : {c d : Bool} {g : List ℕ} → Gap c g d → (bs : List ℕ) → gap c (g ++ bs) ≡ gap d bs

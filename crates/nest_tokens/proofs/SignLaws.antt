@@ -7,7 +7,7 @@ use Rattle.std.proofs.lemmas.Bool.{leb-true, and_parts}
 use Rattle.nest_tokens.specs.declared.token.Mark.{Mark}
 use Rattle.nest_tokens.specs.Tokens.{spelling, sign_at, signs}
 use Rattle.nest_tokens.specs.Division.{IsOneOf, IsSign, StandsAt}
-use Rattle.nest_tokens.proofs.Spelled.{take-front}
+use Rattle.nest_tokens.proofs.SpelledLaws.{take-front}
 
 -- how long a sign is that was found
 abbrev pub found_len : Option Mark → ℕ

@@ -36,7 +36,7 @@ abbrev pub IsOneOf : List Mark → Mark → Type 0
 IsOneOf [] m = ⊥
 IsOneOf (x ∷ xs) m = (m ≡ x) ⊎ IsOneOf xs m
 
--- a sign, and no reserved word
+-- a sign, and no keyword
 abbrev pub IsSign : Mark → Type 0
 IsSign m = IsOneOf signs m
 

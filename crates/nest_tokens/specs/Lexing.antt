@@ -68,7 +68,7 @@ abbrev pub keyword_or_name : Option Mark → List ℕ → Token
 keyword_or_name (Some keyword) s = token.Plain keyword
 keyword_or_name None s = token.Name (name_of s)
 
--- a run of letters, digits and _: a reserved word, or a name of at most 32 bytes
+-- a run of letters, digits and _: a keyword, or a name of at most 32 bytes
 unfoldable pub named : List ℕ → Token
 named s = if nat_lt 32 (length s) then token.Bad bad.Name else keyword_or_name (keyword_of s) s
 

@@ -7,7 +7,7 @@ use Rattle.nest_tokens.specs.declared.token.Mark.TheVariants as mark
 use Rattle.nest_tokens.specs.declared.token.Token.{Token}
 use Rattle.nest_tokens.specs.declared.token.Token.TheVariants as token
 
--- how a sign or a reserved word is spelled
+-- how a sign or a keyword is spelled
 unfoldable pub spelling : Mark → List ℕ
 spelling mark.OpenBrace = codes "{"
 spelling mark.CloseBrace = codes "}"
@@ -44,7 +44,7 @@ spelling mark.Let = codes "let"
 spelling mark.If = codes "if"
 spelling mark.Else = codes "else"
 
--- the reserved words
+-- the keywords
 abbrev pub keywords : List Mark
 keywords = mark.Nest ∷ mark.Scalar ∷ mark.Memory ∷ mark.Data ∷ mark.Ramp ∷ mark.Candidate ∷ mark.For ∷ mark.Below ∷ mark.Step ∷ mark.While ∷ mark.Let ∷ mark.If ∷ mark.Else ∷ []
 
@@ -52,7 +52,7 @@ keywords = mark.Nest ∷ mark.Scalar ∷ mark.Memory ∷ mark.Data ∷ mark.Ramp
 abbrev pub signs : List Mark
 signs = mark.Equal ∷ mark.NotEqual ∷ mark.AtMost ∷ mark.AtLeast ∷ mark.OpenBrace ∷ mark.CloseBrace ∷ mark.Open ∷ mark.Close ∷ mark.OpenBracket ∷ mark.CloseBracket ∷ mark.Assign ∷ mark.Less ∷ mark.Greater ∷ mark.Plus ∷ mark.Minus ∷ mark.Times ∷ mark.Divide ∷ mark.Remainder ∷ mark.Colon ∷ mark.Comma ∷ mark.Semicolon ∷ []
 
--- the reserved word that is spelled so
+-- the keyword that is spelled so
 unfoldable pub keyword_of : List ℕ → Option Mark
 keyword_of text = find (λ w. bytes_eq (spelling w) text) keywords
 

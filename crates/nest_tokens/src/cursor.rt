@@ -32,7 +32,7 @@ impl<'a> Model for Cursor<'a> {
 
 impl<'a> Cursor<'a> {
     /// Stands at the first token from here on.
-    #[tactic(auto, using(crate::proofs::Places::places))]
+    #[tactic(auto, using(crate::proofs::PlaceLaws::places))]
     fn from(text: &'a [u8], from: usize) -> Cursor<'a>
         requires within { from ≤ length text.now }
         ensures { result ≡ record { left = tokens_from (length text.now) (drop from text.now); size = length text.now } }
@@ -55,7 +55,7 @@ impl<'a> Cursor<'a> {
     }
 
     /// The token here and the offset of its first byte; at the end that is the length of the text.
-    #[tactic(auto, unfolding(crate::specs::Ahead::here), using(crate::proofs::Places::places))]
+    #[tactic(auto, unfolding(crate::specs::Ahead::here), using(crate::proofs::PlaceLaws::places))]
     pub fn spot(&self) -> Spot
         ensures value { result ≡ here self.now }
         ensures fits { FitsI64 result.token }
@@ -75,7 +75,7 @@ impl<'a> Cursor<'a> {
     }
 
     /// Goes past the token here; at the end it stays.
-    #[tactic(auto, unfolding(crate::specs::Ahead::past), using(crate::proofs::Places::places))]
+    #[tactic(auto, unfolding(crate::specs::Ahead::past), using(crate::proofs::PlaceLaws::places))]
     pub fn skip(&mut self)
         ensures { self.new ≡ past self.old }
     {

@@ -42,7 +42,7 @@ fn between(comment: bool, byte: u8) -> Option<bool>
 }
 
 /// Where the blanks and comments from here on end.
-#[tactic(auto, using(crate::proofs::Gaps::gaps))]
+#[tactic(auto, using(crate::proofs::GapLaws::gaps))]
 pub fn gap_end(text: &[u8], from: usize) -> usize
     requires { from ≤ length text.now }
     ensures gap { drop result text.now ≡ gap false (drop from text.now) }
@@ -78,7 +78,7 @@ fn digits_len(text: &[u8]) -> usize
 }
 
 /// The value of decimal digits. None where it is no u64.
-#[tactic(auto, unfolding(crate::specs::Lexing::decimal), using(crate::proofs::Numbers::values))]
+#[tactic(auto, unfolding(crate::specs::Lexing::decimal), using(crate::proofs::NumberLaws::values))]
 fn value_of(digits: &[u8]) -> Option<u64>
     ensures { result ≡ below (2 ^ 64) (decimal digits.now) }
 {

@@ -1,7 +1,7 @@
 //! The tokens of a text.
 //!
 //! A text is a list of bytes. `Token` says what can stand in it, for the whole language: a name, a
-//! number, a sign or a reserved word, something that is refused wherever it stands, or the end. `Cursor`
+//! number, a sign or a keyword, something that is refused wherever it stands, or the end. `Cursor`
 //! goes through a text token by token; what it means is the tokens that are left, each with the offset of
 //! its first byte, so that no clause above speaks of bytes.
 //!

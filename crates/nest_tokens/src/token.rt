@@ -1,4 +1,4 @@
-//! Tokens: what they are and how the signs and the reserved words are spelled.
+//! Tokens: what they are and how the signs and the keywords are spelled.
 
 ghost use Rattle.std.specs.Prelude.{◌≡◌, ◌≤◌, length};
 ghost use Rattle.std.specs.List.{prefix_len};
@@ -14,7 +14,7 @@ pub struct Name {
     pub bytes: [u8; 32],
 }
 
-/// A sign or a reserved word.
+/// A sign or a keyword.
 #[derive(Clone, Copy, Debug, PartialEq, Eq)]
 pub enum Mark {
     OpenBrace,
@@ -104,7 +104,7 @@ const SIGNS: [Mark; 21] = [
     Mark::Semicolon,
 ];
 
-/// The reserved words.
+/// The keywords.
 const KEYWORDS: [Mark; 13] = [
     Mark::Nest,
     Mark::Scalar,
@@ -191,7 +191,7 @@ impl Mark {
         }
     }
 
-    /// The reserved word that is spelled so.
+    /// The keyword that is spelled so.
     #[tactic(auto, unfolding(crate::specs::Tokens::keyword_of))]
     pub fn keyword(text: &[u8]) -> Option<Mark>
         ensures { result ≡ keyword_of text.now }

@@ -1,6 +1,6 @@
-pub mod FileNumbers
+pub mod FileNumberLaws
 pub mod TrapsOnly
-pub mod AnswerLemmas
-pub mod PlainLemmas
-pub mod RunLemmas
-pub mod HandedLemmas
+pub mod AnswerLaws
+pub mod PlainLaws
+pub mod RunLaws
+pub mod HandedLaws

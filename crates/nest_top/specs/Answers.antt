@@ -1,4 +1,4 @@
--- Answers: what words and a text give, as bytes and a status.
+-- Answers: what arguments and a text give, as bytes and a status.
 use Rattle.std.specs.Prelude.{◌≡◌, ◌↔◌, ◌≤◌, ◌^◌, ◌≤ℤ◌, ◌++◌, ℕ, pos, List, [], ◌∷◌, Bool, true, false, Option, Result, Ok, Err, codes, decimal, flat_map}
 use Rattle.std.specs.List.{concat}
 use Rattle.nest_lang.specs.declared.budget.Ending.{Ending}
@@ -88,7 +88,8 @@ abbrev pub heading : Recipe → List ℕ
 heading recipe = line (concat (codes "gen " ∷ decimal recipe.seed ∷ codes " " ∷ shape_word recipe.shape ∷ codes " " ∷ decimal recipe.size ∷ []))
 
 -- bytes and a status are those of the summary of a file's journey, behind the line that names the file: how its plain
--- run ends and after how many steps, how many lines of each kind the journey has, and the sum of the words that are left
+-- run ends and after how many steps, how many lines of each kind the journey has, and the sum of the words that are
+-- left
 pub record IsSummaryOf (recipe : Recipe) (options : Options) (file : File) (bytes : List ℕ) (status : Status) : Type 0 where
   pub ending : Ending
   pub ended : finish_of_ending ending ≡ (run_of_file file options.steps).ending
@@ -103,9 +104,9 @@ abbrev pub IsListingOf : Options → File → List ℕ → Type 0
 IsListingOf options file bytes =
     (lines : List ListingLine) × IsListing (journey_options options) file lines × (bytes ≡ flat_map (listing_text (scalar_names file)) lines)
 
--- bytes and a status are the answer to a file: in mode `plain` those of its plain run, in mode `run` those and the lines of
--- its journey, in mode `check` its canonical text, in mode `deps` its dependence listing, in mode `gen` a summary of its
--- journey
+-- bytes and a status are the answer to a file: in mode `plain` those of its plain run, in mode `run` those and the
+-- lines of its journey, in mode `check` its canonical text, in mode `deps` its dependence listing, in mode `gen` a
+-- summary of its journey
 abbrev pub AnswersFile : Mode → Options → File → List ℕ → Status → Type 0
 AnswersFile Plain options file bytes status = IsOutcomeOf file options.steps bytes status
 AnswersFile Run options file bytes status = IsReportOf options file bytes status
@@ -128,14 +129,14 @@ abbrev pub text_for : Mode → List ℕ → List ℕ
 text_for (Gen recipe) text = text_made recipe
 text_for mode text = text
 
--- bytes and a status are the answer of a mode to what a text reads as: the line of its first fault, or the answer to its
--- file
+-- bytes and a status are the answer of a mode to what a text reads as: the line of its first fault, or the answer to
+-- its file
 abbrev pub AnswersReading : Mode → Options → Result File TextFault → List ℕ → Status → Type 0
 AnswersReading mode options (Err fault) bytes status = (bytes ≡ refusal_line fault) × (status ≡ Refused)
 AnswersReading mode options (Ok file) bytes status = AnswersFile mode options file bytes status
 
--- The answer of words and a text: words that are no invocation give the usage line, and an invocation what its mode
--- answers to what its text reads as.
+-- The answer of arguments and a text: arguments that are no invocation give the usage line, and an invocation what its
+-- mode answers to what its text reads as.
 pub data IsAnswer (words : List (List ℕ)) (text : List ℕ) : List ℕ → Status → Type 0 where
   usage : IsNoInvocation words → IsAnswer words text usage_line Usage
   invoked : (c : Invocation) → IsInvocation words c → (bytes : List ℕ) (status : Status) → AnswersReading c.mode c.options (reading (text_for c.mode text)) bytes status → IsAnswer words text bytes status
@@ -153,7 +154,7 @@ has_journey Run = true
 has_journey (Gen recipe) = true
 has_journey mode = false
 
--- the words ask for a journey
+-- the arguments ask for a journey
 pub record AsksForJourney (words : List (List ℕ)) : Type 0 where
   pub invocation : Invocation
   pub is : IsInvocation words invocation
@@ -164,7 +165,7 @@ abbrev pub TakesText : Mode → Type 0
 TakesText (Gen recipe) = ⊥
 TakesText mode = Unit {0}
 
--- the words take no text: they are no invocation, or one that makes its text itself
+-- the arguments take no text: they are no invocation, or one that makes its text itself
 abbrev pub TakesNothing : List (List ℕ) → Type 0
 TakesNothing words = (invocation : Invocation) → IsInvocation words invocation → TakesText invocation.mode → ⊥
 
@@ -177,7 +178,7 @@ finish_of Check options file = traces.Done
 finish_of Deps options file = traces.Done
 finish_of (Gen recipe) options file = (run_of_file file options.steps).ending
 
--- the words are an invocation, its text reads as a file, and the invocation's run on it finishes so
+-- the arguments are an invocation, its text reads as a file, and the invocation's run on it finishes so
 pub record Finishes (words : List (List ℕ)) (text : List ℕ) (finish : Finish) : Type 0 where
   pub invocation : Invocation
   pub is : IsInvocation words invocation
@@ -185,7 +186,7 @@ pub record Finishes (words : List (List ℕ)) (text : List ℕ) (finish : Finish
   pub reads : reading (text_for invocation.mode text) ≡ Ok file
   pub finished : finish_of invocation.mode invocation.options file ≡ finish
 
--- the words are an invocation, and its text has a fault
+-- the arguments are an invocation, and its text has a fault
 pub record IsRefused (words : List (List ℕ)) (text : List ℕ) : Type 0 where
   pub invocation : Invocation
   pub is : IsInvocation words invocation

@@ -48,7 +48,7 @@ ReadingHanded options (Err fault) old new result = new ≡ old
 
 -- ---- of a call
 
--- the words ask for a journey, and their text reads as this file
+-- the arguments ask for a journey, and their text reads as this file
 pub record AsksFor (words : List (List ℕ)) (text : List ℕ) (invocation : Invocation) (file : File) : Type 0 where
   pub is : IsInvocation words invocation
   pub has : has_journey invocation.mode ≡ true
@@ -61,8 +61,8 @@ pub data HandsOver (words : List (List ℕ)) (text : List ℕ) : List Handed →
   journey : (invocation : Invocation) (file : File) → AsksFor words text invocation file → (lines : List Line) (end : Cut) (list : List Handed)
       → JourneyHands (journey_options invocation.options) file lines end list → HandsOver words text list
 
--- What a call hands over for which memory was wanting: nothing, the handed record of the journey as far as it came, or all
--- of it.
+-- What a call hands over for which memory was wanting: nothing, the handed record of the journey as far as it came, or
+-- all of it.
 pub data HandsSome (words : List (List ℕ)) (text : List ℕ) : List Handed → Type 0 where
   nothing : HandsSome words text []
   begun : (invocation : Invocation) (file : File) → AsksFor words text invocation file → (list : List Handed)
@@ -77,8 +77,9 @@ pub record Gains (left : Option (List ℕ)) (Is : List ℕ → List Handed → T
   pub gained : new ≡ old ++ list
   pub is : Is text list
 
--- `IsHanded words left status old new`: a call with these words that went so did this to its crew's list, where the source
--- had these bytes left. After a fault of the source it is as it was; after one of the sink it grew as after an answer.
+-- `IsHanded words left status old new`: a call with these arguments that went so did this to its crew's list, where the
+-- source had these bytes left. After a fault of the source it is as it was; after one of the sink it grew as after an
+-- answer.
 abbrev pub IsHanded : List (List ℕ) → Option (List ℕ) → Status → List Handed → List Handed → Type 0
 IsHanded words left SourceFault old new = new ≡ old
 IsHanded words left NoMemory old new = Gains left (HandsSome words) old new

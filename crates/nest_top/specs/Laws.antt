@@ -8,7 +8,7 @@ use Rattle.profile.specs.Reach.{HasI64s, IsOfI64s}
 use Rattle.nest_top.specs.declared.status.Status.{Status}
 use Rattle.nest_top.specs.Answers.{IsAnswer, Causes}
 
--- words and a text have at most one answer
+-- arguments and a text have at most one answer
 abbrev pub OneAnswer : Type 0
 OneAnswer = (words : List (List ℕ)) (text bytes other : List ℕ) (status another : Status) → IsAnswer words text bytes status → IsAnswer words text other another
     → (bytes ≡ other) × (status ≡ another)
@@ -22,7 +22,7 @@ pub record AreI64s (file : File) : Type 0 where
 abbrev pub FilesAreOfI64s : Type 0
 FilesAreOfI64s = (text : List ℕ) (file : File) → reading text ≡ Ok file → AreI64s file
 
--- words and a text have an answer
+-- arguments and a text have an answer
 abbrev pub SomeAnswer : Type 0
 SomeAnswer = (words : List (List ℕ)) (text : List ℕ) → (bytes : List ℕ) × (status : Status) × IsAnswer words text bytes status
 

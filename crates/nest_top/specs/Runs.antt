@@ -19,7 +19,7 @@ pub record Over (X : Type 0) : Type 0 where
   pub before : X
   pub after : X
 
--- `IsRun words source sink status`: a call with these words did this to its source and its sink, and went so.
+-- `IsRun words source sink status`: a call with these arguments did this to its source and its sink, and went so.
 pub record IsRun {S K : Type 0} (words : List (List ℕ)) (source : Over S) (sink : Over K) (status : Status) : Type 0 where
   -- The status is that of the answer and comes exactly where its cause holds, and the sink got the bytes of the
   -- answer, all of them.
@@ -35,16 +35,16 @@ pub record IsRun {S K : Type 0} (words : List (List ℕ)) (source : Over S) (sin
       × IsAnswer words text bytes answered
       × AppendsFront (sink.bytes sink.before) (sink.bytes sink.after) bytes)
   pub no_memory : status ≡ NoMemory → sink.after ≡ sink.before
-  -- Words that take no text read nothing; an invocation that takes one reads to the end, or one byte more than a text
-  -- may have.
+  -- Arguments that take no text read nothing; an invocation that takes one reads to the end, or one byte more than a
+  -- text may have.
   pub unread : TakesNothing words → source.after ≡ source.before
   pub read : (invocation : Invocation) → IsInvocation words invocation → TakesText invocation.mode → Reading status → IsRead (source.bytes source.before) (source.bytes source.after)
   pub source_counts : source.faults source.before ≤ source.faults source.after
   pub sink_counts : sink.faults sink.before ≤ sink.faults sink.after
 
--- `IsAlone words source sink result`: a call with these words that runs no journey did this. A status comes as in every
--- run; none comes exactly where the words ask for a journey, unless want of memory comes in its place, and then nothing
--- was read or written.
+-- `IsAlone words source sink result`: a call with these arguments that runs no journey did this. A status comes as in
+-- every run; none comes exactly where the arguments ask for a journey, unless want of memory comes in its place, and
+-- then nothing was read or written.
 pub record IsAlone {S K : Type 0} (words : List (List ℕ)) (source : Over S) (sink : Over K) (result : Option Status) : Type 0 where
   pub run : IfSome result (λ status. IsRun words source sink status)
   pub none : result ≡ None → AsksForJourney words
@@ -52,7 +52,7 @@ pub record IsAlone {S K : Type 0} (words : List (List ℕ)) (source : Over S) (s
 
 -- ---- on the way
 
--- an answer was made for the words, of what was taken of a source
+-- an answer was made for the arguments, of what was taken of a source
 pub record IsAnswerMade {S : Type 0} (words : List (List ℕ)) (source : Over S) (bytes : List ℕ) (status : Status) : Type 0 where
   pub answer : Prepared words (source.bytes source.before) bytes status
   pub unread : TakesNothing words → source.after ≡ source.before
@@ -69,7 +69,7 @@ abbrev pub IsMade : {S : Type 0} → List (List ℕ) → Over S → Result Answe
 IsMade words source (Ok answer) = IsAnswerMade words source answer.bytes.items answer.status
 IsMade words source (Err why) = IsNoneMade words source why
 
--- the same where no answer is made to words that ask for a journey
+-- the same where no answer is made to arguments that ask for a journey
 abbrev pub IsMadeAlone : {S : Type 0} → List (List ℕ) → Over S → Result (Option Answer) Unanswered → Type 0
 IsMadeAlone words source (Ok (Some answer)) = IsAnswerMade words source answer.bytes.items answer.status × (AsksForJourney words → ⊥)
 IsMadeAlone words source (Ok None) = AsksForJourney words × (source.after ≡ source.before)

@@ -1,4 +1,4 @@
-//! The modes that need no crew: `plain`, `check` and `deps`, and words that are no invocation.
+//! The modes that need no crew: `plain`, `check` and `deps`, and arguments that are no invocation.
 
 ghost use Rattle.std.specs.Prelude.{◌≡◌, IfOk, map, string_bytes, true, false};
 ghost use Rattle.nest_grammar.specs.Contents.{reading};
@@ -17,9 +17,9 @@ use nest_io::{Sink, Source, read_all};
 use nest_text::{MOST_BYTES, NestFile, ReadRefusal, read_nest};
 use std::alloc::{AllocError, Global};
 
-/// Does the whole of the modes `plain`, `check` and `deps` and of words that are no invocation, as `nest_run` does, and
-/// returns: it uses no crew. None comes exactly where the words ask for a journey, in mode `run` or `gen`; nothing was
-/// then read or written. Want of memory may come in its place.
+/// Does the whole of the modes `plain`, `check` and `deps` and of arguments that are no invocation, as `nest_run` does,
+/// and returns: it uses no crew. None comes exactly where the arguments ask for a journey, in mode `run` or `gen`;
+/// nothing was then read or written. Want of memory may come in its place.
 pub fn nest_alone<S: Source, K: Sink>(
     alloc: Global,
     words: &[String],
@@ -37,7 +37,7 @@ pub fn nest_alone<S: Source, K: Sink>(
     }
 }
 
-/// Makes the answer, unless the words ask for a journey.
+/// Makes the answer, unless the arguments ask for a journey.
 fn prepare<S: Source>(
     alloc: Global,
     words: &[String],

@@ -31,7 +31,7 @@ impl Answer {
     }
 }
 
-/// The answer where the words are no invocation.
+/// The answer where the arguments are no invocation.
 pub(crate) fn usage(alloc: Global) -> Result<Answer, AllocError>
     ensures { IfOk result (λ answer. (answer.bytes.items ≡ usage_line) × (answer.status ≡ Status.Usage)) }
 {

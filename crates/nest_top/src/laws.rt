@@ -2,7 +2,7 @@
 
 ghost use Rattle.nest_top.specs.Laws.{EachHasItsCause, FilesAreOfI64s, OneAnswer, SomeAnswer};
 
-/// Words and a text have at most one answer: bytes and a status.
+/// Arguments and a text have at most one answer: bytes and a status.
 pub fn one_answer()
     ensures { OneAnswer }
 {}
@@ -12,7 +12,7 @@ pub fn files_are_of_i64s()
     ensures { FilesAreOfI64s }
 {}
 
-/// Words and a text have an answer.
+/// Arguments and a text have an answer.
 pub fn some_answer()
     ensures { SomeAnswer }
 {}

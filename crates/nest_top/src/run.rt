@@ -18,7 +18,7 @@ use nest_io::{Sink, Source, read_all};
 use nest_text::MOST_BYTES;
 use std::alloc::Global;
 
-/// Does what the words ask for, as `nest_run`, and gives the exit of its status.
+/// Does what the arguments ask for, as `nest_run`, and gives the exit of its status.
 pub fn nest_exit<S: Source, K: Sink, C: Crew>(
     alloc: Global,
     words: &[String],
@@ -34,8 +34,8 @@ pub fn nest_exit<S: Source, K: Sink, C: Crew>(
     nest_run(alloc, words, source, sink, crew).exit()
 }
 
-/// Reads a text from the source where the words are an invocation that reads one, and puts the answer into the sink
-/// (docs/DEFINITIONS.md, Answers). The order is words, source, text, run, sink: the whole answer is made
+/// Reads a text from the source where the arguments are an invocation that reads one, and puts the answer into the sink
+/// (docs/DEFINITIONS.md, Answers). The order is arguments, source, text, run, sink: the whole answer is made
 /// before the first write.
 ///
 /// `Usage` and mode `gen` read nothing. `SourceFault` and `SinkFault` come only where that object's count of faults
@@ -64,7 +64,7 @@ pub fn nest_run<S: Source, K: Sink, C: Crew>(
     }
 }
 
-/// Makes the answer of words that ask for a journey.
+/// Makes the answer of arguments that ask for a journey.
 fn prepare<S: Source, C: Crew>(
     alloc: Global,
     words: &[String],

@@ -6,7 +6,8 @@ ghost use Rattle.nest_top.specs.Exits.{exit_code};
 /// What `nest_run` answers.
 #[derive(Clone, Copy, Debug, PartialEq, Eq)]
 pub enum Status {
-    /// The plain run ended within its steps.
+    /// The run ended within its steps, in the modes `plain`, `run` and `gen`; in the modes `check` and `deps` the text
+    /// was read.
     Ended,
     /// The text has no reading.
     Refused,
@@ -14,13 +15,13 @@ pub enum Status {
     SourceFault,
     /// The sink failed, and its count of faults rose.
     SinkFault,
-    /// A growth was refused.
+    /// Want of memory: a free answer, which no clause ties to a growth that was refused.
     NoMemory,
-    /// The plain run trapped.
+    /// The run trapped.
     Trapped,
-    /// The plain run took all its steps, and another was due.
+    /// The run took all its steps, and another was due.
     Limited,
-    /// The words are no command.
+    /// The arguments are no invocation.
     Usage,
 }
 

@@ -1,4 +1,4 @@
-//! Sources and sinks that give and take a few bytes at a time, or fail. Words and texts with their answers stand in
+//! Sources and sinks that give and take a few bytes at a time, or fail. Arguments and texts with their answers stand in
 //! cases/, and the program is run on them.
 
 ghost use Rattle.std.specs.Prelude.{◌≤◌};
@@ -139,11 +139,13 @@ fn a_sink_that_fails_at_its_kth_write_has_a_front(rt: HostRuntime) -> Result<(),
 fn a_second_read_and_a_third_write_that_fail(rt: HostRuntime) -> Result<(), Fail> {
     let alloc = rt.alloc();
     let mut crew = LineCrew::new(&rt, alloc);
-    let unread = run(alloc, &mut crew, &["plain"], EMPTY, 40, Some(2), None)?;
-    assert_eq!(rt; unread.status, Status::SourceFault);
-    assert!(rt; unread.sink.bytes().is_empty());
-    let unwritten = run(alloc, &mut crew, &["plain"], EMPTY, 5, None, Some(3))?;
-    assert_eq!(rt; unwritten.status, Status::SinkFault);
-    assert_eq!(rt; unwritten.sink.bytes(), b"ended\nstep".as_slice());
+    for mode in ["plain", "run"] {
+        let unread = run(alloc, &mut crew, &[mode], EMPTY, 40, Some(2), None)?;
+        assert_eq!(rt; unread.status, Status::SourceFault, "{mode}");
+        assert!(rt; unread.sink.bytes().is_empty(), "{mode}");
+        let unwritten = run(alloc, &mut crew, &[mode], EMPTY, 5, None, Some(3))?;
+        assert_eq!(rt; unwritten.status, Status::SinkFault, "{mode}");
+        assert_eq!(rt; unwritten.sink.bytes(), b"ended\nstep".as_slice(), "{mode}");
+    }
     Ok(())
 }

@@ -6,7 +6,7 @@
 //! neighbours that don't conflict may be exchanged, a list may be run in any order that keeps the order of
 //! each conflicting pair, and what is apart may run side by side.
 //!
-//! The crate stands on nothing. The layers above state that their instances are lawful and have each law at
+//! The crate stands on `plain_lemmas` for membership. The layers above state that their instances are lawful and have each law at
 //! them.
 #![tactic(auto)]
 

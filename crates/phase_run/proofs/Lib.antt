@@ -1,4 +1,4 @@
-mod Lending
-mod Returning
-mod Closing
-mod Handing
+mod LendingLaws
+mod ReturningLaws
+mod ClosingLaws
+mod HandingLaws

@@ -4,7 +4,7 @@ use Rattle.atomic_table.specs.Seated.{TableId}
 use Rattle.domain.specs.Instances.{Instance, Predicted}
 use Rattle.core_steps.specs.declared.plan.Plan.{Plan}
 use Rattle.core_steps.specs.Plans.{IsSeparate, IsInside}
-use Rattle.orders.specs.Orders.{Has}
+use Rattle.plain_lemmas.specs.Lists.{Has}
 use Rattle.orders.specs.Tiles.{flat}
 use Rattle.follow_chunk.specs.Tasks.{IsTask}
 use Rattle.verified_turns.specs.Workers.{TaskState, StaysWithin}

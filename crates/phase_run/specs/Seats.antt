@@ -4,7 +4,7 @@ use Rattle.core_steps.specs.Numbers.{has}
 use Rattle.core_steps.specs.Plans.{writes}
 use Rattle.core_steps.specs.declared.view.View.{View}
 use Rattle.core_steps.specs.Views.{stored_at}
-use Rattle.orders.specs.Orders.{Has}
+use Rattle.plain_lemmas.specs.Lists.{Has}
 use Rattle.verified_turns.specs.Workers.{TaskState, Status}
 use Rattle.phase_run.specs.Postings.{PostingState}
 

@@ -50,9 +50,9 @@ fn take_back<'a, M: MakeWalk<D>, const D: usize>(
     steps
 }
 
-/// Ends a phase whose workers have no turn left, and gives their steps; None where the flag was raised in it. Without the
-/// flag main's base is then what the instances of the tiles leave, one tile after another; with it some instance of them
-/// deviates. Takes no memory.
+/// Ends a phase whose workers have no turn left, and gives their steps; None where the flag was raised in it. Without
+/// the flag main's base is then what the instances of the tiles leave, one tile after another; with it some instance of
+/// them deviates. Takes no memory.
 pub fn close<'a, M: MakeWalk<D>, const D: usize>(
     task: &Task<'_, D>,
     posting: &Posting<'a, '_, M, D>,

@@ -23,8 +23,8 @@ pub trait MakeWalk<const D: usize> {
         ensures rest { Self.Out.rest result ≡ [] };
 }
 
-/// A phase of a task's chunk: its words, what makes the walks of its workers, the plan with a tile for each of their lists,
-/// its number in the chunk, and how many workers it gets. Contracts see it as plain data (`specs/Postings`).
+/// A phase of a task's chunk: its words, what makes the walks of its workers, the plan with a tile for each of their
+/// lists, its number in the chunk, and how many workers it gets. Contracts see it as plain data (`specs/Postings`).
 #[derive(Drop)]
 pub struct Posting<'a, 'p, M: MakeWalk<D>, const D: usize> {
     pub words: &'a SharedWords,

@@ -16,9 +16,9 @@ use verified_turns::Worker;
 /// Runs a phase: posts its plan, lends a seat to each of its workers, has the crew give them turns until each has
 /// finished, takes the seats back and settles. It gives the steps of what was followed: main's base is then what the
 /// instances of the tiles leave, one tile after another. None comes exactly where some instance of them deviates. In
-/// either case each word that is a write of no tile is as before, no plan is posted, nobody is out, and the crew kept one
-/// entry more. Main's epoch is below 2^63 - 1, no plan is posted, there is room for the workers and for the entry. Takes
-/// no memory.
+/// either case each word that is a write of no tile is as before, no plan is posted, nobody is out, and the crew kept
+/// one entry more. Main's epoch is below 2^63 - 1, no plan is posted, there is room for the workers and for the entry.
+/// Takes no memory.
 pub fn run_phase<'a, C: Crew, M: MakeWalk<D>, const D: usize>(
     task: &'a Task<'a, D>,
     posting: &Posting<'a, '_, M, D>,

@@ -1,3 +1,3 @@
-pub mod WorkerSteps
-pub mod Together
-pub mod Gathering
+pub mod WorkerStepLaws
+pub mod WorkersTogetherLaws
+pub mod GatheringLaws

@@ -2,9 +2,9 @@
 use Rattle.std.specs.Prelude.{◌≡◌, ℕ, ℤ, ◌<◌, ◌+◌, ◌↔◌, Bool, true, false, IsTrue, MatchBool, Some, None, List, [], ◌∷◌, map, length}
 use Rattle.core_steps.specs.declared.plan.Plan.{Plan}
 use Rattle.core_steps.specs.declared.view.View.{View}
-use Rattle.core_steps.specs.Views.{overlaid}
+use Rattle.core_steps.specs.Views.{overlaid, Holds}
 use Rattle.orders.specs.Runs.{Machine, follow}
-use Rattle.orders.specs.Orders.{Has}
+use Rattle.plain_lemmas.specs.Lists.{Has}
 use Rattle.orders.specs.Tiles.{flat}
 use Rattle.shared_words.specs.Memories.{signed}
 use Rattle.shared_words.specs.Calls.{EndsPhase}
@@ -65,16 +65,24 @@ pub record RanTogether {X : Type 0} (s : Machine X) (closes : X → Type 0) (lis
   pub run : follow s (flat lists) words ≡ Some (record { memory = after; steps = steps })
   pub each : (x : X) → Has (flat lists) x → closes x
 
--- the run of the tiles' lists, one tile after another, from main's base: where the flag was raised it is None, and else
--- it leaves the base with what main took over, in so many steps
-abbrev pub RanAs : {X : Type 0} → Machine X → (X → Type 0) → List (List X) → View → ℕ → Bool → Type 0
-RanAs s closes lists m steps raised = MatchBool raised
-    (follow s (flat lists) (signed m.base) ≡ None)
-    (RanTogether s closes lists (signed m.base) (signed (overlaid m.own m.base)) steps)
+-- main holds every tile of the plan, and the tiles' lists, one tile after another, lead from its base to that of the view
+-- after the phase, in so many steps
+pub record AllRan {X : Type 0} (s : Machine X) (closes : X → Type 0) (lists : List (List X)) (m n : View) (steps : ℕ) : Type 0 where
+  pub held : (k : ℕ) → k < length m.plan.tiles → Holds m k
+  pub together : RanTogether s closes lists (signed m.base) (signed n.base) steps
 
--- the law of a phase: whatever order the workers took their tiles in, and whatever ran beside what, they leave what the
--- tiles leave one after another, in as many steps; and a raised flag means that these are None
+-- where the flag was raised, the run of the tiles' lists, one tile after another, from main's base is None; and else all
+-- ran
+abbrev pub RanAs : {X : Type 0} → Machine X → (X → Type 0) → List (List X) → View → View → ℕ → Bool → Type 0
+RanAs s closes lists m n steps raised = MatchBool raised
+    (follow s (flat lists) (signed m.base) ≡ None)
+    (AllRan s closes lists m n steps)
+
+-- the law of a phase, of main's view m before its end, which took over what the workers did, and n after it, whose base
+-- has what main took over laid over it: whatever order the workers took their tiles in, and whatever ran beside what, every
+-- tile is held, and the words are those that the tiles leave one after another, in as many steps; and a raised flag means
+-- that these are None
 abbrev pub PhaseLaw : {X : Type 0} → Machine X → (X → Type 0) → Type 0
 PhaseLaw {X} s closes =
     (m n : View) (lists : List (List X)) (count steps : ℕ) (raised : Bool) → length m.base ≡ s.size → length lists ≡ length m.plan.tiles → Fits s m.plan lists
-    → 0 < count → Gathered s closes lists m count steps → EndsRaised m raised n → RanAs s closes lists m steps raised
+    → 0 < count → Gathered s closes lists m count steps → EndsRaised m raised n → n.base ≡ overlaid m.own m.base → RanAs s closes lists m n steps raised

@@ -1,6 +1,6 @@
 -- What a worker of a phase has done, as plain data: its view, what is left of the tiles that it holds, and its steps.
 -- An instance is whatever runs on words, of a machine as `orders` has them, and each tile has a list of instances.
-use Rattle.std.specs.Prelude.{◌≡◌, ℕ, ℤ, ◌<◌, Bool, true, false, ◌||◌, Some, None, List, [], ◌∷◌, ◌++◌, length, map, slice_index_or}
+use Rattle.std.specs.Prelude.{◌≡◌, ℕ, ℤ, ◌<◌, Bool, true, false, ◌||◌, ◌⊎◌, Some, None, List, [], ◌∷◌, ◌++◌, length, map, slice_index_or}
 use Rattle.core_steps.specs.declared.plan.Plan.{Plan}
 use Rattle.core_steps.specs.declared.view.View.{View}
 use Rattle.core_steps.specs.Numbers.{has, IsSingle}
@@ -8,7 +8,7 @@ use Rattle.core_steps.specs.Plans as plans
 use Rattle.core_steps.specs.Views.{Holds, Knows, OwnsItsValues, may_load, may_store}
 use Rattle.orders.specs.Runs.{Machine, follow}
 use Rattle.orders.specs.Runs as runs
-use Rattle.orders.specs.Orders.{Has}
+use Rattle.plain_lemmas.specs.Lists.{Has}
 use Rattle.orders.specs.Tiles.{flat}
 use Rattle.shared_words.specs.Memories.{signed, shown}
 
@@ -38,14 +38,22 @@ pub record Went {X : Type 0} (s : Machine X) (closes : X → Type 0) (lists : Li
   pub each : (x : X) → Has done x → closes x
   pub ran : follow s done (signed v.base) ≡ Some (record { memory = shown v; steps = steps })
 
--- from the base it followed all that stands before x among the instances of its tiles, and x is None on the words that
--- they left
+-- `rest` is what is left of the list of the tile that was claimed last: `front` are the tiles claimed before it, and `begun`
+-- is what stands before `rest` in its list
+pub record IsLeftOfLast {X : Type 0} (lists : List (List X)) (held : List ℕ) (rest : List X) : Type 0 where
+  pub front : List ℕ
+  pub tile : ℕ
+  pub begun : List X
+  pub claimed : held ≡ front ++ tile ∷ []
+  pub split : list_of lists tile ≡ begun ++ rest
+
+-- x stands in the tile that it claimed last: from the base it followed all instances of the tiles claimed before and, of
+-- this tile's list, all before x; and x is None on the words that they left
 pub record CameTo {X : Type 0} (s : Machine X) (lists : List (List X)) (v : View) (x : X) (steps : ℕ) : Type 0 where
-  pub done : List X
   pub rest : List X
+  pub last : IsLeftOfLast lists v.held (x ∷ rest)
   pub memory : List ℤ
-  pub split : taken lists v.held ≡ done ++ x ∷ rest
-  pub ran : follow s done (signed v.base) ≡ Some (record { memory = memory; steps = steps })
+  pub ran : follow s (taken lists last.front ++ last.begun) (signed v.base) ≡ Some (record { memory = memory; steps = steps })
   pub none : s.run x memory ≡ None
 
 -- the view put each tile below `next` into a claim
@@ -63,9 +71,10 @@ pub record IsTold (v : View) : Type 0 where
 abbrev pub looked_view : View → Bool → View
 looked_view v raised = record v { seen = v.seen || raised }
 
--- it is at work
+-- it is at work, and what is left to follow, if anything, is the end of the list of the tile that it claimed last
 pub record IsGoing {X : Type 0} (s : Machine X) (closes : X → Type 0) (lists : List (List X)) (v : View) (rest : List X) (next steps : ℕ) : Type 0 where
   pub went : Went s closes lists v rest steps
+  pub last : (rest ≡ []) ⊎ IsLeftOfLast lists v.held rest
   pub tried : Tried v next
   pub unfailed : v.failed ≡ false
   pub unseen : v.seen ≡ false

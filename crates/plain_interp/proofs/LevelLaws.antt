@@ -30,11 +30,11 @@ use Rattle.block_exec.specs.Moments.{Moment, Ran, Evaluated}
 use Rattle.block_exec.specs.Halts.{halt_by, yield_where_left, finish_of}
 use Rattle.plain_interp.specs.declared.loops.Level.{Level}
 use Rattle.plain_interp.specs.Levels.{IsWhile, level_turn}
-use Rattle.plain_interp.proofs.Rans.{Leads, while-halts, while-limited}
+use Rattle.plain_interp.proofs.TraceRunLaws.{Leads, while-halts, while-limited}
 use Rattle.nest_lang.specs.declared.state.Outer.{Outer}
 use Rattle.nest_lang.specs.Turns.{turns_trace}
-use Rattle.plain_interp.proofs.OuterTurns.{ran-while-halts, ran-while-limited}
-use Rattle.plain_interp.proofs.Turns.{for_turns, for-halts, for-limited}
+use Rattle.plain_interp.proofs.OuterTurnLaws.{ran-while-halts, ran-while-limited}
+use Rattle.plain_interp.proofs.TurnLaws.{for_turns, for-halts, for-limited}
 
 -- the stride of a loop that keeps the rules
 pub stride-not-0 : (h : Head) (lower upper : Expr) (stride : ℤ) → h ≡ For lower upper stride → strides h ≡ true → stride ≡ pos 0 → ⊥

@@ -1,9 +1,9 @@
-pub mod Blocks
-pub mod Keeps
+pub mod BlockLaws
 pub mod LevelLaws
-pub mod Nests
-pub mod OuterTurns
-pub mod Positions
-pub mod Rans
-pub mod Several
-pub mod Turns
+pub mod NestLaws
+pub mod NestRuleLaws
+pub mod OuterTurnLaws
+pub mod PositionLaws
+pub mod SeveralNestLaws
+pub mod TraceRunLaws
+pub mod TurnLaws

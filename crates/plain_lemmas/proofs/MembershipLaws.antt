@@ -3,17 +3,13 @@ use Rattle.std.proofs.Common.{◌≡◌, ℕ, zero, suc, ◌<◌, Bool, true, fa
 use Rattle.std.specs.List.{All, Any, AllByRecursion, Contains, flat_map, list_all, list_any}
 use Rattle.std.proofs.lemmas.Bool.{and_parts, or_parts}
 use Rattle.std.proofs.lemmas.List.Elements.{Contains-get_or}
+use Rattle.plain_lemmas.specs.Lists.{Has}
 
 module _ {X : Type 0} where
-  -- x is one of the elements
-  abbrev pub Has : List X → X → Type 0
-  Has [] x = ⊥
-  Has (y ∷ ys) x = (x ≡ y) ⊎ Has ys x
-
-  pub all_has : (P : X → Type 0) (xs : List X) (x : X) → AllByRecursion P xs → Has xs x → P x
-  all_has P [] x all h = absurd h
-  all_has P (y ∷ ys) x all (inl e) = subst P (sym e) all.0
-  all_has P (y ∷ ys) x all (inr h) = all_has P ys x all.1 h
+  pub all-has : (P : X → Type 0) (xs : List X) (x : X) → AllByRecursion P xs → Has xs x → P x
+  all-has P [] x all h = absurd h
+  all-has P (y ∷ ys) x all (inl e) = subst P (sym e) all.0
+  all-has P (y ∷ ys) x all (inr h) = all-has P ys x all.1 h
 
   pub all-from : (P : X → Type 0) (xs : List X) → ((x : X) → Has xs x → P x) → AllByRecursion P xs
   all-from P [] h = tt
@@ -46,15 +42,15 @@ module _ {X : Type 0} where
   pub has-from-contains : (xs : List X) (x : X) → Contains xs x → Has xs x
   has-from-contains xs x c = has-at xs c.0 x c.1 c.2
 
-  pub has-get-or : (xs : List X) (k : ℕ) (d : X) → k < length xs → Has xs (get_or xs k d)
-  has-get-or xs k d l = has-from-contains xs (get_or xs k d) (Contains-get_or xs k d l)
+  pub has-get_or : (xs : List X) (k : ℕ) (d : X) → k < length xs → Has xs (get_or xs k d)
+  has-get_or xs k d l = has-from-contains xs (get_or xs k d) (Contains-get_or xs k d l)
 
   -- `All`, by the elements
   pub All-has : (P : X → Type 0) (xs : List X) (x : X) → All P xs → Has xs x → P x
   All-has P xs x all h = let (k, l, is) = contains-from-has xs x h in subst P is (all k x l)
 
   pub All-from : (P : X → Type 0) (xs : List X) → ((x : X) → Has xs x → P x) → All P xs
-  All-from P xs h k d l = h (get_or xs k d) (has-get-or xs k d l)
+  All-from P xs h k d l = h (get_or xs k d) (has-get_or xs k d l)
 
   pub has-from-any : (P : X → Type 0) (xs : List X) → Any P xs → (x : X) × Has xs x × P x
   has-from-any P xs (k, x, l, is, p) = (x, has-at xs k x l is, p)
@@ -82,23 +78,23 @@ module _ {X : Type 0} where
       at false e k more = let r = more (rw e at k) in (inr r.0, r.1)
 
   -- a test of all, and of some
-  pub list-all-has : (p : X → Bool) (xs : List X) → list_all p xs ≡ true → (x : X) → Has xs x → p x ≡ true
-  list-all-has p [] all x h = absurd h
-  list-all-has p (y ∷ ys) all x (inl e) = rw e (and_parts (p y) (list_all p ys) all).0
-  list-all-has p (y ∷ ys) all x (inr h) = list-all-has p ys (and_parts (p y) (list_all p ys) all).1 x h
+  pub list_all-has : (p : X → Bool) (xs : List X) → list_all p xs ≡ true → (x : X) → Has xs x → p x ≡ true
+  list_all-has p [] all x h = absurd h
+  list_all-has p (y ∷ ys) all x (inl e) = rw e (and_parts (p y) (list_all p ys) all).0
+  list_all-has p (y ∷ ys) all x (inr h) = list_all-has p ys (and_parts (p y) (list_all p ys) all).1 x h
 
-  pub list-all-from : (p : X → Bool) (xs : List X) → ((x : X) → Has xs x → p x ≡ true) → list_all p xs ≡ true
-  list-all-from p [] h = refl
-  list-all-from p (y ∷ ys) h = rw (h y (inl refl)) (list-all-from p ys (λ x k. h x (inr k)))
+  pub list_all-from : (p : X → Bool) (xs : List X) → ((x : X) → Has xs x → p x ≡ true) → list_all p xs ≡ true
+  list_all-from p [] h = refl
+  list_all-from p (y ∷ ys) h = rw (h y (inl refl)) (list_all-from p ys (λ x k. h x (inr k)))
 
-  pub list-any-none : (p : X → Bool) (xs : List X) → list_any p xs ≡ false → (x : X) → Has xs x → p x ≡ false
-  list-any-none p [] none x h = absurd h
-  list-any-none p (y ∷ ys) none x (inl e) = rw e (or_parts (p y) (list_any p ys) none).0
-  list-any-none p (y ∷ ys) none x (inr h) = list-any-none p ys (or_parts (p y) (list_any p ys) none).1 x h
+  pub list_any-none : (p : X → Bool) (xs : List X) → list_any p xs ≡ false → (x : X) → Has xs x → p x ≡ false
+  list_any-none p [] none x h = absurd h
+  list_any-none p (y ∷ ys) none x (inl e) = rw e (or_parts (p y) (list_any p ys) none).0
+  list_any-none p (y ∷ ys) none x (inr h) = list_any-none p ys (or_parts (p y) (list_any p ys) none).1 x h
 
-  pub list-any-has : (p : X → Bool) (xs : List X) → list_any p xs ≡ true → (x : X) × Has xs x × (p x ≡ true)
-  list-any-has p [] some = cc
-  list-any-has p (y ∷ ys) some = at (p y) refl some (λ h. list-any-has p ys h)
+  pub list_any-has : (p : X → Bool) (xs : List X) → list_any p xs ≡ true → (x : X) × Has xs x × (p x ≡ true)
+  list_any-has p [] some = cc
+  list_any-has p (y ∷ ys) some = at (p y) refl some (λ h. list_any-has p ys h)
     where
       at : (b : Bool) → p y ≡ b → (b || list_any p ys) ≡ true → (list_any p ys ≡ true → (x : X) × Has ys x × (p x ≡ true)) → (x : X) × Has (y ∷ ys) x × (p x ≡ true)
       at true e h more = (y, inl refl, e)
@@ -115,12 +111,12 @@ module _ {X Y : Type 0} where
   map-has f (y ∷ ys) z (inl e) = (y, inl refl, e)
   map-has f (y ∷ ys) z (inr h) = let (x, k, is) = map-has f ys z h in (x, inr k, is)
 
-  pub has-flat-map : (f : X → List Y) (xs : List X) (x : X) (z : Y) → Has xs x → Has (f x) z → Has (flat_map f xs) z
-  has-flat-map f [] x z h k = absurd h
-  has-flat-map f (y ∷ ys) x z (inl e) k = has-left (f y) (flat_map f ys) z (subst (λ v. Has (f v) z) e k)
-  has-flat-map f (y ∷ ys) x z (inr h) k = has-right (f y) (flat_map f ys) z (has-flat-map f ys x z h k)
+  pub has-flat_map : (f : X → List Y) (xs : List X) (x : X) (z : Y) → Has xs x → Has (f x) z → Has (flat_map f xs) z
+  has-flat_map f [] x z h k = absurd h
+  has-flat_map f (y ∷ ys) x z (inl e) k = has-left (f y) (flat_map f ys) z (subst (λ v. Has (f v) z) e k)
+  has-flat_map f (y ∷ ys) x z (inr h) k = has-right (f y) (flat_map f ys) z (has-flat_map f ys x z h k)
 
-  pub flat-map-has : (f : X → List Y) (xs : List X) (z : Y) → Has (flat_map f xs) z → (x : X) × Has xs x × Has (f x) z
-  flat-map-has f [] z h = absurd h
-  flat-map-has f (y ∷ ys) z h =
-      ⊎_elim (λ k. (y, inl refl, k)) (λ k. let (x, m, is) = flat-map-has f ys z k in (x, inr m, is)) (has-cases (f y) (flat_map f ys) z h)
+  pub flat_map-has : (f : X → List Y) (xs : List X) (z : Y) → Has (flat_map f xs) z → (x : X) × Has xs x × Has (f x) z
+  flat_map-has f [] z h = absurd h
+  flat_map-has f (y ∷ ys) z h =
+      ⊎_elim (λ k. (y, inl refl, k)) (λ k. let (x, m, is) = flat_map-has f ys z k in (x, inr m, is)) (has-cases (f y) (flat_map f ys) z h)

@@ -11,8 +11,8 @@ use Rattle.std.proofs.lemmas.Int.{ints}
 pub int_cmp-less : (a b : ℤ) → a <ℤ b → int_cmp a b ≡ Less
 int_cmp-less a b h = sym (int_cmp_is a b Less h)
 
-pub cases-int-cmp : {P : Type 0} (a b : ℤ) → (a <ℤ b → P) → (a ≡ b → P) → (b <ℤ a → P) → P
-cases-int-cmp {P} a b less same greater = at (int_cmp a b) (int_ranks a b)
+pub cases-int_cmp : {P : Type 0} (a b : ℤ) → (a <ℤ b → P) → (a ≡ b → P) → (b <ℤ a → P) → P
+cases-int_cmp {P} a b less same greater = at (int_cmp a b) (int_ranks a b)
   where
     at : (o : Ordering) → MatchOrdering o (a <ℤ b) (a ≡ b) (b <ℤ a) → P
     at Less k = less k
@@ -20,7 +20,7 @@ cases-int-cmp {P} a b less same greater = at (int_cmp a b) (int_ranks a b)
     at Greater k = greater k
 
 pub cases_≤ℤ : (a b : ℤ) → a ≤ℤ b → (a ≡ b) ⊎ (a <ℤ b)
-cases_≤ℤ a b h = cases-int-cmp a b (λ less. inr less) (λ same. inl same) (λ greater. absurd (omega (arith, ints)))
+cases_≤ℤ a b h = cases-int_cmp a b (λ less. inr less) (λ same. inl same) (λ greater. absurd (omega (arith, ints)))
 
 -- ---- one place of two lists
 

@@ -19,7 +19,7 @@ use Rattle.nest_lang.specs.Lookups.{plain}
 use Rattle.nest_lang.specs.Rules.{loop_keeps, loops_keep}
 use Rattle.nest_lang.specs.Stores.{Store}
 use Rattle.nest_lang.specs.Traces.{Observation}
-use Rattle.nest_lang.proofs.Ranks.{ranks-are-numbers, present_blocks-have-ranks}
+use Rattle.nest_lang.proofs.RankLaws.{ranks-are-numbers, present_blocks-have-ranks}
 use Rattle.line_fit.specs.Samples.{Sample}
 use Rattle.domain.specs.declared.prediction.What.{What}
 use Rattle.domain.specs.declared.prediction.What.TheVariants.{Lower, Trip}
@@ -35,9 +35,9 @@ use Rattle.profile.specs.TurnLaws.{FitsAreTables, LowersComeWithTrips, observed_
 use Rattle.profile.proofs.NumberLaws.{I64}
 use Rattle.profile.proofs.ReachLaws.{all-each, each-right}
 use Rattle.profile.proofs.TripLaws.{trips-stay-within-reach}
-use Rattle.profile.proofs.FormReach.{forms-stay-within-reach, in-or-past, kind-at, nth, past-none}
+use Rattle.profile.proofs.FormReachLaws.{forms-stay-within-reach, in-or-past, kind-at, nth, past-none}
 use Rattle.profile.proofs.OneFitLaws.{deep, has-lower, has-trip, inner-head, own}
-use Rattle.profile.proofs.ShownBounds.{lowers-come}
+use Rattle.profile.proofs.ShownBoundLaws.{lowers-come}
 
 -- ---- lower bounds
 

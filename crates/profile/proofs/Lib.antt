@@ -2,8 +2,8 @@ pub mod BoundsLaws
 pub mod EndLaws
 pub mod ExampleLaws
 pub mod FitLaws
-pub mod FitParts
-pub mod FormReach
+pub mod FitPartLaws
+pub mod FormReachLaws
 pub mod GatherLaws
 pub mod LogLaws
 pub mod NumberLaws
@@ -11,7 +11,7 @@ pub mod OneFitLaws
 pub mod OneUnfitLaws
 pub mod ReachLaws
 pub mod SamplerLaws
-pub mod ShownBounds
+pub mod ShownBoundLaws
 pub mod SomeFitLaws
 pub mod TripLaws
 pub mod WholeLaws

@@ -11,7 +11,7 @@ use Rattle.nest_lang.specs.declared.tree.Op.{Op}
 use Rattle.nest_lang.specs.declared.tree.Op.TheVariants.{Add, Sub, Mul, Div, Rem, Eq, Ne, Lt, Le, Gt, Ge}
 use Rattle.nest_lang.specs.declared.tree.Trap.TheVariants.{Overflow, ZeroDivisor}
 use Rattle.nest_lang.specs.Values.{is_i64, same, exact, truth, apply_of, negate_of, turn_value, IsTurn, steps_over, trip_count}
-use Rattle.nest_lang.proofs.Trips.{trip_count-turns}
+use Rattle.nest_lang.proofs.TripLaws.{trip_count-turns}
 
 abbrev pub I64 : ℤ → Type 0
 I64 z = FitsSigned w64 z
@@ -112,6 +112,34 @@ steps-reach (negsuc n) size some small far = let e : size * 0 ≡ 0 = grind arit
 
 distance-small : (a b : ℤ) → I64 a → I64 b → unsigned_abs (a -ℤ b) ≤ 2 ^ 64
 distance-small a b f g = omega (arith, ints, f, g)
+
+-- a number of turns is a u64
+times-least : (q size : ℕ) → 0 < size → q ≤ q * size
+times-least q zero some = absurd (omega (arith, some))
+times-least q (suc size) some = let e : q * suc size ≡ q + q * size = grind arith in omega (arith, e)
+
+quotient-few : (q d size : ℕ) → 0 < size → q * size < d + size → q ≤ d
+quotient-few zero d size some room = omega arith
+quotient-few (suc q) d size some room =
+    let e : suc q * size ≡ size + q * size = grind arith in
+    let least : q ≤ q * size = times-least q size some in
+    omega (arith, room, e, least)
+
+steps-fit : (distance : ℤ) (size : ℕ) → 0 < size → unsigned_abs distance < 2 ^ 64 → steps_over distance size < 2 ^ 64
+steps-fit (pos d) size some near =
+    let few : div_ceil d size ≤ d = quotient-few (div_ceil d size) d size some (div_ceil_times d size some).1 in
+    let wide : d < 2 ^ 64 = near in
+    omega (arith, few, wide)
+steps-fit (negsuc n) size some near = omega arith
+
+distance-near : (a b : ℤ) → I64 a → I64 b → unsigned_abs (a -ℤ b) < 2 ^ 64
+distance-near a b f g = omega (arith, ints, f, g)
+
+pub trip-fits : (lower upper stride : ℤ) → I64 lower → I64 upper → (stride ≡ pos 0 → ⊥) → trip_count lower upper stride < 2 ^ 64
+unfolding trip_count
+trip-fits lower upper (pos zero) low high other = absurd (other refl)
+trip-fits lower upper (pos (suc k)) low high other = steps-fit (upper -ℤ lower) (suc k) (omega arith) (distance-near upper lower high low)
+trip-fits lower upper (negsuc k) low high other = steps-fit (lower -ℤ upper) (suc k) (omega arith) (distance-near lower upper low high)
 
 pub trip-reach : (lower upper stride : ℤ) → I64 lower → I64 upper → I64 stride → (stride ≡ pos 0 → ⊥) → max 1 (unsigned_abs stride) * trip_count lower upper stride ≤ 2 ^ 65
 unfolding trip_count

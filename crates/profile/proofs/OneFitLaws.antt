@@ -18,7 +18,7 @@ use Rattle.nest_lang.specs.Accesses.{accesses_of}
 use Rattle.nest_lang.specs.Blocks.{block_ref, present_blocks}
 use Rattle.nest_lang.specs.BlockLaws.{IsPresentHead}
 use Rattle.nest_lang.specs.Traces.{Observation}
-use Rattle.nest_lang.proofs.Ranks.{ranks-are-numbers, present_blocks-have-ranks}
+use Rattle.nest_lang.proofs.RankLaws.{ranks-are-numbers, present_blocks-have-ranks}
 use Rattle.line_fit.specs.Samples.{Sample}
 use Rattle.line_fit.specs.Lines.{Tube}
 use Rattle.line_fit.proofs.LineLaws.{fit-one}
@@ -30,7 +30,7 @@ use Rattle.domain.specs.Shapes.{IsBlockOf, is_store, kind_of}
 use Rattle.profile.specs.Data.{bounds_of, data_of, samples_at, tube_about, tube_in, tube_of_access, widest}
 use Rattle.profile.specs.Fits.{HasFit, HasFitAt, HasNarrowTube, IsFitOf}
 use Rattle.profile.specs.Laws.{OneFit}
-use Rattle.profile.proofs.FitParts.{bounds-two}
+use Rattle.profile.proofs.FitPartLaws.{bounds-two}
 
 -- lists of one length with the same element at each place are the same
 same-list : {X : Type 0} (xs ys : List X) (d : X) → length xs ≡ length ys → ((k : ℕ) → k < length xs → get_or xs k d ≡ get_or ys k d) → xs ≡ ys

@@ -1,5 +1,5 @@
--- The trips that are seen in a run whose numbers are i64s stay within reach.
-use Rattle.std.proofs.Common.{◌≡◌, refl, sym, ap, subst, ◌∙◌, ℕ, zero, suc, ◌+◌, ◌-◌, ◌*◌, ◌<◌, ◌≤◌, ◌^◌, ℤ, pos, negsuc, unsigned_abs, Bool, true, false, List, [], ◌∷◌, ◌++◌, length, length-append, map, get_or, Option, Some, None, Result, Ok, Err, arith}
+-- What is seen in a run whose numbers are i64s: its values are i64s, and its trips stay within reach.
+use Rattle.std.proofs.Common.{◌≡◌, refl, sym, ap, subst, ◌∙◌, ℕ, zero, suc, ◌+◌, ◌-◌, ◌*◌, ◌<◌, ◌≤◌, ◌^◌, ℤ, pos, negsuc, unsigned_abs, Bool, true, false, List, [], ◌∷◌, ◌++◌, length, length-append, map, take, get_or, Option, Some, None, Result, Ok, Err, arith}
 use Rattle.std.specs.Prelude.{if◌then◌else◌, slice_get, not}
 use Rattle.std.specs.List.{All, flat_map}
 use Rattle.std.proofs.lemmas.Bool.{and_parts}
@@ -37,9 +37,9 @@ use Rattle.nest_lang.specs.Turns.{over, counted_turns, turn_or_over, tested_turn
 use Rattle.nest_lang.proofs.StepLaws.{told-rolled, statement-rolled}
 use Rattle.domain.specs.Tables.{stride_size}
 use Rattle.domain.specs.Shapes.{kind_of}
-use Rattle.profile.specs.Reach.{expression_numbers, statement_numbers, block_numbers, head_numbers, all_in, HasI64s, IsOfI64s}
+use Rattle.profile.specs.Reach.{expression_numbers, statement_numbers, block_numbers, head_numbers, all_in, HasI64s, IsOfI64s, IsValueOf, HasValue}
 use Rattle.profile.specs.Reach as reach
-use Rattle.profile.proofs.NumberLaws.{I64, IsOkI64, apply-fits, negate-fits, pos-fits, turn-fits, trip-reach}
+use Rattle.profile.proofs.NumberLaws.{I64, IsOkI64, apply-fits, negate-fits, pos-fits, trip-fits, turn-fits, trip-reach}
 
 -- ---- lists
 
@@ -123,9 +123,9 @@ module _ (B : ℕ) (small : B ≤ 2 ^ 33) (loops : List Loop) where
   abbrev IsSmall : ℤ → Type 0
   IsSmall z = unsigned_abs z ≤ B
 
-  -- an observation whose counters are small, and whose value stays within reach of the loop at its level
+  -- an observation whose counters are small, whose value stays within reach of the loop at its level, and is one of its kind
   abbrev pub Good : Observation → Type 0
-  Good o = Each IsSmall o.at.counters × ((l : Loop) → loop_at loops o.at.block.level ≡ Some l → GoodAt o.what l.head o.value)
+  Good o = Each IsSmall o.at.counters × ((l : Loop) → loop_at loops o.at.block.level ≡ Some l → GoodAt o.what l.head o.value) × HasValue o
 
   abbrev EffectFits : Effect → Type 0
   EffectFits Nothing = Unit {0}
@@ -149,6 +149,13 @@ module _ (B : ℕ) (small : B ≤ 2 ^ 33) (loops : List Loop) where
   after-fits n s [] h l f = f
   after-fits zero s (e ∷ es) h l f = absurd (omega (arith, l))
   after-fits (suc n) s (e ∷ es) h l f = after-fits n (effect_on s e.effect) es h.3 (omega (arith, l)) (effect-fits s e.effect h.2 f)
+
+  -- the store where the steps that are left end
+  pub cut-fits : (n : ℕ) (s : Store) (es : List Entry) → Sound n es → IsOfI64s s → IsOfI64s (after_all s (take n es))
+  cut-fits zero s [] h f = f
+  cut-fits zero s (e ∷ es) h f = f
+  cut-fits (suc n) s [] h f = f
+  cut-fits (suc n) s (e ∷ es) h f = cut-fits n (effect_on s e.effect) es h.3 (effect-fits s e.effect h.2 f)
 
   sound-append : (n : ℕ) (xs ys : List Entry) → Sound n xs → ((j : ℕ) → j + length xs ≡ n → Sound j ys) → Sound n (xs ++ ys)
   sound-append n [] ys h rest = rest n (omega arith)
@@ -193,8 +200,8 @@ module _ (B : ℕ) (small : B ≤ 2 ^ 33) (loops : List Loop) where
     abbrev g : Frame
     g = record { at = at; values = values; expects = plain }
 
-    shown-good : (what : Seen) (v : ℤ) → ((l : Loop) → loop_at loops at.block.level ≡ Some l → GoodAt what l.head v) → Good (shown g what v)
-    shown-good what v h = (near, h)
+    shown-good : (what : Seen) (v : ℤ) → ((l : Loop) → loop_at loops at.block.level ≡ Some l → GoodAt what l.head v) → IsValueOf what v → Good (shown g what v)
+    shown-good what v h is = (near, h, is)
 
     abbrev ToldFine : Told → Type 0
     ToldFine p = Each Good p.seen × IsOkI64 p.value
@@ -235,7 +242,7 @@ module _ (B : ℕ) (small : B ≤ 2 ^ 33) (loops : List Loop) where
       unfolding TellsFine
       level-fine (Expr-F.Number n) h = (tt, h.0)
       level-fine (Expr-F.Var p) h = (tt, place-fits p)
-      level-fine (Expr-F.Load access a) h = let p = a.1 h in then_tell-fine _ _ _ p.0 p.1 (λ z f. ((shown-good (seen.Address access) z (λ l e. tt), tt), look-fits access z))
+      level-fine (Expr-F.Load access a) h = let p = a.1 h in then_tell-fine _ _ _ p.0 p.1 (λ z f. ((shown-good (seen.Address access) z (λ l e. tt) f, tt), look-fits access z))
       level-fine (Expr-F.Neg a) h = let p = a.1 h in then_tell-fine _ _ _ p.0 p.1 (λ z f. (tt, trapped-fits (negate_of z) (negate-fits z)))
       level-fine (Expr-F.Two op a b) h =
           let p = a.1 (each-left I64 (expression_numbers a.0) (expression_numbers b.0) h) in
@@ -289,7 +296,7 @@ module _ (B : ℕ) (small : B ≤ 2 ^ 33) (loops : List Loop) where
         let q = told-fine u f e (each-right I64 (expression_numbers a) (expression_numbers e) h) in
         let both = each-append Good (told g u a).seen (told g u e).seen p.0 q.0 in
         with_value-sound j _ _ _ u p.0 p.1 f (λ z fz. with_value-sound j _ _ _ u both q.1 f (λ v fv.
-        stored-sound j _ z v (or_stopped access (look_store plain u.memory access z)) u (each-append Good ((told g u a).seen ++ (told g u e).seen) (shown g (seen.Address access) z ∷ []) both (shown-good (seen.Address access) z (λ l r. tt), tt)) fv f))
+        stored-sound j _ z v (or_stopped access (look_store plain u.memory access z)) u (each-append Good ((told g u a).seen ++ (told g u e).seen) (shown g (seen.Address access) z ∷ []) both (shown-good (seen.Address access) z (λ l r. tt) fz, tt)) fv f))
     statement_level-sound (Stmt-F.If e first second) h j u f =
         let one = all_in (map statement_numbers (map (λ x. x.0) first)) in
         let two = all_in (map statement_numbers (map (λ x. x.0) second)) in
@@ -318,13 +325,13 @@ module _ (B : ℕ) (small : B ≤ 2 ^ 33) (loops : List Loop) where
         join-sound j u (statement_trace g x u).halt (statement_trace g x u).entries (in_turn (map (statement_trace g) xs)) (statements-run x (each-left I64 (statement_numbers x) (flat_map statement_numbers xs) h) j u f) f
         (λ i q none w fw. block-sound xs (each-right I64 (statement_numbers x) (flat_map statement_numbers xs) h) i w fw)
 
-    scalars-good : (number : ℕ) (vs : List ℤ) → Each Good (scalars_from g number vs)
-    scalars-good number [] = tt
-    scalars-good number (v ∷ vs) = (shown-good (seen.Scalar number) v (λ l e. tt), scalars-good (suc number) vs)
+    scalars-good : (number : ℕ) (vs : List ℤ) → Each I64 vs → Each Good (scalars_from g number vs)
+    scalars-good number [] fits = tt
+    scalars-good number (v ∷ vs) fits = (shown-good (seen.Scalar number) v (λ l e. tt) fits.0, scalars-good (suc number) vs fits.1)
 
-    announced-good : (s : Store) → Each Good (announced g s)
+    announced-good : (s : Store) → IsOfI64s s → Each Good (announced g s)
     unfolding announced
-    announced-good s = (shown-good seen.Start (pos 0) (λ l e. tt), scalars-good 0 s.scalars)
+    announced-good s f = (shown-good seen.Start (pos 0) (λ l e. tt) tt, scalars-good 0 s.scalars (all-each I64 s.scalars f.scalars))
 
     shown_before-sound : (j : ℕ) (os : List Observation) (es : List Entry) → Each Good os → Sound j es → Sound j (shown_before os es)
     shown_before-sound j os [] h st = tt
@@ -334,7 +341,7 @@ module _ (B : ℕ) (small : B ≤ 2 ^ 33) (loops : List Loop) where
     instance-sound : (block : List Stmt) → Each I64 (block_numbers block) → (j : ℕ) (u : Store) → IsOfI64s u → Sound j (instance_trace g block u).entries
     unfolding instance_trace
     instance-sound block h j u f =
-        shown_before-sound j (announced g u) (block_trace g block (started u)).entries (announced-good u)
+        shown_before-sound j (announced g u) (block_trace g block (started u)).entries (announced-good u f)
         (block-sound block h j (started u) (record { memory = f.memory; scalars = f.scalars; locals = All-replicate I64 16 (pos 0) (pos-fits 0 (omega arith)) }))
 
     -- ---- heads
@@ -358,7 +365,14 @@ module _ (B : ℕ) (small : B ≤ 2 ^ 33) (loops : List Loop) where
         let q = told-fine s f upper (each-right I64 (expression_numbers lower) (expression_numbers upper) front) in
         let step : I64 stride = (each-right I64 (expression_numbers lower ++ expression_numbers upper) (stride ∷ []) h).0 in
         then_head-fine (For lower upper stride) _ _ _ p.0 p.1 (λ halt. tt) (λ from ff. then_head-fine (For lower upper stride) _ _ _ q.0 q.1 (λ halt. tt) (λ to ft. (
-          (shown-good seen.Lower from (λ l e. tt), (shown-good seen.Trip (pos (trip_count from to stride)) (λ l e. subst (λ (z : Head). GoodAt seen.Trip z (pos (trip_count from to stride))) (head-same l e) (trip-reach from to stride ff ft step (not-zero stride turns))), tt)),
+          (
+            shown-good seen.Lower from (λ l e. tt) ff,
+            (
+              shown-good seen.Trip (pos (trip_count from to stride)) (λ l e. subst (λ (z : Head). GoodAt seen.Trip z (pos (trip_count from to stride))) (head-same l e) (trip-reach from to stride ff ft step (not-zero stride turns)))
+                  (trip_count from to stride, refl, trip-fits from to stride ff ft (not-zero stride turns)),
+              tt,
+            ),
+          ),
           λ i less. turn-fits from to stride i ff ft (not-zero stride turns) less,
         )))
       where
@@ -369,7 +383,7 @@ module _ (B : ℕ) (small : B ≤ 2 ^ 33) (loops : List Loop) where
         not-zero z t e = let zero_is : strides (For lower upper (pos 0)) ≡ true = subst (λ (y : ℤ). strides (For lower upper y) ≡ true) e t in cc
     head-fine l0 found (While condition) is h turns s f =
         let p = told-fine s f condition h in
-        then_head-fine (While condition) _ _ _ p.0 p.1 (λ halt. tt) (λ v fv. ((shown-good seen.Condition (as_number (not (same v (pos 0)))) (λ l e. subst IsRepeat (head-same l e) tt), tt), tt))
+        then_head-fine (While condition) _ _ _ p.0 p.1 (λ halt. tt) (λ v fv. ((shown-good seen.Condition (as_number (not (same v (pos 0)))) (λ l e. subst IsRepeat (head-same l e) tt) tt, tt), tt))
       where
         head-same : (l : Loop) → loop_at loops at.block.level ≡ Some l → While condition ≡ l.head
         head-same l e = let same : l0 ≡ l = (let z : Some l0 ≡ Some l = sym found ∙ e in cc) in sym is ∙ ap (λ (m : Loop). m.head) same
@@ -378,8 +392,8 @@ module _ (B : ℕ) (small : B ≤ 2 ^ 33) (loops : List Loop) where
     headed-sound j head go s fine f rest = by (head_of g head s).seen (head_of g head s).value fine.0 fine.1
       where
         by : (os : List Observation) (r : Result Yield Halt) → Each Good os → YieldFine head r → Sound j (traced (head_step (announced g s) os r go) s).entries
-        by os (Ok y) good yields = traced-sound j (step_of (announced g s) os Nothing None (go y)) s (announced-good s) good tt f (rest y yields)
-        by os (Err halt) good yields = traced-sound j (step_of (announced g s) os Nothing (Some halt) []) s (announced-good s) good tt f (λ i q. no-more i)
+        by os (Ok y) good yields = traced-sound j (step_of (announced g s) os Nothing None (go y)) s (announced-good s f) good tt f (rest y yields)
+        by os (Err halt) good yields = traced-sound j (step_of (announced g s) os Nothing (Some halt) []) s (announced-good s f) good tt f (λ i q. no-more i)
 
   -- ---- loops
   pub record AroundFine (a : Around) : Type 0 where

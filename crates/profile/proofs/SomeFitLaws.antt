@@ -29,7 +29,7 @@ use Rattle.profile.specs.Fits.{HasFitAt, HasNarrowTube, IsFitOf, IsUnfitAt, IsUn
 use Rattle.profile.specs.Laws.{FitOrFirstUnfit}
 use Rattle.profile.specs.Parts.{AreAccessFits, AreBlockFits, AreBoundFits, AreLevels, AreScalarFits, IsBlockFit, LoopBounds, level_with, no_bounds, own_bounds}
 use Rattle.profile.proofs.EndLaws.{left-end, missed-end, ranged-end}
-use Rattle.profile.proofs.FitParts.{bounds-cases, bounds-end, bounds-two, first-end, forms-length, more-access, narrow-fit, second-end, third-end}
+use Rattle.profile.proofs.FitPartLaws.{bounds-cases, bounds-end, bounds-two, first-end, forms-length, more-access, narrow-fit, second-end, third-end}
 use Rattle.profile.proofs.WholeLaws.{block-end, made, more-block, more-level}
 
 below : (k n : ℕ) → k < suc n → (k < n) ⊎ (k ≡ n)

@@ -1,5 +1,5 @@
--- The trips among good observations stay within reach.
-use Rattle.std.proofs.Common.{◌≡◌, refl, ap, subst, ◌∙◌, ℕ, zero, suc, ◌+◌, ◌-◌, ◌*◌, ◌≤◌, ◌^◌, ℤ, pos, unsigned_abs, nat_eq, nat_le, Bool, true, false, List, [], ◌∷◌, length, take, get_or, Some, arith}
+-- Of good observations the values are those of their kinds, and the trips stay within reach.
+use Rattle.std.proofs.Common.{◌≡◌, refl, ap, subst, ◌∙◌, ℕ, zero, suc, ◌+◌, ◌-◌, ◌*◌, ◌<◌, ◌≤◌, ◌^◌, ℤ, pos, unsigned_abs, nat_eq, nat_le, Bool, true, false, List, [], ◌∷◌, length, take, get_or, Some, arith}
 use Rattle.std.specs.Prelude.{if◌then◌else◌, slice_get}
 use Rattle.std.specs.List.{All, range_with_len}
 use Rattle.std.specs.Ordering.{int_eq}
@@ -13,18 +13,20 @@ use Rattle.nest_lang.specs.declared.tree.Head.{Head}
 use Rattle.nest_lang.specs.declared.tree.Head.TheVariants.{For, While}
 use Rattle.nest_lang.specs.declared.tree.Loop.{Loop}
 use Rattle.nest_lang.specs.declared.tree.Part.TheVariants as part
+use Rattle.nest_lang.specs.declared.state.Outer.{Outer}
 use Rattle.nest_lang.specs.Blocks.{block_ref, loop_at, same_part, same_block}
 use Rattle.nest_lang.specs.Lookups.{plain}
 use Rattle.nest_lang.specs.Rules.{loop_keeps, loops_keep}
-use Rattle.nest_lang.specs.Traces.{Observation, seen_of, seen_in}
-use Rattle.nest_lang.specs.Turns.{turns_trace}
+use Rattle.nest_lang.specs.Traces.{Observation, cut, seen_of, seen_in}
+use Rattle.nest_lang.specs.Stores.{Store}
+use Rattle.nest_lang.specs.Turns.{IsPositionIn, turns_trace}
 use Rattle.line_fit.specs.Samples.{Sample}
 use Rattle.domain.specs.Tables.{stride_size}
 use Rattle.domain.specs.Shapes.{kind_of}
 use Rattle.profile.specs.Gathered.{ended_by, given_by, is_end_of, is_of, padded, same_seen, sample_of, samples_of, trip_of}
 use Rattle.profile.specs.Sampled.{observation_of, observations_in}
-use Rattle.profile.specs.Reach.{HasI64s, IsWithinReach, TripsStayWithinReach}
-use Rattle.profile.proofs.ReachLaws.{Each, Good, GoodAt, all-each, each-append, nest-sound, sound-seen}
+use Rattle.profile.specs.Reach.{HasI64s, HasValue, IsOfI64s, IsWithinReach, TripsStayWithinReach, TurnsLeaveI64s, TurnsShowValues}
+use Rattle.profile.proofs.ReachLaws.{Each, Good, GoodAt, Sound, all-each, cut-fits, each-append, nest-sound, sound-seen}
 
 abbrev most : ℕ
 most = 2 ^ 33
@@ -128,11 +130,40 @@ module _ (loops : List Loop) where
 numbers-from : (l : Loop) (ls : List Loop) (j : ℕ) → loop_at (l ∷ ls) (1 + j) ≡ slice_get (l ∷ ls) j
 numbers-from l ls j = let e : 1 + j ≡ suc j = omega arith in ap (loop_at (l ∷ ls)) e
 
+-- what some turns show is good, and what they change is an i64
+turns-sound : (k left c t : ℕ) (l : Loop) (ls : List Loop) (o : Outer) (s : Store) → 0 < k → loops_keep (l ∷ ls) ≡ true → All HasI64s (l ∷ ls) → IsOfI64s s → IsPositionIn (l ∷ ls) o → o.next ≡ pos t → t + left ≤ 2 ^ 33
+    → Sound (2 ^ 33) (omega arith) (l ∷ ls) left (turns_trace plain k (l ∷ ls) o c s).entries
+unfolding loops_keep
+turns-sound k left c t l ls o s some keeps numbers fits position next few =
+    let inner = (and_parts (nat_le (length ls) 5) (loop_keeps l ls) keeps).1 in
+    nest-sound (2 ^ 33) (omega arith) (l ∷ ls) k some l ls (numbers-from l ls) inner (all-each HasI64s (l ∷ ls) numbers) o position t next c left few s fits
+
+turns-good : (k left c t : ℕ) (l : Loop) (ls : List Loop) (o : Outer) (s : Store) → 0 < k → loops_keep (l ∷ ls) ≡ true → All HasI64s (l ∷ ls) → IsOfI64s s → IsPositionIn (l ∷ ls) o → o.next ≡ pos t → t + left ≤ 2 ^ 33
+    → Each (Fine (l ∷ ls)) (seen_of (turns_trace plain k (l ∷ ls) o c s).entries left)
+turns-good k left c t l ls o s some keeps numbers fits position next few =
+    sound-seen (2 ^ 33) (omega arith) (l ∷ ls) left (turns_trace plain k (l ∷ ls) o c s).entries (turns-sound k left c t l ls o s some keeps numbers fits position next few)
+
 pub trips-stay-within-reach : TripsStayWithinReach
-unfolding loops_keep seen_in
+unfolding seen_in
 trips-stay-within-reach D k left c t [] o s some keeps numbers fits position next few = absurd position
 trips-stay-within-reach D k left c t (l ∷ ls) o s some keeps numbers fits position next few =
-    let inner = (and_parts (nat_le (length ls) 5) (loop_keeps l ls) keeps).1 in
-    let sound = nest-sound (2 ^ 33) (omega arith) (l ∷ ls) k some l ls (numbers-from l ls) inner (all-each HasI64s (l ∷ ls) numbers) o position t next c left few s fits in
-    let good = sound-seen (2 ^ 33) (omega arith) (l ∷ ls) left (turns_trace plain k (l ∷ ls) o c s).entries sound in
+    let good = turns-good k left c t l ls o s some keeps numbers fits position next few in
     λ level m found. all-given (l ∷ ls) D level m found (observations_in (seen_of (turns_trace plain k (l ∷ ls) o c s).entries left)) (all-kept (l ∷ ls) (seen_of (turns_trace plain k (l ∷ ls) o c s).entries left) good)
+
+-- ---- values
+
+have-values : (loops : List Loop) (os : List Observation) → Each (Fine loops) os → All HasValue os
+have-values loops [] h = All-nil HasValue
+have-values loops (o ∷ os) h = All-cons HasValue o os h.0.2 (have-values loops os h.1)
+
+pub turns-show-values : TurnsShowValues
+unfolding seen_in
+turns-show-values k left c t [] o s some keeps numbers fits position next few = absurd position
+turns-show-values k left c t (l ∷ ls) o s some keeps numbers fits position next few =
+    have-values (l ∷ ls) (seen_of (turns_trace plain k (l ∷ ls) o c s).entries left) (turns-good k left c t l ls o s some keeps numbers fits position next few)
+
+pub turns-leave-i64s : TurnsLeaveI64s
+unfolding cut
+turns-leave-i64s k left used c t [] o s some keeps numbers fits position next few = absurd position
+turns-leave-i64s k left used c t (l ∷ ls) o s some keeps numbers fits position next few =
+    cut-fits (2 ^ 33) (omega arith) (l ∷ ls) left s (turns_trace plain k (l ∷ ls) o c s).entries (turns-sound k left c t l ls o s some keeps numbers fits position next few) fits

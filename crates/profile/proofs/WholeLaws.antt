@@ -15,7 +15,7 @@ use Rattle.nest_lang.specs.declared.tree.Part.TheVariants.{Head}
 use Rattle.nest_lang.specs.Accesses.{accesses_of}
 use Rattle.nest_lang.specs.Blocks.{block_ref, present_blocks, rank_of}
 use Rattle.nest_lang.specs.Traces.{Observation}
-use Rattle.nest_lang.proofs.Ranks.{ranks-are-numbers, present_blocks-have-ranks}
+use Rattle.nest_lang.proofs.RankLaws.{ranks-are-numbers, present_blocks-have-ranks}
 use Rattle.line_fit.specs.Lines.{Tube}
 use Rattle.domain.specs.declared.prediction.What.{What}
 use Rattle.domain.specs.declared.prediction.What.TheVariants.{Scalar, Address, Lower, Trip}
@@ -28,7 +28,7 @@ use Rattle.profile.specs.Data.{bounds_of, data_of, tube_about, tube_in, tube_of_
 use Rattle.profile.specs.Fits.{HasFitAt, HasNarrowTube, IsFitEnd, IsFitOf, IsUnfitIn}
 use Rattle.profile.specs.Parts.{AreBlockFits, AreLevels, IsBlockFit, IsEndIn, LoopBounds, StayWithinReach, level_with, no_bounds, own_bounds}
 use Rattle.profile.proofs.EndLaws.{slice_get-either, slice_get-left, slice_get-right}
-use Rattle.profile.proofs.FitParts.{accesses-count, bounds-cases, bounds-two, data-fit}
+use Rattle.profile.proofs.FitPartLaws.{accesses-count, bounds-cases, bounds-two, data-fit}
 
 less-cases : (k n : ℕ) → k < n + 1 → (k < n) ⊎ (k ≡ n)
 less-cases k n h = grind arith

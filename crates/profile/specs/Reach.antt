@@ -1,5 +1,5 @@
--- Reach: the trips that are seen in a run whose numbers are i64s.
-use Rattle.std.specs.Prelude.{◌≡◌, ◌<◌, ◌≤◌, ◌+◌, ◌*◌, ◌^◌, ℕ, ℤ, pos, unsigned_abs, FitsSigned, List, [], ◌∷◌, ◌++◌, Some, true}
+-- Reach: the values that are seen in a run whose numbers are i64s, and how far its trips reach.
+use Rattle.std.specs.Prelude.{◌≡◌, ◌<◌, ◌≤◌, ◌+◌, ◌*◌, ◌^◌, ℕ, ℤ, pos, unsigned_abs, FitsSigned, List, [], ◌∷◌, ◌++◌, Some, true, ⊤}
 use Rattle.std.specs.Int.{w64}
 use Rattle.std.specs.List.{All, flat_map}
 use Rattle.affine.specs.Forms.{AllWithinSize}
@@ -13,12 +13,14 @@ use Rattle.nest_lang.specs.declared.tree.Part.TheVariants as part
 use Rattle.nest_lang.specs.declared.tree.Stmt.{Stmt}
 use Rattle.nest_lang.specs.declared.tree.Stmt.TheFolds.{fold-Stmt}
 use Rattle.nest_lang.specs.declared.tree.Stmt.TheOpen.{Stmt-F}
+use Rattle.nest_lang.specs.declared.observe.Seen.{Seen}
+use Rattle.nest_lang.specs.declared.observe.Seen.TheVariants as seen
 use Rattle.nest_lang.specs.declared.state.Outer.{Outer}
 use Rattle.nest_lang.specs.Blocks.{block_ref, loop_at}
 use Rattle.nest_lang.specs.Lookups.{plain}
 use Rattle.nest_lang.specs.Rules.{loops_keep}
 use Rattle.nest_lang.specs.Stores.{Store}
-use Rattle.nest_lang.specs.Traces.{Observation, seen_in}
+use Rattle.nest_lang.specs.Traces.{Observation, cut, seen_in}
 use Rattle.nest_lang.specs.Turns.{IsPositionIn, turns_trace}
 use Rattle.line_fit.specs.Samples.{Sample}
 use Rattle.domain.specs.declared.prediction.What.TheVariants.{Trip}
@@ -74,6 +76,31 @@ pub record IsOfI64s (s : Store) : Type 0 where
   pub memory : All (FitsSigned w64) s.memory
   pub scalars : All (FitsSigned w64) s.scalars
   pub locals : All (FitsSigned w64) s.locals
+
+-- ---- the values that are seen
+
+-- a value of what is shown: an i64 for a scalar, an address and a lower bound, and a u64 for a trip
+abbrev pub IsValueOf : Seen → ℤ → Type 0
+IsValueOf seen.Start v = ⊤
+IsValueOf (seen.Scalar number) v = FitsSigned w64 v
+IsValueOf (seen.Address access) v = FitsSigned w64 v
+IsValueOf seen.Lower v = FitsSigned w64 v
+IsValueOf seen.Trip v = (n : ℕ) × (v ≡ pos n) × (n < 2 ^ 64)
+IsValueOf seen.Condition v = ⊤
+
+abbrev pub HasValue : Observation → Type 0
+HasValue o = IsValueOf o.what o.value
+
+-- where the numbers of a nest and of a store are i64s, as in every run, each value that is shown in some turns from a
+-- position on is one of its kind, where the number of the next turn and the steps that are left are at most 2^33 together
+abbrev pub TurnsShowValues : Type 0
+TurnsShowValues = (k left c t : ℕ) (loops : List Loop) (o : Outer) (s : Store) → 0 < k → loops_keep loops ≡ true → All HasI64s loops → IsOfI64s s
+    → IsPositionIn loops o → o.next ≡ pos t → t + left ≤ 2 ^ 33 → All HasValue (seen_in (turns_trace plain k loops o c s) left)
+
+-- and the store that they leave, where the steps end, is one of i64s
+abbrev pub TurnsLeaveI64s : Type 0
+TurnsLeaveI64s = (k left used c t : ℕ) (loops : List Loop) (o : Outer) (s : Store) → 0 < k → loops_keep loops ≡ true → All HasI64s loops → IsOfI64s s
+    → IsPositionIn loops o → o.next ≡ pos t → t + left ≤ 2 ^ 33 → IsOfI64s (cut (turns_trace plain k loops o c s) s left used).store
 
 -- ---- the trips that are seen
 

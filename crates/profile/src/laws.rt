@@ -1,7 +1,7 @@
 //! Laws: functions that do nothing, each with a law of the definitions as its contract.
 
 ghost use Rattle.profile.specs.Laws.{FitOrFirstUnfit, FitOrUnfit, FormIsOnlyAffine, OneFirstUnfit, OneFit, SamplesLieInTubes};
-ghost use Rattle.profile.specs.Reach.{FormsStayWithinReach, TripsStayWithinReach};
+ghost use Rattle.profile.specs.Reach.{FormsStayWithinReach, TripsStayWithinReach, TurnsLeaveI64s, TurnsShowValues};
 ghost use Rattle.profile.specs.Sampled.{SamplerKeepsAll};
 ghost use Rattle.profile.specs.TurnLaws.{FitsAreTables, LowersComeWithTrips};
 
@@ -40,6 +40,13 @@ pub fn samples_lie_in_tubes()
 /// the only affine function through its samples.
 pub fn form_is_only_affine()
     ensures { FormIsOnlyAffine }
+{}
+
+/// Each value that is shown in a run whose numbers are i64s is one of its kind, an i64, or a u64 for a trip; and the
+/// store that is left is one of i64s.
+pub fn turns_show_values()
+    ensures shown { TurnsShowValues }
+    ensures left { TurnsLeaveI64s }
 {}
 
 /// Each trip that is seen in a run whose numbers are i64s stays within reach: the stride times it is at most 2^65.

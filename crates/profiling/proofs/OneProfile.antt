@@ -11,7 +11,7 @@ use Rattle.nest_lang.specs.Lookups.{plain}
 use Rattle.nest_lang.specs.Traces.{Trace, Finish, Done, Halted, Limited, Cut, cut, seen_in}
 use Rattle.nest_lang.specs.Turns.{turns_trace, turns_by, turns_later, entry_steps, AreWhole}
 use Rattle.nest_lang.specs.Loops.{turn_trace, loops_trace}
-use Rattle.nest_lang.proofs.Cuts.{cut-ends}
+use Rattle.nest_lang.proofs.CutLaws.{cut-ends}
 use Rattle.profile.specs.Sampled.{observations_in}
 use Rattle.profiling.specs.declared.run.FirstProfile.{FirstProfile}
 use Rattle.profiling.specs.declared.run.FirstProfile.TheVariants.{Missing, Short, Whole}

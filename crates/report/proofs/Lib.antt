@@ -1,5 +1,5 @@
-pub mod RunLemmas
+pub mod RunLaws
 pub mod OneList
 pub mod ScalarLaws
-pub mod Phrases
-pub mod Sums
+pub mod PhraseLaws
+pub mod SumLaws

@@ -5,7 +5,7 @@ use Rattle.std.proofs.lemmas.Bool.{cases_lt}
 use Rattle.std.proofs.lemmas.List.Elements.{All-tail, All-contains}
 use Rattle.report.specs.declared.runs.WordRun.{WordRun}
 use Rattle.report.specs.LongestRuns.{IsIn, IsLongest, LongestRuns}
-use Rattle.report.proofs.RunLemmas.{same-word}
+use Rattle.report.proofs.RunLaws.{same-word}
 
 abbrev Before : WordRun → WordRun → Type 0
 Before one later = one.last < later.first

@@ -7,7 +7,8 @@ use Rattle.std.proofs.lemmas.Bool.Decides.{nat_tests}
 use Rattle.std.proofs.lemmas.List.{get_or_append_left}
 use Rattle.std.proofs.lemmas.List.FromFn.{get_or-map-range_with_len, length-map-range_with_len, map-range_with_len_more}
 use Rattle.affine.specs.Forms.{Affine}
-use Rattle.plain_lemmas.proofs.MembershipLaws.{Has, All-has}
+use Rattle.plain_lemmas.proofs.MembershipLaws.{All-has}
+use Rattle.plain_lemmas.specs.Lists.{Has}
 use Rattle.nest_lang.specs.declared.tree.Part.TheVariants.{Head, Pre}
 use Rattle.domain.specs.declared.table.LoopKind.{LoopKind}
 use Rattle.domain.specs.Tables.{Access, Block, IsBlock, IsTable, Level, Reaches, Table, block_at, is_block, level_at, no_block, is_while, no_level, rank_of, repeats, stride_size, text_place}

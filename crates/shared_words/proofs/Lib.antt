@@ -1,4 +1,4 @@
 pub mod SeatLaws
-pub mod WorkerSteps
-pub mod MainSteps
-pub mod ViewSteps
+pub mod WorkerStepLaws
+pub mod MainStepLaws
+pub mod ViewStepLaws

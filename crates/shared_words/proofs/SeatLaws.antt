@@ -6,7 +6,7 @@ use Rattle.core_steps.specs.declared.plan.Plan.{Plan}
 use Rattle.core_steps.specs.declared.view.View.{View}
 use Rattle.core_steps.specs.Plans.{IsInside}
 use Rattle.core_steps.specs.Views.{first_view, posted_view, settled_view, overlaid}
-use Rattle.core_steps.proofs.StoreLists.{length-overlaid}
+use Rattle.core_steps.proofs.StoreListLaws.{length-overlaid}
 use Rattle.shared_words.specs.Seats.{KeepsSeat}
 
 pub keeps-posted : (t u : TableId) (me new : Me (Unit {0}) View) (epoch : ℕ) (plan : Plan) → KeepsSeat t me epoch → u ≡ t → new ≡ (posted_view me.0 me.0.base plan, me.1) → length plan.tiles ≤ 65536 → IsInside (length me.0.base) plan

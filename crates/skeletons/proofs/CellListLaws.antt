@@ -14,11 +14,12 @@ use Rattle.std.proofs.lemmas.Bool.Decides.{nat_tests}
 use Rattle.std.proofs.lemmas.List.{get_or-replicate, length-replicate, length-take-le}
 use Rattle.std.proofs.Math.ListN.{length-map}
 use Rattle.plain_lemmas.proofs.IntegerLaws.{*ℤ-+ℤ, *ℤ-≤ℤ, unsigned_abs-add}
-use Rattle.plain_lemmas.proofs.OrderLaws.{cases-int-cmp, slice_cmp-exact}
-use Rattle.affine.proofs.FloorLemmas.{abs-floor}
+use Rattle.plain_lemmas.proofs.OrderLaws.{cases-int_cmp, slice_cmp-exact}
+use Rattle.affine.proofs.FloorLaws.{abs-floor}
 use Rattle.affine.proofs.PlaceLaws.{quotient_is_interval}
-use Rattle.orders.specs.Orders.{Has, Ordered}
-use Rattle.orders.proofs.Lists.{has-cases, has-left, has-right}
+use Rattle.orders.specs.Orders.{Ordered}
+use Rattle.plain_lemmas.specs.Lists.{Has}
+use Rattle.plain_lemmas.proofs.MembershipLaws.{has-cases, has-left, has-right}
 use Rattle.domain.specs.Instances.{Instance, Predicted, counter, padded}
 use Rattle.transform.specs.Schedules.{IsSchedule, Line, Schedule, along, band, leading, line_at, place, tile_along, wave, wave_of, wide_lead, wide_tile}
 use Rattle.transform.proofs.LineLaws.{get_or-place}
@@ -45,7 +46,7 @@ next-tile d q = *ℤ-+ℤ d q (pos 1) ∙ ap (λ (x : ℤ). d *ℤ q +ℤ x) (le
 
 -- a tile that begins before a number, and isn't before its tile, is its tile
 tile-before : (z t d : ℤ) → pos 0 <ℤ d → int_div_euclid z d ≤ℤ t → (d *ℤ t) <ℤ z → int_div_euclid z d ≡ t
-tile-before z t d some from before = cases-int-cmp (int_div_euclid z d) t
+tile-before z t d some from before = cases-int_cmp (int_div_euclid z d) t
     (λ l.
     let above = *ℤ-≤ℤ d (int_div_euclid z d +ℤ pos 1) t (omega (arith, ints, some)) (omega (arith, ints, l)) in
     let law = ((quotient_is_interval z d (int_div_euclid z d) some).0 refl).1 in
@@ -70,7 +71,7 @@ first-in s t d some to low = record { from = low; to = tile-below s.high t d som
 
 -- the tiles of numbers in order are in order
 pub tiles-rise : (y z d : ℤ) → pos 0 <ℤ d → y ≤ℤ z → int_div_euclid y d ≤ℤ int_div_euclid z d
-tiles-rise y z d some h = cases-int-cmp (int_div_euclid z d) (int_div_euclid y d)
+tiles-rise y z d some h = cases-int_cmp (int_div_euclid z d) (int_div_euclid y d)
     (λ l.
     let above = *ℤ-≤ℤ d (int_div_euclid z d +ℤ pos 1) (int_div_euclid y d) (omega (arith, ints, some)) (omega (arith, ints, l)) in
     let low = ((quotient_is_interval y d (int_div_euclid y d) some).0 refl).0 in
@@ -330,7 +331,7 @@ module _ (n : ℕ) (e : Extent) (inverse : List (List ℤ)) (blocks : List Block
         (has-cases old (cell_at e inverse (point_at s v) ∷ []) cell (subst (λ (cs : List Cell). Has cs cell) more h)),
     λ h. subst (λ (cs : List Cell). Has cs cell) (sym more) (⊎_elim
         (λ k. has-left old (cell_at e inverse (point_at s v) ∷ []) cell ((gains cell).1 (inl k)))
-        (λ k. cases-int-cmp (int_div_euclid k.of.value (pos (last_size n e.schedule))) to
+        (λ k. cases-int_cmp (int_div_euclid k.of.value (pos (last_size n e.schedule))) to
         (λ l. has-left old (cell_at e inverse (point_at s v) ∷ []) cell ((gains cell).1 (inr (record { of = k.of; before = l }))))
         (λ f. has-right old (cell_at e inverse (point_at s v) ∷ []) cell (inl (k.of.is ∙ alike k.of f)))
         (λ l. absurd (let b = k.before in omega (arith, ints, l, b))))

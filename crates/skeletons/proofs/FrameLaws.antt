@@ -12,7 +12,7 @@ use Rattle.affine.specs.Inverses.{across, IsSquare}
 use Rattle.affine.specs.Matrices.{HasSmallEntries, product}
 use Rattle.affine.specs.Sums.{dot}
 use Rattle.affine.proofs.InverseLaws.{length-across}
-use Rattle.affine.proofs.SumLemmas.{get_or-weighted}
+use Rattle.affine.proofs.SumLaws.{get_or-weighted}
 use Rattle.domain.specs.Instances.{counter}
 use Rattle.domain.specs.Tables.{cut}
 use Rattle.domain.proofs.PointLaws.{length-cut, cut-before, cut-after}

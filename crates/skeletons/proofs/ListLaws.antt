@@ -9,22 +9,22 @@ use Rattle.std.specs.Int.{w64}
 use Rattle.std.proofs.Common.{FitsSigned}
 use Rattle.std.proofs.lemmas.Bool.{cases_lt, and_parts}
 use Rattle.arrayvec.specs.ArrayVec.{ArrayVec}
-use Rattle.orders.specs.Orders.{Has, Ordered}
+use Rattle.orders.specs.Orders.{Ordered}
+use Rattle.plain_lemmas.specs.Lists.{Has}
 use Rattle.std.specs.Ordering.{is_eq}
 use Rattle.std.proofs.lemmas.Cmp.{int_cmp_total, lists_total, tied_itself}
 use Rattle.std.proofs.lemmas.List.{get_or-replicate, length-replicate}
 use Rattle.std.proofs.lemmas.List.Elements.{All-nil, All-cons}
-use Rattle.plain_lemmas.proofs.MembershipLaws.{Has as PHas, All-has, all_has as p_all_has, has-get-or, has-map as p_has_map}
-use Rattle.orders.proofs.Sorts.{ordering-unique}
+use Rattle.plain_lemmas.proofs.MembershipLaws.{All-has, has-get_or, has-map, all-from, all-has, has-left, has-right, has-cases, map-has}
+use Rattle.orders.proofs.SortLaws.{ordering-unique}
 use Rattle.std.proofs.lemmas.List.{get_or-map}
 use Rattle.domain.proofs.OriginalLaws.{not-back}
 use Rattle.domain.proofs.CounterLaws.{launched_places}
 use Rattle.transform.proofs.LineLaws.{get_or-place}
-use Rattle.orders.proofs.Lists.{all-from, all_has, has-left, has-right, has-cases}
 use Rattle.plain_lemmas.proofs.OrderLaws.{slice_cmp-append-less, slice_cmp-append-same, slice_cmp-exact, ordering_then-less}
 use Rattle.affine.specs.Forms.{AllWithinSize}
 use Rattle.affine.specs.Matrices.{product}
-use Rattle.affine.proofs.SumLemmas.{abs-dot}
+use Rattle.affine.proofs.SumLaws.{abs-dot}
 use Rattle.domain.specs.Tables.{IsTable, block_at, counters, cut, depth}
 use Rattle.domain.specs.Instances.{Instance, instance, block_of, counter, Predicted, padded}
 use Rattle.domain.proofs.PlaceLaws.{place-counter}
@@ -39,11 +39,11 @@ use Rattle.level_walk.specs.Listings.{listed_in}
 use Rattle.level_walk.specs.Merges.{Comes as BestComes, merged, tag, tagged}
 use Rattle.level_walk.specs.Spaces.{IsWithin, ListsPoints, points}
 use Rattle.level_walk.specs.Walks.{IsBlock, IsBox, all_points, points_in, space_of}
-use Rattle.level_walk.proofs.Lattices.{meets-from, meets-to}
-use Rattle.level_walk.proofs.ListedLemmas.{left-from, left-to}
-use Rattle.level_walk.proofs.MergeLemmas.{blocks-merged}
-use Rattle.level_walk.proofs.Points.{lists-points}
-use Rattle.level_walk.proofs.WalkLemmas.{ordered-in}
+use Rattle.level_walk.proofs.LatticeLaws.{meets-from, meets-to}
+use Rattle.level_walk.proofs.LeastOfListLaws.{left-from, left-to}
+use Rattle.level_walk.proofs.MergeLaws.{blocks-merged}
+use Rattle.level_walk.proofs.PointLaws.{lists-points}
+use Rattle.level_walk.proofs.WalkLaws.{ordered-in}
 use Rattle.skeletons.specs.Boxes.{IsBoxOf}
 use Rattle.skeletons.specs.Cells.{AreListsOf, Cell, Comes, Extent, IsLaunch, IsListOf, cell_of, place_key}
 use Rattle.skeletons.specs.Frames.{AllFind, Finds, IsFrame, IsPlaceOf, all_in, chosen, instance_at, is_cell, list_in, list_of, lists_of}
@@ -56,20 +56,10 @@ use Rattle.skeletons.proofs.BoxLaws.{in_box-at, in_box-from, length-place, withi
 both : (a b : Bool) → a ≡ true → b ≡ true → (a && b) ≡ true
 both a b e f = rw (e, f) refl
 
-pub has-map : {X Y : Type 0} (f : X → Y) (xs : List X) (x : X) → Has xs x → Has (map f xs) (f x)
-has-map f [] x h = absurd h
-has-map f (y ∷ ys) x (inl e) = inl (ap f e)
-has-map f (y ∷ ys) x (inr h) = inr (has-map f ys x h)
-
-pub map-has : {X Y : Type 0} (f : X → Y) (xs : List X) (z : Y) → Has (map f xs) z → (x : X) × Has xs x × (z ≡ f x)
-map-has f [] z h = absurd h
-map-has f (y ∷ ys) z (inl e) = (y, inl refl, e)
-map-has f (y ∷ ys) z (inr h) = let (x, k, e) = map-has f ys z h in (x, inr k, e)
-
 pub ordered-map : {X Y : Type 0} (f : X → Y) (R : X → X → Type 0) (S : Y → Y → Type 0) (xs : List X) → ((a b : X) → Has xs a → Has xs b → R a b → S (f a) (f b)) → Ordered R xs → Ordered S (map f xs)
 ordered-map f R S [] h o = tt
 ordered-map {X} {Y} f R S (x ∷ xs) h o = (
-  all-from (S (f x)) (map f xs) (λ z k. let (y, there, e) = map-has f xs z k in subst (S (f x)) (sym e) (h x y (inl refl) (inr there) (all_has (R x) xs y o.0 there))),
+  all-from (S (f x)) (map f xs) (λ z k. let (y, there, e) = map-has f xs z k in subst (S (f x)) (sym e) (h x y (inl refl) (inr there) (all-has (R x) xs y o.0 there))),
   ordered-map f R S xs (λ a b k l. h a b (inr k) (inr l)) o.1,
 )
 
@@ -97,7 +87,7 @@ chosen-ordered p R [] o = tt
 chosen-ordered p R (x ∷ xs) o = by (p x) (chosen-ordered p R xs o.1)
   where
     by : (b : Bool) → Ordered R (chosen p xs) → Ordered R (if b then x ∷ chosen p xs else chosen p xs)
-    by true more = (all-from (R x) (chosen p xs) (λ y h. all_has (R x) xs y o.0 (chosen-has p xs y h).0), more)
+    by true more = (all-from (R x) (chosen p xs) (λ y h. all-has (R x) xs y o.0 (chosen-has p xs y h).0), more)
     by false more = more
 
 equal-is : (o : Ordering) → is_eq o ≡ true → o ≡ Equal
@@ -308,14 +298,14 @@ module _ (n : ℕ) (e : Extent) (few : n ≤ 6) (table : IsTable n e.table) (sch
       row : List ℤ
       row = line.row
 
-      in-matrix : PHas (matrix e.schedule) row
-      in-matrix = p_has_map (λ (l : Line). l.row) e.schedule.lines line (has-get-or e.schedule.lines k (record { row = []; size = 0; parallel = false }) (let l = schedule.long in omega (arith, l, inside)))
+      in-matrix : Has (matrix e.schedule) row
+      in-matrix = has-map (λ (l : Line). l.row) e.schedule.lines line (has-get_or e.schedule.lines k (record { row = []; size = 0; parallel = false }) (let l = schedule.long in omega (arith, l, inside)))
 
       row-small : AllWithinSize (2 ^ 20) row
       row-small = All-has (AllWithinSize (2 ^ 20)) (matrix e.schedule) row schedule.small in-matrix
 
       row-few : length row ≤ 6
-      row-few = let l = p_all_has (λ (r : List ℤ). length r ≡ n) (matrix e.schedule) row schedule.square.long in-matrix in let f = few in omega (arith, l, f)
+      row-few = let l = all-has (λ (r : List ℤ). length r ≡ n) (matrix e.schedule) row schedule.square.long in-matrix in let f = few in omega (arith, l, f)
 
       few-times : (l : ℕ) → l ≤ 6 → l * (2 ^ 20 * 2 ^ 33) ≤ 2 ^ 59
       few-times l h = omega arith
@@ -364,8 +354,8 @@ module _ (n : ℕ) (e : Extent) (inverse : List (List ℤ)) (blocks : List Block
       same x zero h = tt
       same x (suc n) h = (h, same x n h)
 
-  pub all-has : (x : Instance) → Has (all_in e inverse blocks n) x ↔ Predicted e.table e.chunk x
-  all-has x = (
+  pub all_in-has : (x : Instance) → Has (all_in e inverse blocks n) x ↔ Predicted e.table e.chunk x
+  all_in-has x = (
     λ h. ((list-has n e inverse blocks is (replicate n LOWEST) (replicate n HIGHEST) far-list x).0 h).0,
     λ p. (list-has n e inverse blocks is (replicate n LOWEST) (replicate n HIGHEST) far-list x).1 (p, inside x p),
   )
@@ -384,8 +374,8 @@ module _ (n : ℕ) (e : Extent) (inverse : List (List ℤ)) (blocks : List Block
   chosen-list cell = record {
     ordered = chosen-ordered (λ (x : Instance). is_cell cell (cell_of e.schedule (padded e.table x))) (Comes e) (all_in e inverse blocks n) (list-ordered n e inverse blocks is (replicate n LOWEST) (replicate n HIGHEST) far-list);
     has = λ x. (
-      λ h. let a = chosen-has (λ (x : Instance). is_cell cell (cell_of e.schedule (padded e.table x))) (all_in e inverse blocks n) x h in record { predicted = (all-has x).0 a.0; inside = sym (same-cell cell (cell_of e.schedule (padded e.table x)) a.1) },
-      λ l. has-chosen (λ (x : Instance). is_cell cell (cell_of e.schedule (padded e.table x))) (all_in e inverse blocks n) x ((all-has x).1 l.predicted) (cell-same cell (cell_of e.schedule (padded e.table x)) (sym l.inside)),
+      λ h. let a = chosen-has (λ (x : Instance). is_cell cell (cell_of e.schedule (padded e.table x))) (all_in e inverse blocks n) x h in record { predicted = (all_in-has x).0 a.0; inside = sym (same-cell cell (cell_of e.schedule (padded e.table x)) a.1) },
+      λ l. has-chosen (λ (x : Instance). is_cell cell (cell_of e.schedule (padded e.table x))) (all_in e inverse blocks n) x ((all_in-has x).1 l.predicted) (cell-same cell (cell_of e.schedule (padded e.table x)) (sym l.inside)),
     );
   }
 

@@ -5,8 +5,8 @@ use Rattle.std.proofs.lemmas.Int.{ints}
 use Rattle.std.proofs.lemmas.Bool.{cases_lt}
 use Rattle.std.proofs.lemmas.List.{take_all, take_more}
 use Rattle.arrayvec.specs.ArrayVec.{ArrayVec}
-use Rattle.orders.specs.Orders.{Has}
-use Rattle.orders.proofs.Lists.{all_has, contains-from-has, has-cases, has-from-contains, has-left, has-right}
+use Rattle.plain_lemmas.specs.Lists.{Has}
+use Rattle.plain_lemmas.proofs.MembershipLaws.{all-has, contains-from-has, has-cases, has-from-contains, has-left, has-right}
 use Rattle.domain.specs.declared.chunk.Chunk.{Chunk}
 use Rattle.domain.specs.declared.held.HeldWhy.TheVariants.{Many}
 use Rattle.domain.specs.Tables.{IsTable, Table}
@@ -32,12 +32,12 @@ module _ {X : Type 0} (R : X → X → Type 0) where
   before-at : (xs : List X) (k : ℕ) (d z : X) → Ordered R xs → k < length xs → Has (take k xs) z → R z (get_or xs k d)
   before-at [] k d z o h m = absurd (omega arith)
   before-at (y ∷ ys) zero d z o h m = absurd m
-  before-at (y ∷ ys) (suc k) d z o h (inl e) = subst (λ (w : X). R w (get_or ys k d)) (sym e) (all_has (R y) ys (get_or ys k d) o.0 (item ys k d (omega arith)))
+  before-at (y ∷ ys) (suc k) d z o h (inl e) = subst (λ (w : X). R w (get_or ys k d)) (sym e) (all-has (R y) ys (get_or ys k d) o.0 (item ys k d (omega arith)))
   before-at (y ∷ ys) (suc k) d z o h (inr m) = before-at ys k d z o.1 (omega arith) m
 
   after-at : (xs : List X) (k : ℕ) (d z : X) → Ordered R xs → k < length xs → Has (drop (suc k) xs) z → R (get_or xs k d) z
   after-at [] k d z o h m = absurd (omega arith)
-  after-at (y ∷ ys) zero d z o h m = all_has (R y) ys z o.0 m
+  after-at (y ∷ ys) zero d z o h m = all-has (R y) ys z o.0 m
   after-at (y ∷ ys) (suc k) d z o h m = after-at ys k d z o.1 (omega arith) m
 
   about : (xs : List X) (k : ℕ) (d z : X) → k < length xs → Has xs z → Has (take k xs) z ⊎ ((z ≡ get_or xs k d) ⊎ Has (drop (suc k) xs) z)

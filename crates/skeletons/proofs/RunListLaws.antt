@@ -6,15 +6,17 @@ use Rattle.std.specs.Cmp.Lexicographic.{slice_cmp}
 use Rattle.std.proofs.lemmas.Int.{ints}
 use Rattle.std.proofs.lemmas.Bool.{cases_lt}
 use Rattle.std.proofs.lemmas.List.{length-replicate}
-use Rattle.orders.specs.Orders.{Has, Ordered}
-use Rattle.orders.proofs.Lists.{has-cases, has-left, has-right, ordered-append}
+use Rattle.orders.specs.Orders.{Ordered}
+use Rattle.plain_lemmas.specs.Lists.{Has}
+use Rattle.orders.proofs.ListLaws.{ordered-append}
+use Rattle.plain_lemmas.proofs.MembershipLaws.{has-cases, has-left, has-right, has-map, map-has}
 use Rattle.plain_lemmas.proofs.OrderLaws.{ordering_then-less, ordering_then-same}
 use Rattle.affine.specs.Inverses.{IsInverse, across}
 use Rattle.affine.specs.Matrices.{product, unit_row}
 use Rattle.affine.specs.Sums.{weighted}
 use Rattle.affine.proofs.MoveLaws.{all-at, length-unit}
-use Rattle.affine.proofs.OneToOneLemmas.{product-weighted}
-use Rattle.affine.proofs.SumLemmas.{length-weighted}
+use Rattle.affine.proofs.OneToOneLaws.{product-weighted}
+use Rattle.affine.proofs.SumLaws.{length-weighted}
 use Rattle.domain.specs.Instances.{Instance, counter, padded}
 use Rattle.transform.specs.Schedules.{Schedule, matrix, place}
 use Rattle.transform.proofs.LineLaws.{place-product}
@@ -34,7 +36,7 @@ use Rattle.skeletons.specs.Runs.{AreRunsOf as AreCellRuns, HasPoint, IsDirection
 use Rattle.skeletons.specs.Scans.{IsNear}
 use Rattle.skeletons.proofs.BlockLaws.{length-padded}
 use Rattle.skeletons.proofs.BoxLaws.{length-place}
-use Rattle.skeletons.proofs.ListLaws.{has-map, instance-is, map-has, near-places, ordered-map, place-long, points-of}
+use Rattle.skeletons.proofs.ListLaws.{instance-is, near-places, ordered-map, place-long, points-of}
 
 -- ---- lists
 

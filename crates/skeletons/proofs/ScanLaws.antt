@@ -4,7 +4,8 @@ use Rattle.std.specs.Prelude.{◌↔◌, if◌then◌else◌, ◌||◌}
 use Rattle.std.specs.List.{All, Contains}
 use Rattle.std.proofs.lemmas.Int.{ints}
 use Rattle.std.proofs.lemmas.Bool.{cases_lt}
-use Rattle.plain_lemmas.proofs.MembershipLaws.{Has, All-from, All-has, has-cases, has-left, has-right, contains-from-has, has-from-contains}
+use Rattle.plain_lemmas.proofs.MembershipLaws.{All-from, All-has, has-cases, has-left, has-right, contains-from-has, has-from-contains}
+use Rattle.plain_lemmas.specs.Lists.{Has}
 use Rattle.affine.specs.Forms.{value_at}
 use Rattle.affine.specs.Inverses.{across}
 use Rattle.affine.specs.Rows.{Meets, coefficient, variables}

@@ -8,10 +8,10 @@ use Rattle.affine.specs.Forms.{Affine, AllWithinSize, value_at}
 use Rattle.affine.specs.Sums.{dot}
 use Rattle.affine.specs.Matrices.{product, HasSmallEntries}
 use Rattle.affine.specs.Inverses.{across, IsSquare}
-use Rattle.affine.proofs.SumLemmas.{abs-dot}
+use Rattle.affine.proofs.SumLaws.{abs-dot}
 use Rattle.affine.proofs.MovedSumLaws.{dot-set}
 use Rattle.affine.proofs.PlaceLaws.{form_over_places}
-use Rattle.plain_lemmas.proofs.MembershipLaws.{All-from, All-has, all_has, map-has}
+use Rattle.plain_lemmas.proofs.MembershipLaws.{All-from, All-has, all-has, map-has}
 use Rattle.plain_lemmas.proofs.IntegerLaws.{neg_ℤ-*ℤ, one-*ℤ}
 use Rattle.domain.specs.Tables.{Table, cut, depth, form_or_zero, level_at, trip}
 use Rattle.domain.proofs.PointLaws.{dot-zeros}
@@ -111,7 +111,7 @@ product-small columns coef n few square small narrow =
     All-from (λ number. unsigned_abs number ≤ 2 ^ 100) (product columns coef) (λ v h.
     let (column, has, is) = map-has (λ column. dot column coef) columns v h in
     let a = abs-dot column coef (2 ^ 20) (2 ^ 41) (All-has (AllWithinSize (2 ^ 20)) columns column small has) narrow in
-    let l : length column ≡ n = all_has (λ (c : List ℤ). length c ≡ n) columns column square.long has in
+    let l : length column ≡ n = all-has (λ (c : List ℤ). length c ≡ n) columns column square.long has in
     let m = few-times (length column) n l few in
     subst (λ (z : ℤ). unsigned_abs z ≤ 2 ^ 100) (sym is) (omega (arith, a, m)))
   where

@@ -13,7 +13,7 @@ use Rattle.fourier_motzkin.specs.Elimination.{judged}
 use Rattle.fourier_motzkin.specs.Verdicts.{Bounds, bounds_of, verdict_of}
 use Rattle.fourier_motzkin.specs.declared.verdicts.Ruling.TheVariants.{Empty, Maybe}
 use Rattle.fourier_motzkin.proofs.MaybeLaws.{bounded_levels_close}
-use Rattle.fourier_motzkin.proofs.Points.{verdict-unmet}
+use Rattle.fourier_motzkin.proofs.PointLaws.{verdict-unmet}
 use Rattle.fourier_motzkin.proofs.EliminationRunLaws.{length-levels}
 use Rattle.domain.specs.Tables.{Block, Table, block_at, IsTable}
 use Rattle.domain.specs.Instances.{counter, padded}

@@ -11,12 +11,13 @@ use Rattle.std.proofs.lemmas.List.Kept.{Contains-dedup, Contains-from_dedup, IsS
 use Rattle.std.proofs.lemmas.List.Sorted.{Contains-permutation, IsPermutation-sym}
 use Rattle.plain_lemmas.proofs.OrderLaws.{slice_cmp-exact}
 use Rattle.arrayvec.specs.ArrayVec.{ArrayVec}
-use Rattle.orders.specs.Orders.{Has, Ordered}
-use Rattle.orders.proofs.Lists.{contains-from-has, has-from-contains}
+use Rattle.orders.specs.Orders.{Ordered}
+use Rattle.plain_lemmas.specs.Lists.{Has}
+use Rattle.plain_lemmas.proofs.MembershipLaws.{contains-from-has, has-from-contains, has-map, map-has}
 use Rattle.level_walk.specs.Orders.{Precedes}
 use Rattle.skeletons.specs.PlaceLists.{numbers}
 use Rattle.skeletons.proofs.CellListLaws.{equivalence-of, ordered-sorted}
-use Rattle.skeletons.proofs.ListLaws.{has-map, map-has, ordered-map}
+use Rattle.skeletons.proofs.ListLaws.{ordered-map}
 
 -- points compare as their numbers do
 abbrev pub point_cmp : ArrayVec ℤ → ArrayVec ℤ → Ordering

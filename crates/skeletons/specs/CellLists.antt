@@ -3,7 +3,7 @@ use Rattle.std.specs.Int.{int_div_euclid}
 use Rattle.std.specs.Prelude.{◌≡◌, ◌⊎◌, ℕ, ℤ, ◌-◌, ◌<◌, ◌≤ℤ◌, nat_lt, if◌then◌else◌, List, ◌↔◌}
 use Rattle.affine.specs.Matrices.{product}
 use Rattle.domain.specs.Instances.{Instance}
-use Rattle.orders.specs.Orders.{Has}
+use Rattle.plain_lemmas.specs.Lists.{Has}
 use Rattle.transform.specs.Schedules.{Schedule, line_at}
 use Rattle.level_walk.specs.Stretches.{point_at}
 use Rattle.level_walk.specs.declared.runs.Run.{Run as Stretch}

@@ -3,7 +3,8 @@ use Rattle.std.specs.Prelude.{◌≡◌, ℕ, ℤ, pos, ◌≤ℤ◌, ◌^◌, L
 use Rattle.std.specs.Ordering.{int_cmp, ordering_then}
 use Rattle.std.specs.declared.cmp.Ordering.TheVariants.{Less}
 use Rattle.std.specs.Cmp.Lexicographic.{slice_cmp}
-use Rattle.orders.specs.Orders.{Has, Ordered}
+use Rattle.orders.specs.Orders.{Ordered}
+use Rattle.plain_lemmas.specs.Lists.{Has}
 use Rattle.domain.specs.declared.chunk.Chunk.{Chunk}
 use Rattle.domain.specs.Tables.{Table}
 use Rattle.domain.specs.Instances.{Instance, Predicted, padded}

@@ -6,7 +6,7 @@ use Rattle.level_walk.specs.Lattices.{HIGHEST, LOWEST}
 use Rattle.std.specs.List.{All, range_with_len}
 use Rattle.affine.specs.Matrices.{product}
 use Rattle.affine.specs.Rows.{Meets}
-use Rattle.orders.specs.Orders.{Has}
+use Rattle.plain_lemmas.specs.Lists.{Has}
 use Rattle.domain.specs.Tables.{IsTable, block_at, counters, cut}
 use Rattle.domain.specs.Instances.{Instance, Predicted, counter, instance, padded}
 use Rattle.transform.specs.Schedules.{IsSchedule, place}

@@ -1,7 +1,7 @@
 -- The places of a block's instances, as they are listed one instance after another.
 use Rattle.std.specs.Prelude.{◌≡◌, ◌⊎◌, ℕ, ℤ, List, map, ◌↔◌}
 use Rattle.arrayvec.specs.ArrayVec.{ArrayVec}
-use Rattle.orders.specs.Orders.{Has}
+use Rattle.plain_lemmas.specs.Lists.{Has}
 use Rattle.domain.specs.Instances.{Instance, padded}
 use Rattle.domain.specs.Tables.{Table}
 use Rattle.transform.specs.Schedules.{Schedule, place}

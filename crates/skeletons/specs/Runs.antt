@@ -5,7 +5,8 @@ use Rattle.std.specs.declared.cmp.Ordering.TheVariants.{Less}
 use Rattle.std.specs.Cmp.Lexicographic.{slice_cmp}
 use Rattle.affine.specs.Matrices.{product, unit_row}
 use Rattle.affine.specs.Sums.{weighted}
-use Rattle.orders.specs.Orders.{Has, Ordered}
+use Rattle.orders.specs.Orders.{Ordered}
+use Rattle.plain_lemmas.specs.Lists.{Has}
 use Rattle.domain.specs.Tables.{counters, cut, depth}
 use Rattle.domain.specs.Instances.{Instance, block_of, padded}
 use Rattle.transform.specs.Schedules.{Schedule, matrix, place}

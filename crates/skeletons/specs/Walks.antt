@@ -1,6 +1,6 @@
 -- Walks: the list of each tile, and what remains of the tile that was entered.
 use Rattle.std.specs.Prelude.{ℕ, ℤ, ◌≤◌, List, length, map}
-use Rattle.orders.specs.Orders.{Has}
+use Rattle.plain_lemmas.specs.Lists.{Has}
 use Rattle.domain.specs.Instances.{Instance}
 use Rattle.level_walk.specs.declared.merges.Best.{Best}
 use Rattle.level_walk.specs.declared.scans.BlockScan.{BlockScan}

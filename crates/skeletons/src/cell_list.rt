@@ -3,7 +3,8 @@
 ghost use Rattle.std.specs.Prelude.{◌≡◌, ◌<◌, ◌≤◌, ◌^◌, ◌≤ℤ◌, ◌<ℤ◌, pos, neg_ℤ, ℕ, ◌↔◌, length, unsigned_abs, IfOk, OnOk};
 ghost use Rattle.std.specs.Int.{int_div_euclid};
 ghost use Rattle.std.specs.List.{AllByRecursion};
-ghost use Rattle.orders.specs.Orders.{Has, Ordered};
+ghost use Rattle.orders.specs.Orders.{Ordered};
+ghost use Rattle.plain_lemmas.specs.Lists.{Has};
 ghost use Rattle.transform.specs.Schedules.{IsSchedule};
 ghost use Rattle.skeletons.specs.CellLists.{Gains, IsCellAmong, IsCellOf, IsMetBelow, IsNumberIn, cell_at, last_size};
 ghost use Rattle.skeletons.specs.Cells.{AreCellsOf, CellComes};

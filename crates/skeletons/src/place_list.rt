@@ -1,7 +1,8 @@
 //! The places of a block's instances, one instance after another: for a block whose rows grow too wide.
 
 ghost use Rattle.std.specs.Prelude.{◌≡◌, ◌<◌, ◌≤◌, ◌^◌, ◌↔◌, ℤ, pos, ◌+ℤ◌, ◌≤ℤ◌, int_lt, List, length, replicate, slice_set, IfOk, OnOk};
-ghost use Rattle.orders.specs.Orders.{Has, Ordered};
+ghost use Rattle.orders.specs.Orders.{Ordered};
+ghost use Rattle.plain_lemmas.specs.Lists.{Has};
 ghost use Rattle.domain.specs.Instances.{Predicted, counter, instance, padded};
 ghost use Rattle.domain.specs.Tables.{IsTable};
 ghost use Rattle.level_walk.specs.Listings.{IsListing};

@@ -5,8 +5,10 @@ use Rattle.std.proofs.lemmas.Cmp.{int_cmp_total, lists_total, tied_itself}
 use Rattle.std.proofs.lemmas.List.{length-map}
 use Rattle.std.proofs.lemmas.List.FromFn.{length-range_with_len}
 use Rattle.std.proofs.lemmas.List.Sums.{sum_by-cons}
-use Rattle.orders.specs.Orders.{Has, Ordered, Differ}
-use Rattle.orders.proofs.Lists.{all-from, all_has, has-left, has-right, has-cases, has-split, contains-from-has, has-from-contains, ordered-append, ordered-weaker}
+use Rattle.orders.specs.Orders.{Ordered, Differ}
+use Rattle.plain_lemmas.specs.Lists.{Has}
+use Rattle.orders.proofs.ListLaws.{has-split, ordered-append, ordered-weaker}
+use Rattle.plain_lemmas.proofs.MembershipLaws.{all-from, all-has, has-left, has-right, has-cases, contains-from-has, has-from-contains, has-map, map-has, has-flat_map, flat_map-has}
 use Rattle.domain.specs.Tables.{IsTable, depth}
 use Rattle.domain.specs.Instances.{Instance, Precedes, original_key, padded}
 use Rattle.domain.specs.Instances.{Ordered as InOrder}
@@ -20,26 +22,6 @@ use Rattle.tiles.proofs.RunLaws.{run-alone, run-lies, run_at, run_of}
 -- ---- lists without an element twice
 
 module _ {X Y : Type 0} where
-  pub has-map : (f : X → Y) (xs : List X) (x : X) → Has xs x → Has (map f xs) (f x)
-  has-map f [] x h = absurd h
-  has-map f (y ∷ ys) x (inl e) = inl (ap f e)
-  has-map f (y ∷ ys) x (inr h) = inr (has-map f ys x h)
-
-  pub map-has : (f : X → Y) (xs : List X) (z : Y) → Has (map f xs) z → (x : X) × Has xs x × (z ≡ f x)
-  map-has f [] z h = absurd h
-  map-has f (y ∷ ys) z (inl e) = (y, inl refl, e)
-  map-has f (y ∷ ys) z (inr h) = let (x, k, is) = map-has f ys z h in (x, inr k, is)
-
-  pub has-flat-map : (f : X → List Y) (xs : List X) (x : X) (z : Y) → Has xs x → Has (f x) z → Has (flat_map f xs) z
-  has-flat-map f [] x z h k = absurd h
-  has-flat-map f (y ∷ ys) x z (inl e) k = has-left (f y) (flat_map f ys) z (subst (λ v. Has (f v) z) e k)
-  has-flat-map f (y ∷ ys) x z (inr h) k = has-right (f y) (flat_map f ys) z (has-flat-map f ys x z h k)
-
-  pub flat-map-has : (f : X → List Y) (xs : List X) (z : Y) → Has (flat_map f xs) z → (x : X) × Has xs x × Has (f x) z
-  flat-map-has f [] z h = absurd h
-  flat-map-has f (y ∷ ys) z h =
-      ⊎_elim (λ k. (y, inl refl, k)) (λ k. let (x, m, is) = flat-map-has f ys z k in (x, inr m, is)) (has-cases (f y) (flat_map f ys) z h)
-
   -- lists that share no element, each without an element twice
   differ-flat_map : (f : X → List Y) (R : X → X → Type 0) (xs : List X) → Ordered R xs → ((x : X) → Has xs x → Ordered Differ (f x))
       → ((x y : X) → Has xs x → Has xs y → R x y → (u : Y) → Has (f x) u → Has (f y) u → ⊥) → Ordered Differ (flat_map f xs)
@@ -47,8 +29,8 @@ module _ {X Y : Type 0} where
   differ-flat_map f R (x ∷ xs) ord each apart = ordered-append Differ (f x) (flat_map f xs) (each x (inl refl))
       (differ-flat_map f R xs ord.1 (λ y h. each y (inr h)) (λ y z h k. apart y z (inr h) (inr k)))
       (λ u v h k e.
-      let (y, there, at) = flat-map-has f xs v k in
-      apart x y (inl refl) (inr there) (all_has (R x) xs y ord.0 there) v (subst (Has (f x)) e h) at)
+      let (y, there, at) = flat_map-has f xs v k in
+      apart x y (inl refl) (inr there) (all-has (R x) xs y ord.0 there) v (subst (Has (f x)) e h) at)
 
 pub has-range : (n first k : ℕ) → first ≤ k → k < first + n → Has (range_with_len first n) k
 has-range zero first k from to = absurd (omega arith)
@@ -74,7 +56,7 @@ no-more : {X : Type 0} (xs ys : List X) → Ordered Differ ys → ((y : X) → H
 no-more xs [] ord inside = omega arith
 no-more {X} xs (y ∷ ys) ord inside =
     let (us, vs, is) = has-split xs y (inside y (inl refl)) in
-    let rest = no-more (us ++ vs) ys ord.1 (λ z h. without us vs z (subst (λ (l : List X). Has l z) is (inside z (inr h))) (all_has (Differ y) ys z ord.0 h)) in
+    let rest = no-more (us ++ vs) ys ord.1 (λ z h. without us vs z (subst (λ (l : List X). Has l z) is (inside z (inr h))) (all-has (Differ y) ys z ord.0 h)) in
     let size : length xs ≡ length us + suc (length vs) = ap length is ∙ length-append us (y ∷ vs) in
     let less : length (us ++ vs) ≡ length us + length vs = length-append us vs in
     omega (arith, rest, size, less)
@@ -128,14 +110,14 @@ module _ (e : Extent) (some : 1 ≤ depth e.table) (few : depth e.table ≤ 6) (
 
   in-cell : (cell : Cell) (runs : List Run) → HasRuns (depth e.table) e cell runs → (x : Instance) → Has (flat_map instances_of runs) x → LiesIn e cell x
   in-cell cell runs h x has =
-      let (r, there, inside) = flat-map-has instances_of runs x has in
+      let (r, there, inside) = flat_map-has instances_of runs x has in
       let (k, below, at) = in-run r x inside in
       subst (LiesIn e cell) (sym at) (run-lies (depth e.table) e some few table schedule launch h.direction h.last cell r k ((h.runs.has r).0 there) below)
 
   cell-in : (cell : Cell) (runs : List Run) → HasRuns (depth e.table) e cell runs → (x : Instance) → LiesIn e cell x → Has (flat_map instances_of runs) x
   cell-in cell runs h x lies =
       let found = run_of (depth e.table) e some few table schedule launch h.direction h.last cell x lies in
-      has-flat-map instances_of runs found.run x ((h.runs.has found.run).1 found.is) (subst (Has (instances_of found.run)) (sym found.at) (run-in found.run found.place found.below))
+      has-flat_map instances_of runs found.run x ((h.runs.has found.run).1 found.is) (subst (Has (instances_of found.run)) (sym found.at) (run-in found.run found.place found.below))
 
   run-differ : (cell : Cell) (direction : List ℤ) (runs : List Run) (last : Rattle.skeletons.specs.Runs.IsDirection (depth e.table) e.schedule direction) (r : Run) → IsRun e direction cell r → Ordered Differ (instances_of r)
   run-differ cell direction runs last r is = differ-map-range (run_at r) r.count 0 (λ k l from less to same.
@@ -178,7 +160,7 @@ module _ (e : Extent) (some : 1 ≤ depth e.table) (few : depth e.table ≤ 6) (
       (λ x y inside other same.
       let (c, there, lies) = in-cells cells runs h.1 y other in
       let here : cell ≡ c = sym (in-cell cell rs h.0 x inside).inside ∙ ap (λ (z : Instance). cell_of e.schedule (padded e.table z)) same ∙ lies.inside in
-      cell-itself cell (subst (CellComes cell) (sym here) (all_has (CellComes cell) cells c ord.0 there)))
+      cell-itself cell (subst (CellComes cell) (sym here) (all-has (CellComes cell) cells c ord.0 there)))
 
   list-differ : Ordered Differ launch.launched.list
   list-differ = ordered-weaker (Precedes e.table) Differ (λ x y comes same. instance-itself e.table x (subst (Precedes e.table x) (sym same) comes)) launch.launched.list (in-order (Precedes e.table) launch.launched.list launch.launched.original.ordered)

@@ -11,7 +11,7 @@ use Rattle.affine.specs.Forms.{AllWithinSize}
 use Rattle.affine.specs.Inverses.{IsInverse}
 use Rattle.affine.specs.Matrices.{HasSmallEntries, product, unit_row}
 use Rattle.affine.specs.Sums.{dot}
-use Rattle.affine.proofs.SumLemmas.{dot-comm}
+use Rattle.affine.proofs.SumLaws.{dot-comm}
 use Rattle.domain.specs.Tables.{IsTable}
 use Rattle.domain.proofs.PointLaws.{dot-zeros}
 use Rattle.transform.specs.Schedules.{IsSchedule, matrix}

@@ -9,8 +9,10 @@ use Rattle.std.proofs.lemmas.Grind.{flat_map-append}
 use Rattle.std.proofs.lemmas.List.{append-nil}
 use Rattle.std.proofs.lemmas.Slice.Eq.{slice_eq-Decides}
 use Rattle.core_steps.specs.declared.plan.Tile.{Tile}
-use Rattle.orders.specs.Orders.{Has, Ordered}
-use Rattle.orders.proofs.Lists.{all-from, all_has, has-left, has-right, has-cases, ordered-across, ordered-append}
+use Rattle.orders.specs.Orders.{Ordered}
+use Rattle.plain_lemmas.specs.Lists.{Has}
+use Rattle.orders.proofs.ListLaws.{ordered-across, ordered-append}
+use Rattle.plain_lemmas.proofs.MembershipLaws.{all-from, all-has, has-left, has-right, has-cases}
 use Rattle.plain_lemmas.proofs.OrderLaws.{slice_cmp-append-less, slice_cmp-append-same, slice_cmp-exact}
 use Rattle.domain.proofs.OriginalLaws.{not-back}
 use Rattle.skeletons.specs.Cells.{Cell, CellComes, Extent}
@@ -201,7 +203,7 @@ module _ (e : Extent) (words n : ℕ) (cells : List Cell) (phases : List Phase) 
 
       front-rise : (front : List Phase) → Ordered PhaseComes (front ++ j.last ∷ []) → Ordered PhaseComes front
       front-rise [] o = tt
-      front-rise (p ∷ front) o = (all-from (PhaseComes p) front (λ q h. all_has (PhaseComes p) (front ++ j.last ∷ []) q o.0 (has-left front (j.last ∷ []) q h)), front-rise front o.1)
+      front-rise (p ∷ front) o = (all-from (PhaseComes p) front (λ q h. all-has (PhaseComes p) (front ++ j.last ∷ []) q o.0 (has-left front (j.last ∷ []) q h)), front-rise front o.1)
 
       first : HasFirst j.last
       first = first-of j.last (are.one j.last last-there)

@@ -5,7 +5,7 @@ use Rattle.std.proofs.lemmas.Int.{ints}
 use Rattle.plain_lemmas.proofs.IntegerLaws.{le-int_lt}
 use Rattle.affine.specs.Forms.{Affine, AllWithinSize, value_at}
 use Rattle.affine.specs.Sums.{dot}
-use Rattle.affine.proofs.SumLemmas.{abs-dot}
+use Rattle.affine.proofs.SumLaws.{abs-dot}
 use Rattle.domain.specs.Tables.{Access, IsTube}
 use Rattle.domain.proofs.CheckLaws.{value-size}
 use Rattle.skeletons.specs.Runs.{along}

@@ -7,9 +7,10 @@ use Rattle.std.proofs.lemmas.List.{append_cancel_right, length-map, length-repli
 use Rattle.core_steps.specs.declared.plan.Tile.{Tile}
 use Rattle.core_steps.specs.Numbers.{has}
 use Rattle.core_steps.specs.Plans.{IsInside, IsSeparate, no_tile, touches_of, writes_of}
-use Rattle.core_steps.proofs.NumberLists.{has-cons}
-use Rattle.orders.specs.Orders.{Has, Ordered}
-use Rattle.orders.proofs.Lists.{all_has, contains-from-has}
+use Rattle.core_steps.proofs.NumberListLaws.{has-cons}
+use Rattle.orders.specs.Orders.{Ordered}
+use Rattle.plain_lemmas.specs.Lists.{Has}
+use Rattle.plain_lemmas.proofs.MembershipLaws.{all-has, contains-from-has}
 use Rattle.domain.specs.Tables.{IsTable}
 use Rattle.domain.specs.Instances.{Instance, padded}
 use Rattle.domain.specs.Footprints.{Conflict}
@@ -58,10 +59,10 @@ cells-apart [] (suc j) k c d ord e f other same = absurd (cc)
 cells-apart (x ∷ cells) zero zero c d ord e f other same = other refl
 cells-apart (x ∷ cells) zero (suc k) c d ord e f other same =
     let first : x ≡ c = cc in
-    cell-itself x (subst (CellComes x) (sym (first ∙ same)) (all_has (CellComes x) cells d ord.0 (slice_get-has cells k d f)))
+    cell-itself x (subst (CellComes x) (sym (first ∙ same)) (all-has (CellComes x) cells d ord.0 (slice_get-has cells k d f)))
 cells-apart (x ∷ cells) (suc j) zero c d ord e f other same =
     let first : x ≡ d = cc in
-    cell-itself x (subst (CellComes x) (sym (first ∙ sym same)) (all_has (CellComes x) cells c ord.0 (slice_get-has cells j c e)))
+    cell-itself x (subst (CellComes x) (sym (first ∙ sym same)) (all-has (CellComes x) cells c ord.0 (slice_get-has cells j c e)))
 cells-apart (x ∷ cells) (suc j) (suc k) c d ord e f other same = cells-apart cells j k c d ord.1 e f (λ h. other (ap suc h)) same
 
 writes-touch : (t : Tile) (a : ℕ) → writes_of t a ≡ true → touches_of t a ≡ true

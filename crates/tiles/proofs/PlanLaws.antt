@@ -9,8 +9,10 @@ use Rattle.std.proofs.lemmas.List.{append-nil, take_all, take_more}
 use Rattle.std.proofs.lemmas.List.Sums.{sum_by-cons}
 use Rattle.backup.specs.declared.stripe.Stripe.{Stripe}
 use Rattle.backup.specs.Stripes.{IsWithin, addresses_of, addresses_of_all}
-use Rattle.orders.specs.Orders.{Has, Ordered}
-use Rattle.orders.proofs.Lists.{all-from, all_has, contains-from-has, has-from-contains, has-left, has-right, has-cases, ordered-right}
+use Rattle.orders.specs.Orders.{Ordered}
+use Rattle.plain_lemmas.specs.Lists.{Has}
+use Rattle.orders.proofs.ListLaws.{ordered-right}
+use Rattle.plain_lemmas.proofs.MembershipLaws.{all-from, all-has, contains-from-has, has-from-contains, has-left, has-right, has-cases, flat_map-has, has-flat_map, has-map, map-has}
 use Rattle.plain_lemmas.proofs.MembershipLaws as plain
 use Rattle.domain.specs.declared.held.HeldWhy.TheVariants.{Many}
 use Rattle.domain.specs.Tables.{Table, IsTable, depth}
@@ -29,7 +31,7 @@ use Rattle.tiles.specs.Counts.{count_of, counted}
 use Rattle.tiles.specs.Groups.{added}
 use Rattle.tiles.specs.Plans.{AreStripesOf, CellWrites, ChunkWrites, HaveRuns, IsPhaseOf, IsPlannable, IsPlanOf, Phase, cells_of}
 use Rattle.tiles.specs.Strips.{IsListOfWords, IsPlannedRun, address_at, loads_of_run, strip_of, stores_of_run}
-use Rattle.tiles.proofs.CountLaws.{cells-most, count-all, count-most, flat-map-has, has-flat-map, has-map, has-range, map-has, range-has}
+use Rattle.tiles.proofs.CountLaws.{cells-most, count-all, count-most, has-range, range-has}
 use Rattle.tiles.proofs.DirectionLaws.{direction-small}
 use Rattle.tiles.proofs.GroupLaws.{AreGathered, gathered-more, gathered-none}
 use Rattle.tiles.proofs.PhaseLaws.{inside, length-wide, separate}
@@ -85,7 +87,7 @@ ordered-part R (q ∷ phases) p ord (inl e) = subst (λ (r : Phase). Ordered R r
   where
     left : (us : List Cell) → Ordered R (us ++ cells_of phases) → Ordered R us
     left [] o = tt
-    left (u ∷ us) o = (all-from (R u) us (λ v k. all_has (R u) (us ++ cells_of phases) v o.0 (has-left us (cells_of phases) v k)), left us o.1)
+    left (u ∷ us) o = (all-from (R u) us (λ v k. all-has (R u) (us ++ cells_of phases) v o.0 (has-left us (cells_of phases) v k)), left us o.1)
 ordered-part R (q ∷ phases) p ord (inr h) = ordered-part R phases p (ordered-right R q.cells (cells_of phases) ord) h
 
 module _ (e : Extent) (words : ℕ) (some : 1 ≤ depth e.table) (few : depth e.table ≤ 6) (table : IsTable (depth e.table) e.table) (schedule : IsSchedule (depth e.table) e.schedule) (can : IsPlannable e.table e.schedule e.chunk words) where
@@ -132,7 +134,7 @@ module _ (e : Extent) (words : ℕ) (some : 1 ≤ depth e.table) (few : depth e.
 
     stored : (address : ℕ) → Contains (addresses_of_all stripes) address → ChunkWrites e (pos address)
     stored address c =
-        let (stripe, there, inside) = flat-map-has addresses_of stripes address (has-from-contains (addresses_of_all stripes) address c) in
+        let (stripe, there, inside) = flat_map-has addresses_of stripes address (has-from-contains (addresses_of_all stripes) address c) in
         let (k, within, at) = map-has (λ (k : ℕ). unsigned_abs (address_at (strip_of stripe) k)) (range_with_len 0 stripe.count) address inside in
         let (from, to) = range-has stripe.count 0 k within in
         let w = stripe-writes stripe k there (omega arith) in
@@ -149,7 +151,7 @@ module _ (e : Extent) (words : ℕ) (some : 1 ≤ depth e.table) (few : depth e.
         let below : found.place < stripe.count = subst (λ (s : Strip). found.place < s.count) at found.below in
         let is : pos address ≡ address_at (strip_of stripe) found.place = found.is ∙ ap (λ (s : Strip). address_at s found.place) at in
         let number : address ≡ unsigned_abs (address_at (strip_of stripe) found.place) = ap unsigned_abs is in
-        contains-from-has (addresses_of_all stripes) address (has-flat-map addresses_of stripes stripe address there
+        contains-from-has (addresses_of_all stripes) address (has-flat_map addresses_of stripes stripe address there
         (subst (Has (addresses_of stripe)) (sym number) (has-map (λ (k : ℕ). unsigned_abs (address_at (strip_of stripe) k)) (range_with_len 0 stripe.count) found.place (has-range stripe.count 0 found.place (omega arith) (omega arith)))))
 
     phase-is : (p : Phase) → Has groups p → IsPhaseOf e words p
@@ -210,7 +212,7 @@ counted-more (qs ∷ runs) rs =
 take-before : (cells : List Cell) (n : ℕ) (cell : Cell) → n < length cells → cell ≡ get_or cells n cell → Ordered CellComes cells → (c : Cell) → Has (take n cells) c → CellComes c cell
 take-before [] n cell inside is ord c h = absurd (omega arith)
 take-before (x ∷ cells) zero cell inside is ord c h = absurd h
-take-before (x ∷ cells) (suc n) cell inside is ord c (inl same) = subst (λ (z : Cell). CellComes z cell) (sym same) (all_has (CellComes x) cells cell ord.0 (get_or-has cells n cell (omega arith) is))
+take-before (x ∷ cells) (suc n) cell inside is ord c (inl same) = subst (λ (z : Cell). CellComes z cell) (sym same) (all-has (CellComes x) cells cell ord.0 (get_or-has cells n cell (omega arith) is))
 take-before (x ∷ cells) (suc n) cell inside is ord c (inr h) = take-before cells n cell (omega arith) is ord.1 c h
 
 take-has : (n : ℕ) (cells : List Cell) (c : Cell) → Has (take n cells) c → Has cells c
@@ -222,7 +224,7 @@ take-has (suc n) (x ∷ cells) c (inr h) = inr (take-has n cells c h)
 ordered-take : (n : ℕ) (cells : List Cell) → Ordered CellComes cells → Ordered CellComes (take n cells)
 ordered-take zero cells ord = tt
 ordered-take (suc n) [] ord = tt
-ordered-take (suc n) (x ∷ cells) ord = (all-from (CellComes x) (take n cells) (λ c h. all_has (CellComes x) cells c ord.0 (take-has n cells c h)), ordered-take n cells ord.1)
+ordered-take (suc n) (x ∷ cells) ord = (all-from (CellComes x) (take n cells) (λ c h. all-has (CellComes x) cells c ord.0 (take-has n cells c h)), ordered-take n cells ord.1)
 
 -- the runs of one cell more have no more instances than the chunk
 pub stands-bound : (e : Extent) (words : ℕ) (some : 1 ≤ depth e.table) (few : depth e.table ≤ 6) (table : IsTable (depth e.table) e.table) (schedule : IsSchedule (depth e.table) e.schedule) (can : IsPlannable e.table e.schedule e.chunk words)

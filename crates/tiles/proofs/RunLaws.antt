@@ -12,9 +12,9 @@ use Rattle.plain_lemmas.proofs.IntegerLaws.{one-*ℤ, +ℤ-*ℤ}
 use Rattle.plain_lemmas.proofs.OrderLaws.{slice_cmp-exact}
 use Rattle.affine.specs.Matrices.{product, unit_row}
 use Rattle.affine.specs.Sums.{dot}
-use Rattle.affine.proofs.SumLemmas.{dot-weighted-point, get_or-weighted}
-use Rattle.orders.specs.Orders.{Has}
-use Rattle.orders.proofs.Lists.{contains-from-has, has-from-contains}
+use Rattle.affine.proofs.SumLaws.{dot-weighted-point, get_or-weighted}
+use Rattle.plain_lemmas.specs.Lists.{Has}
+use Rattle.plain_lemmas.proofs.MembershipLaws.{contains-from-has, has-from-contains}
 use Rattle.domain.specs.Tables.{IsTable, block_at, counters, cut, depth}
 use Rattle.domain.specs.Instances.{Instance, instance, block_of, counter, padded, Predicted, IsInstance}
 use Rattle.domain.proofs.PlaceLaws.{place-counter}

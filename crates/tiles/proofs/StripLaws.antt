@@ -8,9 +8,9 @@ use Rattle.std.proofs.lemmas.List.{get_or_default}
 use Rattle.plain_lemmas.proofs.IntegerLaws.{int_lt-true, int_lt-false}
 use Rattle.affine.specs.Forms.{Affine, AllWithinSize, value_at}
 use Rattle.affine.specs.Sums.{dot}
-use Rattle.affine.proofs.SumLemmas.{dot-comm}
+use Rattle.affine.proofs.SumLaws.{dot-comm}
 use Rattle.core_steps.specs.declared.plan.Tile.{Tile}
-use Rattle.orders.specs.Orders.{Has}
+use Rattle.plain_lemmas.specs.Lists.{Has}
 use Rattle.domain.specs.Tables.{Table, Access, IsTable, access_at, counters, cut, depth}
 use Rattle.domain.specs.Instances.{Instance, block_of, Predicted}
 use Rattle.domain.specs.Footprints.{Expects, LiesAbout, IsListOf, Touches, Writes}
@@ -24,7 +24,8 @@ use Rattle.skeletons.proofs.SideLaws.{cut-small, zeros-small}
 use Rattle.tiles.specs.declared.strip.Strip.{Strip}
 use Rattle.tiles.specs.Plans.{CellReads, CellWrites, IsTileOf}
 use Rattle.tiles.specs.Strips.{IsListOfWords, IsPlannedRun, IsSmallRun, IsStored, IsWordOf, access_strips, address_at, line_strips, load_strips, loads_of_run, offset_at, offset_count, run_strip, store_strips, stores_of_run}
-use Rattle.tiles.proofs.CountLaws.{flat-map-has, has-flat-map, has-map, has-range, map-has, range-has}
+use Rattle.tiles.proofs.CountLaws.{has-range, range-has}
+use Rattle.plain_lemmas.proofs.MembershipLaws.{flat_map-has, has-flat_map, has-map, map-has}
 use Rattle.tiles.proofs.RunLaws.{dot-along, run-lies, run_at, run_of, step-long}
 
 -- ---- lists
@@ -116,7 +117,7 @@ pub record IsStripBy (t : Table) (r : Run) (stores : Bool) (s : Strip) : Type 0 
 
 store-strip : (t : Table) (r : Run) (s : Strip) → Has (stores_of_run t r) s → IsStripBy t r true s
 store-strip t r s h =
-    let (a, there, is) = flat-map-has (store_strips r) (block_of t r.first).accesses s h in
+    let (a, there, is) = flat_map-has (store_strips r) (block_of t r.first).accesses s h in
     by a there a.stores refl is
   where
     by : (a : Access) → Has (block_of t r.first).accesses a → (b : Bool) → a.stores ≡ b → Has (if b then access_strips r a else []) s → IsStripBy t r true s
@@ -125,7 +126,7 @@ store-strip t r s h =
 
 load-strip : (t : Table) (r : Run) (s : Strip) → Has (loads_of_run t r) s → IsStripBy t r false s
 load-strip t r s h =
-    let (a, there, is) = flat-map-has (load_strips r) (block_of t r.first).accesses s h in
+    let (a, there, is) = flat_map-has (load_strips r) (block_of t r.first).accesses s h in
     by a there a.stores refl is
   where
     by : (a : Access) → Has (block_of t r.first).accesses a → (b : Bool) → a.stores ≡ b → Has (if b then [] else access_strips r a) s → IsStripBy t r false s
@@ -133,10 +134,10 @@ load-strip t r s h =
     by a there false e k = record { access = a; has = there; kind = e; strip = k }
 
 strip-store : (t : Table) (r : Run) (s : Strip) → IsStripBy t r true s → Has (stores_of_run t r) s
-strip-store t r s h = has-flat-map (store_strips r) (block_of t r.first).accesses h.access s h.has (subst (λ (b : Bool). Has (if b then access_strips r h.access else []) s) (sym h.kind) h.strip)
+strip-store t r s h = has-flat_map (store_strips r) (block_of t r.first).accesses h.access s h.has (subst (λ (b : Bool). Has (if b then access_strips r h.access else []) s) (sym h.kind) h.strip)
 
 strip-load : (t : Table) (r : Run) (s : Strip) → IsStripBy t r false s → Has (loads_of_run t r) s
-strip-load t r s h = has-flat-map (load_strips r) (block_of t r.first).accesses h.access s h.has (subst (λ (b : Bool). Has (if b then [] else access_strips r h.access) s) (sym h.kind) h.strip)
+strip-load t r s h = has-flat_map (load_strips r) (block_of t r.first).accesses h.access s h.has (subst (λ (b : Bool). Has (if b then [] else access_strips r h.access) s) (sym h.kind) h.strip)
 
 -- an instance of the run touches the addresses of these strips, and no others
 touches-at : (t : Table) (r : Run) (stores : Bool) (s : Strip) (k : ℕ) (address : ℤ) → length r.first.at ≡ length r.step → IsStripBy t r stores s → address ≡ address_at s k → Touches t (run_at r k) address stores
@@ -252,7 +253,7 @@ module _ (n : ℕ) (e : Extent) (words : ℕ) (some : 1 ≤ n) (few : n ≤ 6) (
   module _ (cell : Cell) (runs : List Run) (h : HasRuns n e cell runs) where
     pub strip-writes : (s : Strip) (k : ℕ) → Has (flat_map (stores_of_run e.table) runs) s → k < s.count → CellWrites e cell (address_at s k)
     strip-writes s k has below =
-        let (r, there, inside) = flat-map-has (stores_of_run e.table) runs s has in
+        let (r, there, inside) = flat_map-has (stores_of_run e.table) runs s has in
         let (lies, touches) = on-run h.direction h.last cell r true s k (address_at s k) ((h.runs.has r).0 there) (store-strip e.table r s inside) below refl in
         record { at = run_at r k; lies = lies; writes = touches }
 
@@ -262,7 +263,7 @@ module _ (n : ℕ) (e : Extent) (words : ℕ) (some : 1 ≤ n) (few : n ≤ 6) (
         let on = touched-on e.table found.run true found.place address (first-long h.direction h.last cell found.run found.is) (subst (λ (x : Instance). Writes e.table x address) found.at w.writes) in
         record {
           strip = on.strip;
-          has = has-flat-map (stores_of_run e.table) runs found.run on.strip ((h.runs.has found.run).1 found.is) (strip-store e.table found.run on.strip on.by);
+          has = has-flat_map (stores_of_run e.table) runs found.run on.strip ((h.runs.has found.run).1 found.is) (strip-store e.table found.run on.strip on.by);
           place = found.place;
           below = (let b = found.below in let c = on.count in omega (arith, b, c));
           is = on.is;
@@ -285,7 +286,7 @@ module _ (n : ℕ) (e : Extent) (words : ℕ) (some : 1 ≤ n) (few : n ≤ 6) (
       where
         there : (address : ℕ) → IsWordOf words (flat_map (loads_of_run e.table) runs) address → CellReads e words cell (pos address)
         there address w =
-            let (r, inside, has) = flat-map-has (loads_of_run e.table) runs w.strip w.has in
+            let (r, inside, has) = flat_map-has (loads_of_run e.table) runs w.strip w.has in
             let (lies, touches) = on-run h.direction h.last cell r false w.strip w.place (pos address) ((h.runs.has r).0 inside) (load-strip e.table r w.strip has) w.below w.is in
             record { at = run_at r w.place; lies = lies; reads = (touches, omega (arith, ints), (let word = w.word in omega (arith, ints, word))) }
 
@@ -294,7 +295,7 @@ module _ (n : ℕ) (e : Extent) (words : ℕ) (some : 1 ≤ n) (few : n ≤ 6) (
             let found = run_of n e some few table schedule launch h.direction h.last cell r.at r.lies in
             let on = touched-on e.table found.run false found.place (pos address) (first-long h.direction h.last cell found.run found.is) (subst (λ (x : Instance). Touches e.table x (pos address) false) found.at r.reads.0) in
             let word = r.reads.2 in let b = found.below in let c = on.count in
-            record { strip = on.strip; has = has-flat-map (loads_of_run e.table) runs found.run on.strip ((h.runs.has found.run).1 found.is) (strip-load e.table found.run on.strip on.by); place = found.place; below = omega (arith, b, c); is = on.is; word = omega (arith, ints, word) }
+            record { strip = on.strip; has = has-flat_map (loads_of_run e.table) runs found.run on.strip ((h.runs.has found.run).1 found.is) (strip-load e.table found.run on.strip on.by); place = found.place; below = omega (arith, b, c); is = on.is; word = omega (arith, ints, word) }
 
     pub tile-is : (tile : Tile) → IsListOfWords words (flat_map (loads_of_run e.table) runs) tile.reads → IsListOfWords words (flat_map (stores_of_run e.table) runs) tile.writes → IsTileOf e words cell tile
     tile-is tile reads writes = record { reads = reads-list tile.reads reads; writes = writes-list tile.writes writes }

@@ -10,8 +10,8 @@ use Rattle.std.proofs.lemmas.List.{append-nil, map-append, take_all, take_more}
 use Rattle.std.proofs.lemmas.List.Elements.{Contains-append_left, Contains-append_right, Contains-append_cases}
 use Rattle.std.proofs.lemmas.List.FromFn.{map-range_with_len_more}
 use Rattle.affine.specs.Forms.{Affine}
-use Rattle.orders.specs.Orders.{Has}
-use Rattle.orders.proofs.Lists.{contains-from-has, has-cases, has-from-contains, has-left, has-right}
+use Rattle.plain_lemmas.specs.Lists.{Has}
+use Rattle.plain_lemmas.proofs.MembershipLaws.{contains-from-has, has-cases, has-from-contains, has-left, has-right}
 use Rattle.domain.specs.Footprints.{Gains}
 use Rattle.domain.specs.Tables.{Access}
 use Rattle.domain.proofs.TouchedLaws.{gains-none, gains-same}

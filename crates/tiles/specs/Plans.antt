@@ -9,7 +9,8 @@ use Rattle.core_steps.specs.declared.plan.Tile.{Tile}
 use Rattle.core_steps.specs.Plans.{IsSeparate, IsInside}
 use Rattle.backup.specs.declared.stripe.Stripe.{Stripe}
 use Rattle.backup.specs.Stripes.{IsWithin, addresses_of_all}
-use Rattle.orders.specs.Orders.{Has, Ordered}
+use Rattle.orders.specs.Orders.{Ordered}
+use Rattle.plain_lemmas.specs.Lists.{Has}
 use Rattle.domain.specs.declared.chunk.Chunk.{Chunk}
 use Rattle.domain.specs.Tables.{Table, depth}
 use Rattle.domain.specs.Instances.{Instance, Predicted}

@@ -4,7 +4,7 @@ ghost use Rattle.std.specs.Prelude.{◌≡◌, ◌↔◌, ◌<◌, ◌≤◌, �
 ghost use Rattle.std.specs.List.{flat_map};
 ghost use Rattle.std.specs.List.Sorted.{IsStrictlyIncreasing};
 ghost use Rattle.domain.specs.Footprints.{Gains};
-ghost use Rattle.orders.specs.Orders.{Has};
+ghost use Rattle.plain_lemmas.specs.Lists.{Has};
 ghost use Rattle.skeletons.specs.Runs.{Run as PlainRun};
 ghost use Rattle.tiles.specs.declared.strip.Strip.{Strip as PlainStrip};
 ghost use Rattle.tiles.specs.Strips.{IsListOfWords, IsStored, IsPlannedRun, IsSmallRun, IsWordOf, access_strips, load_strips, loads_of_run, offset_at, offset_count, store_strips, stores_of_run, strip_of};

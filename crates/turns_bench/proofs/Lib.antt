@@ -1,2 +1,2 @@
-pub mod Copying
-pub mod Posting
+pub mod CopyingLaws
+pub mod PostingLaws

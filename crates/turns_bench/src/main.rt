@@ -1,7 +1,7 @@
 //! Runs phases of a nest of one store as often as its input says: one phase of one worker that follows the first
-//! instance so often, or so many phases of four workers whose tiles are empty, by a crew that begins here or by one that
-//! starts a thread for each. Each line of its input has `worker`, `phase` or `threads`, and a number. It writes the steps.
-//! It stands on `phase_run`, and is what bench/turns.sh measures.
+//! instance so often, or so many phases of four workers whose tiles are empty, by a crew that begins here or by one
+//! that starts a thread for each. Each line of its input has `worker`, `phase` or `threads`, and a number. It writes
+//! the steps. It stands on `phase_run`, and is what bench/turns.sh measures.
 #![tactic(auto)]
 
 ghost use Rattle.std.specs.Prelude.{◌≡◌, ◌<◌, ◌≤◌, ℕ, [], ◌∷◌, IfOk, IsTrue, length, true, false, vec_len, vec_capacity};
@@ -13,7 +13,6 @@ ghost use Rattle.verified_turns.specs.Workers.{task_state};
 ghost use Rattle.phase_run.specs.Postings.{IsPostable};
 ghost use Rattle.turns_bench.specs.Copies.{tiles_of, one_store, four_empty};
 
-mod nests;
 mod walks;
 
 use core_steps::{Plan, Tile};
@@ -31,8 +30,8 @@ use walks::{Repeated, Repeats};
 
 fn main(rt: HostRuntime) -> io::Result<()> {
     let alloc = rt.alloc();
-    let nest = nests::nest(alloc)?;
-    let pred = nests::prediction(alloc)?;
+    let nest = sample_tasks::nest(alloc)?;
+    let pred = sample_tasks::prediction(alloc)?;
     for line in BufReader::new(alloc, rt.reader())?.lines(alloc) {
         let line = line?;
         let mut words = line.as_str().split(' ');
@@ -55,16 +54,12 @@ fn main(rt: HostRuntime) -> io::Result<()> {
     Ok(())
 }
 
-/// A gate that holds nobody but says that it may, so that each worker begins on a thread.
+/// A gate that doesn't say that it holds nobody, so that each worker begins on a thread.
 #[derive(Drop)]
 struct Threshold;
 
 impl Gate for Threshold {
     fn pass(&self, _worker: u32) {}
-
-    fn holds(&self) -> bool {
-        true
-    }
 }
 
 /// The number that a word is, or 0 where it is none of 32 bits.
@@ -96,7 +91,7 @@ fn worker<C: Crew>(
     if times > 65_536 || !is_plan(&plan) {
         return Ok(0);
     }
-    let task = nests::task(nest, pred);
+    let task = sample_tasks::task(nest, pred);
     let walks = Repeats {
         tiles: 1,
         each: times,
@@ -125,7 +120,7 @@ fn phases<C: Crew>(
     if !is_plan(&plan) {
         return Ok(0);
     }
-    let task = nests::task(nest, pred);
+    let task = sample_tasks::task(nest, pred);
     let walks = Repeats { tiles: 4, each: 0 };
     let asked = Asked {
         plan: &plan,
@@ -170,8 +165,8 @@ fn over_words<C: Crew>(
     Ok(one_after_another(task, words, asked, main, &mut all, crew))
 }
 
-/// The steps of these phases, one after another. No plan is posted at epoch 0, and there is room for the workers and for
-/// the entries.
+/// The steps of these phases, one after another. No plan is posted at epoch 0, and there is room for the workers and
+/// for the entries.
 fn one_after_another<'a, C: Crew>(
     task: &'a Task<'a, 1>,
     words: &'a SharedWords,

@@ -1,4 +1,4 @@
-pub mod Shown
-pub mod Touching
-pub mod Turned
-pub mod Following
+pub mod SeatMemoryLaws
+pub mod TouchLaws
+pub mod TurnLaws
+pub mod FollowingLaws

@@ -11,7 +11,7 @@ use Rattle.core_steps.specs.declared.plan.Plan.{Plan}
 use Rattle.core_steps.specs.declared.view.View.{View}
 use Rattle.core_steps.specs.Plans.{writes, touches}
 use Rattle.orders.specs.Runs.{Machine}
-use Rattle.orders.specs.Orders.{Has}
+use Rattle.plain_lemmas.specs.Lists.{Has}
 use Rattle.orders.specs.Tiles.{flat}
 use Rattle.shared_words.specs.Seats.{memory_words}
 use Rattle.follow_chunk.specs.declared.task.Deviation.{Deviation}
@@ -85,8 +85,8 @@ pub record HasDeviated {D : ℕ} (k : TaskState) (lists : List (List Instance)) 
   pub deviates : Deviates k.pred k.loops k.outer d.at d.how failed.came.memory
 
 -- how a worker finished. Done: it tried every tile of the plan, and followed each instance of the tiles that it holds
--- once, in the order of its claims, from the base. Failed: it followed these up to the one that deviates, and its seat has
--- failed. Stopped: it followed all of them, and its seat has seen the flag.
+-- once, in the order of its claims, from the base. Failed: it followed these up to the one that deviates, which is of the
+-- tile that it claimed last, and its seat has failed. Stopped: it followed all of them, and its seat has seen the flag.
 abbrev pub HasFinished : {D : ℕ} → TaskState → List (List Instance) → View → ℕ → Outcome D → Type 0
 HasFinished k lists v steps (Done all) = (all ≡ steps) × HasEnded (instances_of k v) (ClosesSmall k.pred) lists v steps
 HasFinished k lists v steps (Failed d) = HasDeviated k lists v d steps

@@ -1,7 +1,7 @@
 //! A worker of a phase.
 ghost use Rattle.std.specs.Prelude.{◌≡◌, ◌<◌, ◌≤◌, ◌+◌, ◌^◌, ◌↔◌, [], length, pos, IsTrue, Some};
 ghost use Rattle.domain.specs.Instances.{Instance as Point, Predicted};
-ghost use Rattle.orders.specs.Orders.{Has};
+ghost use Rattle.plain_lemmas.specs.Lists.{Has};
 ghost use Rattle.orders.specs.Tiles.{flat};
 ghost use Rattle.follow_chunk.specs.Tasks.{IsTask};
 ghost use Rattle.follow_chunk.specs.Followed.{IsInstanceFollowed, IsClosedSmall};
@@ -32,8 +32,8 @@ pub enum Outcome<const D: usize> {
     Stopped,
 }
 
-/// A worker of a phase. It tries the tiles of the plan from 0 upwards, and follows the instances of those that it claimed
-/// over its seat. Contracts see its status (`specs/Workers`).
+/// A worker of a phase. It tries the tiles of the plan from 0 upwards, and follows the instances of those that it
+/// claimed over its seat. Contracts see its status (`specs/Workers`).
 #[derive(Drop)]
 pub struct Worker<'a, W: Walk<D>, const D: usize> {
     number: u32,
@@ -85,9 +85,11 @@ impl<'a, W: Walk<D>, const D: usize> Model for Worker<'a, W, D> {
 }
 
 impl<'a, W: Walk<D>, const D: usize> Worker<'a, W, D> {
-    /// A worker of this number, over a seat that was just lent by these words while a plan is posted that has a tile for
-    /// each of the walk. What the instances of a tile's list touch stays within what the plan says of that tile, all are
-    /// predicted in the task's chunk, and there are at most 65,536. Takes no memory.
+    /// A worker of this number, over a seat that was just lent by these words while a plan is posted that has a tile
+    /// for each of the walk, which has entered none. What the instances of a tile's list touch stays within what the
+    /// plan says of that tile, all are predicted in the task's chunk, and there are at most 65,536. That the table has
+    /// as many words as the seat's base (`counted`) is what `MainSeat::split` tells as it lends the seat. Takes no
+    /// memory.
     pub fn new(
         number: u32,
         seat: WorkSeat,

@@ -1,5 +1,5 @@
 use Rattle.std.proofs.Common.{refl, ap, ◌∙◌}
-use Rattle.follow_bench.proofs.FirstTurn.{predicted-is, task-is}
+use Rattle.follow_bench.proofs.FirstTurnLaws.{predicted-is, task-is}
 use Rattle.follow_bench.proofs.alone.Goals as goal
 
 pub alone_once-requires-clause-task : goal.alone_once-requires-clause-task

@@ -1,5 +1,5 @@
 use Rattle.std.proofs.Common.{refl, ap, ◌∙◌}
-use Rattle.follow_bench.proofs.FirstTurn.{predicted-is, task-is}
+use Rattle.follow_bench.proofs.FirstTurnLaws.{predicted-is, task-is}
 use Rattle.follow_bench.proofs.listed.Goals as goal
 
 pub listed_once-requires-clause-task : goal.listed_once-requires-clause-task

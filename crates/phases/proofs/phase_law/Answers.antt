@@ -1,4 +1,4 @@
-use Rattle.phases.proofs.Gathering.{phase_law}
+use Rattle.phases.proofs.GatheringLaws.{phase_law}
 use Rattle.phases.proofs.phase_law.Goals as goal
 
 pub returns : goal.returns

@@ -2,7 +2,7 @@ use Rattle.std.proofs.Common.{◌≡◌, ◌∙◌, ◌<◌, ℕ, length, ap, ar
 use Rattle.core_steps.specs.declared.plan.Plan.{Plan}
 use Rattle.verified_turns.specs.Workers.{task_state}
 use Rattle.turns_bench.specs.Copies.{four_empty}
-use Rattle.turns_bench.proofs.Posting.{postable, task-is}
+use Rattle.turns_bench.proofs.PostingLaws.{postable, task-is}
 use Rattle.turns_bench.proofs.phases.Goals as goal
 
 pub over_new_words-requires : goal.over_new_words-requires

@@ -3,7 +3,7 @@ use Rattle.core_steps.specs.declared.plan.Plan.{Plan}
 use Rattle.core_steps.specs.Plans.{writes}
 use Rattle.verified_turns.specs.Workers.{task_state}
 use Rattle.turns_bench.specs.Copies.{one_store}
-use Rattle.turns_bench.proofs.Posting.{postable, task-is, one-writes}
+use Rattle.turns_bench.proofs.PostingLaws.{postable, task-is, one-writes}
 use Rattle.turns_bench.proofs.worker.Goals as goal
 
 pub over_new_words-requires : goal.over_new_words-requires

@@ -1,4 +1,4 @@
-use Rattle.affine.proofs.RowLemmas.{sum_at-combination}
+use Rattle.affine.proofs.RowLaws.{sum_at-combination}
 use Rattle.affine.proofs.laws.combination_is_linear.Goals as goal
 
 pub returns : goal.returns

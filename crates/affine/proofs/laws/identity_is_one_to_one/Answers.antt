@@ -1,4 +1,4 @@
-use Rattle.affine.proofs.OneToOneLemmas.{IsOneToOne-identity}
+use Rattle.affine.proofs.OneToOneLaws.{IsOneToOne-identity}
 use Rattle.affine.proofs.laws.identity_is_one_to_one.Goals as goal
 
 pub returns : goal.returns

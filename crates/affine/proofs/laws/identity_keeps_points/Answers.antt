@@ -1,4 +1,4 @@
-use Rattle.affine.proofs.OneToOneLemmas.{product-identity}
+use Rattle.affine.proofs.OneToOneLaws.{product-identity}
 use Rattle.affine.proofs.laws.identity_keeps_points.Goals as goal
 
 pub returns : goal.returns

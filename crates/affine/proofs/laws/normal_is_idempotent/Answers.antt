@@ -1,4 +1,4 @@
-use Rattle.affine.proofs.NormalLemmas.{normal-normal}
+use Rattle.affine.proofs.NormalLaws.{normal-normal}
 use Rattle.affine.proofs.laws.normal_is_idempotent.Goals as goal
 
 pub returns : goal.returns

@@ -1,4 +1,4 @@
-use Rattle.affine.proofs.NormalLemmas.{Meets-normal}
+use Rattle.affine.proofs.NormalLaws.{Meets-normal}
 use Rattle.affine.proofs.laws.normal_keeps_points.Goals as goal
 
 pub returns : goal.returns

@@ -1,4 +1,4 @@
-use Rattle.affine.proofs.OneToOneLemmas.{IsOneToOne-skew}
+use Rattle.affine.proofs.OneToOneLaws.{IsOneToOne-skew}
 use Rattle.affine.proofs.laws.skew_keeps_one_to_one.Goals as goal
 
 pub returns : goal.returns

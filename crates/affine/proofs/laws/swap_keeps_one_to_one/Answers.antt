@@ -1,4 +1,4 @@
-use Rattle.affine.proofs.OneToOneLemmas.{IsOneToOne-swap}
+use Rattle.affine.proofs.OneToOneLaws.{IsOneToOne-swap}
 use Rattle.affine.proofs.laws.swap_keeps_one_to_one.Goals as goal
 
 pub returns : goal.returns

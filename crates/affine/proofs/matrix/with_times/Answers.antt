@@ -1,7 +1,7 @@
 use Rattle.std.proofs.Common.{◌≡◌, ◌<◌, length, pos, get_or, FitsSigned, arith, rules}
 use Rattle.std.specs.Int.{w64}
 use Rattle.std.proofs.lemmas.Int.{to_z-of_z}
-use Rattle.affine.proofs.MatrixLemmas.{weighted-step, fits-from-small}
+use Rattle.affine.proofs.MatrixLaws.{weighted-step, fits-from-small}
 use Rattle.affine.proofs.matrix.with_times.Goals as goal
 
 pub plus_times-requires : goal.plus_times-requires

@@ -1,6 +1,6 @@
 use Rattle.std.proofs.Common.{arith}
 use Rattle.std.proofs.lemmas.Nat.Gcd.{IsGcd-from_zero, IsGcd-from_mod}
-use Rattle.affine.proofs.DivisorLemmas.{gcd-unique}
+use Rattle.affine.proofs.DivisorLaws.{gcd-unique}
 use Rattle.affine.proofs.row.gcd.Goals as goal
 
 pub loop-b-preserved : goal.loop-b-preserved

@@ -2,7 +2,7 @@ use Rattle.std.proofs.Common.{◌<◌, ◌^◌, pos, length, get_or, FitsSigned,
 use Rattle.std.specs.Int.{w128}
 use Rattle.std.specs.Int.Signed.{nat_abs-le}
 use Rattle.std.proofs.lemmas.Int.{fits_signed_from_abs, to_z-of_z}
-use Rattle.affine.proofs.SumLemmas.{dot-more-is, dot-more-size}
+use Rattle.affine.proofs.SumLaws.{dot-more-is, dot-more-size}
 use Rattle.affine.proofs.sums.dot.Goals as goal
 
 pub with_product-sum-requires : goal.with_product-sum-requires

@@ -1,4 +1,4 @@
-use Rattle.block_exec.proofs.StoredWords.{changes_where_stored}
+use Rattle.block_exec.proofs.StoredWordLaws.{changes_where_stored}
 use Rattle.block_exec.proofs.laws.changes_where_stored.Goals as goal
 
 pub returns : goal.returns

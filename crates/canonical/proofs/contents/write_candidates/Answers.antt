@@ -1,5 +1,5 @@
 use Rattle.canonical.specs.Scripts.{candidate_line}
-use Rattle.canonical.proofs.Texts.{text-more}
+use Rattle.canonical.proofs.PieceLaws.{text-more}
 use Rattle.canonical.proofs.contents.write_candidates.Goals as goal
 
 pub loop-script-preserved : goal.loop-script-preserved

@@ -1,5 +1,5 @@
 use Rattle.canonical.specs.Contents.{item_line}
-use Rattle.canonical.proofs.Texts.{text-more}
+use Rattle.canonical.proofs.PieceLaws.{text-more}
 use Rattle.canonical.proofs.contents.write_items.Goals as goal
 
 pub loop-item-preserved : goal.loop-item-preserved

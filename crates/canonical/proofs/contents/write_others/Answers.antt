@@ -1,5 +1,5 @@
 use Rattle.canonical.specs.Contents.{next_value}
-use Rattle.canonical.proofs.Texts.{text-at}
+use Rattle.canonical.proofs.PieceLaws.{text-at}
 use Rattle.canonical.proofs.contents.write_others.Goals as goal
 
 pub loop-value-preserved : goal.loop-value-preserved

@@ -1,5 +1,5 @@
 use Rattle.canonical.specs.Contents.{scalar_line}
-use Rattle.canonical.proofs.Texts.{text-at}
+use Rattle.canonical.proofs.PieceLaws.{text-at}
 use Rattle.canonical.proofs.contents.write_scalars.Goals as goal
 
 pub loop-scalar-preserved : goal.loop-scalar-preserved

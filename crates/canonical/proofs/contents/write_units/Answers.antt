@@ -1,5 +1,5 @@
 use Rattle.canonical.specs.Contents.{unit_lines}
-use Rattle.canonical.proofs.Texts.{text-more}
+use Rattle.canonical.proofs.PieceLaws.{text-more}
 use Rattle.canonical.proofs.contents.write_units.Goals as goal
 
 pub loop-unit-preserved : goal.loop-unit-preserved

@@ -1,6 +1,6 @@
 use Rattle.std.proofs.Common.{ℕ, List, ◌++◌, sym, ap, ◌∙◌, append-nil}
 use Rattle.canonical.specs.Labelled.{labels_of}
-use Rattle.canonical.proofs.Nested.{loops-empty}
+use Rattle.canonical.proofs.NestedLoopLaws.{loops-empty}
 use Rattle.canonical.proofs.loops.+write_loops.Goals as goal
 
 pub returns-in_default : goal.returns-in_default

@@ -1,5 +1,5 @@
 use Rattle.canonical.specs.Scripts.{next_command}
-use Rattle.canonical.proofs.Texts.{text-more}
+use Rattle.canonical.proofs.PieceLaws.{text-more}
 use Rattle.canonical.proofs.script.write_others.Goals as goal
 
 pub loop-command-preserved : goal.loop-command-preserved

@@ -1,5 +1,5 @@
 use Rattle.canonical.specs.Scripts.{operand}
-use Rattle.canonical.proofs.Texts.{text-at}
+use Rattle.canonical.proofs.PieceLaws.{text-at}
 use Rattle.canonical.proofs.script.write_rows.Goals as goal
 
 pub loop-row-preserved : goal.loop-row-preserved

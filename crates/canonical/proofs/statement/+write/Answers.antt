@@ -1,6 +1,6 @@
 use Rattle.std.proofs.Common.{ℕ, List, ◌++◌, sym, ap, ◌∙◌, append-nil}
 use Rattle.canonical.specs.Labelled.{labels_of}
-use Rattle.canonical.proofs.Stated.{text-next, otherwise-empty}
+use Rattle.canonical.proofs.StatementEquationLaws.{text-next, otherwise-empty}
 use Rattle.canonical.proofs.statement.+write.Goals as goal
 
 pub write_statements-loop-statement-preserved : goal.write_statements-loop-statement-preserved

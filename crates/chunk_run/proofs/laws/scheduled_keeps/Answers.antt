@@ -1,4 +1,4 @@
-use Rattle.chunk_run.proofs.Scheduled.{scheduled-keeps}
+use Rattle.chunk_run.proofs.ScheduleLaws.{scheduled-keeps}
 use Rattle.chunk_run.proofs.laws.scheduled_keeps.Goals as goal
 
 pub returns : goal.returns

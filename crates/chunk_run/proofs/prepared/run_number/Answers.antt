@@ -6,8 +6,8 @@ use Rattle.tiles.specs.Plans.{ChunkPlan, Phase}
 use Rattle.verified_turns.specs.Workers.{TaskState, task_state}
 use Rattle.phase_run.specs.Postings.{PostingState, IsPostable}
 use Rattle.chunk_run.specs.Parts.{phase_at}
-use Rattle.chunk_run.proofs.Readying.{few-cells, few-phases}
-use Rattle.chunk_run.proofs.Phased.{at-number, may-post, followed-phase, changed-phase, gained-phase}
+use Rattle.chunk_run.proofs.ReadyPhaseLaws.{few-cells, few-phases}
+use Rattle.chunk_run.proofs.PostedPhaseLaws.{at-number, may-post, followed-phase, changed-phase, gained-phase}
 use Rattle.chunk_run.proofs.prepared.run_number.Goals as goal
 
 pub new-walks-requires : goal.new-walks-requires

@@ -14,10 +14,11 @@ use Rattle.chunk_run.specs.Parts.{ChangesChunk, IsAttempt}
 use Rattle.chunk_run.specs.Ready.{IsReady}
 use Rattle.chunk_run.specs.Groups.{AttemptGains}
 use Rattle.chunk_run.specs.ChunkEnds.{Between, between, IsCommitted}
-use Rattle.chunk_run.proofs.Scheduled.{from-position}
-use Rattle.chunk_run.proofs.Restoring.{differs-at-kept}
-use Rattle.chunk_run.proofs.Ending.{committed, rolled-back}
-use Rattle.chunk_run.proofs.Ended.{few-attempted}
+use Rattle.chunk_run.proofs.ScheduleLaws.{from-position}
+use Rattle.chunk_run.proofs.ChunkPartLaws.{changes-none, changes-same}
+use Rattle.chunk_run.proofs.RestoringLaws.{differs-at-kept}
+use Rattle.chunk_run.proofs.CommitOrRollbackLaws.{committed, rolled-back}
+use Rattle.chunk_run.proofs.EndedChunkLaws.{few-attempted}
 use Rattle.chunk_run.proofs.run.run_chunk.Goals as goal
 
 pub new-requires : goal.new-requires
@@ -90,9 +91,9 @@ returns-clause-ended g c =
     let attempted = subst (λ (b : List ℕ). IsAttempt t self.nest.now.loops self.outer self.chunk (signed b) c.args.scalars.now c.args.steps.now.left c.in_ok-rest.rest after) same c.in_ok-rest.ensures.attempted in
     let done = subst (λ (o : Option ℕ). IsAttempt t self.nest.now.loops self.outer self.chunk (signed base) c.args.scalars.now c.args.steps.now.left o after) c.in-Some.is attempted in
     let many : c.len.result ≡ length inside.phases.items = search rules in
-    subst (λ (n : ℕ). IsCommitted e self.nest.now.loops self.outer a (between after c.close.new.scalars (record { left = c.in-Some.left; used = c.args.steps.now.used + (c.args.steps.now.left - c.in-Some.left) })) inside.instances n inside.tiles (c.args.steps.now.left - c.in-Some.left)) (sym many)
+    subst (λ (n : ℕ). IsCommitted e self.nest.now.loops self.outer a (between after c.set_closing.new.scalars (record { left = c.in-Some.left; used = c.args.steps.now.used + (c.args.steps.now.left - c.in-Some.left) })) inside.instances n inside.tiles (c.args.steps.now.left - c.in-Some.left)) (sym many)
     (committed g.row.D self.scalars (length base) self.nest.now.loops t c.args.launch.now.schedule.now self.outer self.chunk c.requires.task a c.requires.scalars (length-map base (cast_signed w64)) plan planned
-    after c.close.new.scalars c.in-Some.left (c.args.steps.now.used + (c.args.steps.now.left - c.in-Some.left)) (c.args.steps.now.left - c.in-Some.left) done c.close.ensures refl refl)
+    after c.set_closing.new.scalars c.in-Some.left (c.args.steps.now.used + (c.args.steps.now.left - c.in-Some.left)) (c.args.steps.now.left - c.in-Some.left) done c.set_closing.ensures refl refl)
 
 pub returns-clause-few_phases : goal.returns-clause-few_phases
 returns-clause-few_phases g c =
@@ -112,3 +113,49 @@ returns-clause-few_phases g c =
     let few = few-attempted g.row.D (length base) c.args.launch.now.workers k e plan ready c.args.steps.now.left c.in_ok-rest.rest old new c.take.new.main.view c.attempt.new.main.view gains c.in_ok-rest.ensures.seat in
     let same = ap (λ (s : SeatState). s.view.epoch) c.take.ensures.unchanged in
     omega (arith, few, same)
+
+pub returns-in_err-plan-clause-others : goal.returns-in_err-plan-clause-others
+returns-in_err-plan-clause-others g c = let self = c.args.launch.now.task.now in changes-none self.pred.now self.chunk (signed c.args.main.now.view.base)
+
+pub returns-in_err-backup-clause-others : goal.returns-in_err-backup-clause-others
+returns-in_err-backup-clause-others g c =
+    let self = c.args.launch.now.task.now in
+    let base = c.args.main.now.view.base in
+    let same : c.take.new.main.view.base ≡ base = ap (λ (s : SeatState). s.view.base) c.take.ensures.unchanged in
+    changes-same self.pred.now self.chunk (signed base) (signed c.take.new.main.view.base) (ap signed same)
+
+pub returns-in_err-skeleton-clause-others : goal.returns-in_err-skeleton-clause-others
+returns-in_err-skeleton-clause-others g c =
+    let self = c.args.launch.now.task.now in
+    let base = c.args.main.now.view.base in
+    let same : c.take.new.main.view.base ≡ base = ap (λ (s : SeatState). s.view.base) c.take.ensures.unchanged in
+    changes-same self.pred.now self.chunk (signed base) (signed c.take.new.main.view.base) (ap signed same)
+
+pub returns-in_err-rest-clause-others : goal.returns-in_err-rest-clause-others
+returns-in_err-rest-clause-others g c =
+    let self = c.args.launch.now.task.now in
+    let base = c.args.main.now.view.base in
+    let same : c.take.new.main.view.base ≡ base = ap (λ (s : SeatState). s.view.base) c.take.ensures.unchanged in
+    subst (λ (b : List ℕ). ChangesChunk self.pred.now self.chunk (signed b) (signed c.attempt.new.main.view.base)) same c.attempt.ensures.changes
+
+pub returns-in_default-clause-others : goal.returns-in_default-clause-others
+returns-in_default-clause-others g c =
+    let self = c.args.launch.now.task.now in
+    let t = self.pred.now in
+    let base = c.args.main.now.view.base in
+    let after = signed c.attempt.new.main.view.base in
+    let e : Extent = record { table = t; schedule = c.args.launch.now.schedule.now; chunk = self.chunk } in
+    let same : c.take.new.main.view.base ≡ base = ap (λ (s : SeatState). s.view.base) c.take.ensures.unchanged in
+    let stripes = c.as_slice.ensures.value ∙ ap (λ (p : ChunkPlan). p.stripes) c.plan-2.view_is in
+    let kept = c.in_ok-backup.ensures.addresses ∙ ap addresses_of_all stripes in
+    let changes = subst (λ (b : List ℕ). ChangesChunk t self.chunk (signed b) after) same c.attempt.ensures.changes in
+    let differs : DiffersOnlyAt (addresses_kept c.in_ok-backup.backup) (signed base) after = differs-at-kept e c.count.result c.in_ok-plan.plan c.in_ok-backup.backup (signed base) after c.in_ok-plan.ensures kept changes in
+    changes-same t self.chunk (signed base) (signed c.restore.new.main.view.base)
+    (c.restore.ensures.start (signed base) (c.in_ok-backup.ensures.kept ∙ ap (words_at (signed base)) (sym c.in_ok-backup.ensures.addresses)) differs)
+
+pub returns-clause-others : goal.returns-clause-others
+returns-clause-others g c =
+    let self = c.args.launch.now.task.now in
+    let base = c.args.main.now.view.base in
+    let same : c.take.new.main.view.base ≡ base = ap (λ (s : SeatState). s.view.base) c.take.ensures.unchanged in
+    subst (λ (b : List ℕ). ChangesChunk self.pred.now self.chunk (signed b) (signed c.attempt.new.main.view.base)) same c.attempt.ensures.changes

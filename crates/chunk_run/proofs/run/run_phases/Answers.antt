@@ -10,8 +10,8 @@ use Rattle.verified_turns.specs.Workers.{TaskState, task_state}
 use Rattle.chunk_run.specs.Parts.{IsAttempt}
 use Rattle.chunk_run.specs.Ready.{IsReady}
 use Rattle.chunk_run.specs.Groups.{AttemptGains}
-use Rattle.chunk_run.proofs.Readying.{few-phases}
-use Rattle.chunk_run.proofs.Attempting.{PhaseIs, stands-none, stands-more, attempt-whole, ends-failed, ends-apart, ends-long}
+use Rattle.chunk_run.proofs.ReadyPhaseLaws.{few-phases}
+use Rattle.chunk_run.proofs.AttemptingLaws.{PhaseIs, stands-none, stands-more, attempt-whole, ends-failed, ends-apart, ends-long}
 use Rattle.chunk_run.proofs.run.run_phases.Goals.{else-number-eq0-via-then-number-eq0+else-not-begins, else-number-eq0-via-else-number-eq0}
 use Rattle.chunk_run.proofs.run.run_phases.Goals as goal
 

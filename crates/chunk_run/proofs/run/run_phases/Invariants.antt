@@ -1,6 +1,6 @@
 use Rattle.std.proofs.Common.{◌≡◌, ◌≤◌, ◌+◌, length, vec_len, vec_capacity}
 use Rattle.verified_turns.specs.Workers.{task_state}
-use Rattle.chunk_run.proofs.Attempting.{Stands}
+use Rattle.chunk_run.proofs.AttemptingLaws.{Stands}
 use Rattle.chunk_run.proofs.run.run_phases.Given as goal
 
 abbrev pub invariant-loop-number : goal.invariant-loop-number

@@ -1,6 +1,6 @@
 use Rattle.std.proofs.Common.{◌≡◌, sym, ap, ◌∙◌, length, rules}
 use Rattle.domain.specs.Instances.{opening_at}
-use Rattle.chunk_run.proofs.Opening.{count-opening, length-opening, few-opening, first-is}
+use Rattle.chunk_run.proofs.OpeningLaws.{count-opening, length-opening, few-opening, first-is}
 use Rattle.chunk_run.proofs.scalars.begins.Goals as goal
 
 pub scalars_at-expected-requires : goal.scalars_at-expected-requires

@@ -1,7 +1,7 @@
 use Rattle.std.proofs.Common.{codes, refl, [], ◌∷◌}
 use Rattle.clap.proofs.OnLiterals.{clap_on_literals}
-use Rattle.command_line.proofs.Computed.{not-a-mode, not-a-size, not-steps, not-taken, not-workers, too-few-arguments, with-arguments}
-use Rattle.command_line.proofs.Found.{mode_of}
+use Rattle.command_line.proofs.ExampleLaws.{not-a-mode, not-a-size, not-steps, not-taken, not-workers, too-few-arguments, with-arguments}
+use Rattle.command_line.proofs.FoundWordLaws.{mode_of}
 use Rattle.command_line.proofs.laws.no_invocations.Goals as goal
 
 pub returns : goal.returns

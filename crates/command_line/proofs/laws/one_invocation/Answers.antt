@@ -1,4 +1,4 @@
-use Rattle.command_line.proofs.Found.{one_invocation}
+use Rattle.command_line.proofs.FoundWordLaws.{one_invocation}
 use Rattle.command_line.proofs.laws.one_invocation.Goals as goal
 
 pub returns : goal.returns

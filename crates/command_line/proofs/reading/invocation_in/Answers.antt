@@ -1,4 +1,4 @@
-use Rattle.command_line.proofs.Found.{nothing}
+use Rattle.command_line.proofs.FoundWordLaws.{nothing}
 use Rattle.command_line.proofs.reading.invocation_in.Goals as goal
 
 pub returns-in_err-mode_in : goal.returns-in_err-mode_in

@@ -4,8 +4,8 @@ use Rattle.clap.specs.Words.{App, Row, fault_of, found_of, is_simple, is_simple_
 use Rattle.clap.specs.declared.error.kind.ErrorKind.TheVariants.{OutOfMemory}
 use Rattle.command_line.specs.Syntax.{syntax}
 use Rattle.command_line.specs.Invocations.{IsFoundInvocation}
-use Rattle.command_line.proofs.Found.{finds-the-same}
-use Rattle.command_line.proofs.Taken.{takes-no-fault}
+use Rattle.command_line.proofs.FoundWordLaws.{finds-the-same}
+use Rattle.command_line.proofs.TakenWordLaws.{takes-no-fault}
 use Rattle.command_line.proofs.reading.invocation_of.Goals as goal
 
 pub returns-in-Ok : goal.returns-in-Ok

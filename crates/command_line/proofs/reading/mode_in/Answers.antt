@@ -3,7 +3,7 @@ use Rattle.clap.specs.Words.{Text, all_of, first_of, found_of, rows_of}
 use Rattle.clap.proofs.WalkLemmas.{raw_values-rows}
 use Rattle.command_line.specs.Invocations.{IsFoundMode}
 use Rattle.command_line.specs.Modes.{IsModeOf}
-use Rattle.command_line.proofs.Found.{nothing, finds-the-same, first_of-given, same_text}
+use Rattle.command_line.proofs.FoundWordLaws.{nothing, finds-the-same, first_of-given, same_text}
 use Rattle.command_line.proofs.reading.mode_in.Goals as goal
 
 pub returns-in_err-get_str : goal.returns-in_err-get_str

@@ -1,6 +1,6 @@
 use Rattle.std.proofs.Common.{◌≡◌, ◌∙◌, ap, pos, Some, None, option_map}
 use Rattle.clap.specs.Words.{found_of, rows_of, first_of}
-use Rattle.command_line.proofs.Found.{nothing, finds-the-same, first_of-given, no-number, number-there}
+use Rattle.command_line.proofs.FoundWordLaws.{nothing, finds-the-same, first_of-given, no-number, number-there}
 use Rattle.command_line.proofs.reading.number_of.Goals as goal
 
 pub returns-in_err-get_str : goal.returns-in_err-get_str

@@ -1,4 +1,4 @@
-use Rattle.command_line.proofs.Found.{nothing, no-number-below}
+use Rattle.command_line.proofs.FoundWordLaws.{nothing, no-number-below}
 use Rattle.command_line.proofs.reading.options_in.Goals as goal
 
 pub returns-in_err-number_of : goal.returns-in_err-number_of

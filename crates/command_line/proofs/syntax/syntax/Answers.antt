@@ -4,7 +4,7 @@ use Rattle.clap.specs.Lexer.{usize_max}
 use Rattle.clap.specs.Simple.{app_of_fields, on_top}
 use Rattle.clap.specs.Words.{App, Rule, rule_of, with_rule}
 use Rattle.command_line.specs.Syntax.{args_rule, mode_rule}
-use Rattle.command_line.proofs.Found.{some-that}
+use Rattle.command_line.proofs.FoundWordLaws.{some-that}
 use Rattle.command_line.proofs.syntax.syntax.Goals as goal
 
 abbrev nameless : App → App

@@ -1,4 +1,4 @@
-use Rattle.compare.proofs.PredictedChains.{chain-at-predictions}
+use Rattle.compare.proofs.PredictedChainLaws.{chain-at-predictions}
 use Rattle.compare.proofs.laws.chain.Goals as goal
 
 pub returns : goal.returns

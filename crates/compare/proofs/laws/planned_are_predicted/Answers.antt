@@ -1,4 +1,4 @@
-use Rattle.compare.proofs.PredictedChains.{planned-are-original, planned-are-predicted, predicted-occur, successors-are-planned, next_turn-opens}
+use Rattle.compare.proofs.PredictedChainLaws.{planned-are-original, planned-are-predicted, predicted-occur, successors-are-planned, next_turn-opens}
 use Rattle.compare.proofs.laws.planned_are_predicted.Goals as goal
 
 pub returns : goal.returns

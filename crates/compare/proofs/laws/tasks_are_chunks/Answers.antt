@@ -1,4 +1,4 @@
-use Rattle.compare.proofs.PredictedChains.{tasks-are-chunks}
+use Rattle.compare.proofs.PredictedChainLaws.{tasks-are-chunks}
 use Rattle.compare.proofs.CompareLaws.{tasks-are-watchable}
 use Rattle.compare.proofs.laws.tasks_are_chunks.Goals as goal
 

@@ -1,5 +1,5 @@
 use Rattle.std.proofs.Common.{◌≡◌, ◌≢◌, ◌<◌, ℕ, ℤ, pos, List, length, set, get_or, to_z, of_z, w64, arith, rules, get_or-set_other, get_or-set_same, length-set, below_more, ◌∙◌}
-use Rattle.compare.proofs.Occurring.{point-is}
+use Rattle.compare.proofs.OccurringLaws.{point-is}
 use Rattle.compare.proofs.occurrence.padded.Goals as goal
 
 set-here : (xs : List ℤ) (i : ℕ) (v w : ℤ) → i < length xs → v ≡ w → get_or (set xs i v) i (pos 0) ≡ w

@@ -1,5 +1,5 @@
 use Rattle.std.proofs.Common.{sym, ap, ◌∙◌, length}
-use Rattle.compare.proofs.Occurring.{rank-found, rank-missing}
+use Rattle.compare.proofs.OccurringLaws.{rank-found, rank-missing}
 use Rattle.compare.proofs.occurrence.rank.Goals as goal
 
 pub returns-in-Some : goal.returns-in-Some

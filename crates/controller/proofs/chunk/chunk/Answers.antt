@@ -10,10 +10,10 @@ use Rattle.journeys.specs.Settings.{Setting, turns_within, chunk_turns, next_chu
 use Rattle.controller.specs.declared.stage.Stage.TheVariants.{Chunks, Plainly, Over}
 use Rattle.nest_lang.specs.declared.budget.Ending.TheVariants.{Ended}
 use Rattle.controller.specs.Courses.{IsSetting, Led}
-use Rattle.controller.proofs.NextChunk.{turns-from, turns-to, first-from, first-soon, next-made}
-use Rattle.controller.proofs.Going.{led-with-none}
-use Rattle.controller.proofs.ChunkWays.{ended-led, held-led, none-broke}
-use Rattle.controller.proofs.Plainly.{if-err}
+use Rattle.controller.proofs.NextChunkLaws.{turns-from, turns-to, first-from, first-soon, next-made}
+use Rattle.controller.proofs.StageLaws.{led-with-none}
+use Rattle.controller.proofs.ChunkWayLaws.{ended-led, held-led, none-broke}
+use Rattle.controller.proofs.PlainTurnLaws.{if-err}
 use Rattle.journeys.specs.Stages as stages
 use Rattle.controller.proofs.chunk.chunk.Goals as goal
 

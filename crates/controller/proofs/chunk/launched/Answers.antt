@@ -9,9 +9,9 @@ use Rattle.journeys.specs.Stages as stages
 use Rattle.journeys.specs.Stages.{FollowsIt}
 use Rattle.controller.specs.Machines.{IsPlaced, HasRun}
 use Rattle.controller.specs.Courses.{IsSetting}
-use Rattle.controller.proofs.Plainly.{if-err, if-ok}
-use Rattle.controller.proofs.NextChunk.{first-fits, turns-fit, made-task, made-legal, chosen-candidate}
-use Rattle.controller.proofs.ChunkWays.{committed-broke, committed-with, none-broke, rolled-back-deviates, rolled-broke, rolled-with}
+use Rattle.controller.proofs.PlainTurnLaws.{if-err, if-ok}
+use Rattle.controller.proofs.NextChunkLaws.{first-fits, turns-fit, made-task, made-legal, chosen-candidate}
+use Rattle.controller.proofs.ChunkWayLaws.{committed-broke, committed-with, none-broke, rolled-back-deviates, rolled-broke, rolled-with}
 use Rattle.controller.proofs.chunk.launched.Goals as goal
 
 pub run_chunk-requires : goal.run_chunk-requires

@@ -16,10 +16,10 @@ use Rattle.controller.specs.declared.stage.Chosen.{Chosen}
 use Rattle.controller.specs.declared.stage.Stage.{Stage}
 use Rattle.controller.specs.declared.stage.Stage.TheVariants.{Chunks, Plainly}
 use Rattle.controller.specs.Courses.{IsSetting, Led, given_up}
-use Rattle.controller.proofs.Plainly.{plain-led, difference-fits, done-few, next-fits, if-ok}
-use Rattle.controller.proofs.NextChunk.{chunk-some, first-fits, turns-fit, turns-are, turns_within-again}
-use Rattle.controller.proofs.DeviationPlaces.{deviation-place, table-some}
-use Rattle.controller.proofs.ChunkWays.{led-more, rolled-led, told-deviation}
+use Rattle.controller.proofs.PlainTurnLaws.{plain-led, difference-fits, done-few, next-fits, if-ok}
+use Rattle.controller.proofs.NextChunkLaws.{chunk-some, first-fits, turns-fit, turns-are, turns_within-again}
+use Rattle.controller.proofs.DeviationPlaceLaws.{deviation-place, table-some}
+use Rattle.controller.proofs.ChunkWayLaws.{led-more, rolled-led, told-deviation}
 use Rattle.controller.proofs.chunk.rolled_back.Goals as goal
 
 pub unreachable-requires : goal.unreachable-requires
@@ -28,7 +28,7 @@ unreachable-requires g c =
     let s = c.args.course.now in
     let m = c.args.machine.now.moment in
     let told = told-deviation t s m c.run-turned.new.self.moment c.args.task.chunk c.new.result c.run-turned.result.1 (finish_of_turned c.run-turned.result.0) c.scalars.result.now c.close.result
-    (c.requires.task).some (c.requires.task).most c.requires.next c.new.ensures c.run-turned.ensures.ran c.run-turned.ensures.shown c.scalars.ensures.value c.close.ensures in
+    c.requires.placed (c.requires.task).some (c.requires.task).most c.requires.next c.new.ensures c.run-turned.ensures.ran c.run-turned.ensures.shown c.scalars.ensures.value c.close.ensures.first in
     c.requires.deviates (subst (λ (r : Option (code.Deviation g.row.D)). IsDeviationOf t (next_chunk s m) (chunk_run_from t s m) r) c.in_default.is told)
 
 pub of-requires : goal.of-requires
@@ -37,7 +37,7 @@ of-requires g c =
     let s = c.args.course.now in
     let m = c.args.machine.now.moment in
     let told = told-deviation t s m c.run-turned.new.self.moment c.args.task.chunk c.new.result c.run-turned.result.1 (finish_of_turned c.run-turned.result.0) c.scalars.result.now c.close.result
-    (c.requires.task).some (c.requires.task).most c.requires.next c.new.ensures c.run-turned.ensures.ran c.run-turned.ensures.shown c.scalars.ensures.value c.close.ensures in
+    c.requires.placed (c.requires.task).some (c.requires.task).most c.requires.next c.new.ensures c.run-turned.ensures.ran c.run-turned.ensures.shown c.scalars.ensures.value c.close.ensures.first in
     let deviates = subst (λ (r : Option (code.Deviation g.row.D)). IsDeviationOf t (next_chunk s m) (chunk_run_from t s m) r) c.in-Some.is told in
     let table : IsTableOf c.args.task.scalars s.loops t = subst (λ (ls : List Loop). IsTableOf c.args.task.scalars ls t) c.requires.nest (c.requires.task).table in
     let here = deviation-place c.args.task.scalars s m t c.in-Some.deviation table (table-some g.row.D t (c.requires.task).shape) deviates in
@@ -76,7 +76,7 @@ returns-clause-led g c =
     let few = turns-fit s m set p c.requires.turn c.args.task.chunk c.requires.next in
     let turns = turns-are s m c.args.task.chunk task.some task.most c.requires.next in
     let told = told-deviation t s m after c.args.task.chunk c.new.result c.run-turned.result.1 (finish_of_turned c.run-turned.result.0) c.scalars.result.now c.close.result
-    task.some task.most c.requires.next c.new.ensures c.run-turned.ensures.ran c.run-turned.ensures.shown c.scalars.ensures.value c.close.ensures in
+    p task.some task.most c.requires.next c.new.ensures c.run-turned.ensures.ran c.run-turned.ensures.shown c.scalars.ensures.value c.close.ensures.first in
     let deviates = subst (λ (r : Option (code.Deviation g.row.D)). IsDeviationOf t (next_chunk s m) (chunk_run_from t s m) r) c.in-Some.is told in
     let launched : IsLaunched t (words_at m) (next_chunk s m) (task.launched).0 = subst (λ (k : Chunk). IsLaunched t (words_at m) k (task.launched).0) c.requires.next (task.launched).1 in
     let pushed : mid ≡ before ++ said.Rollback c.args.task.chunk.first c.args.task.chunk.turns c.of.result deviation.how ∷ [] = search rules in

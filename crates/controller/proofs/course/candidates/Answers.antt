@@ -1,6 +1,6 @@
 use Rattle.std.proofs.Common.{◌≡◌, ◌∙◌, length, rules}
 use Rattle.controller.proofs.CandidateLaws.{candidates-own, candidates-standard}
-use Rattle.controller.proofs.Plainly.{if-ok}
+use Rattle.controller.proofs.PlainTurnLaws.{if-ok}
 use Rattle.controller.proofs.course.candidates.Goals as goal
 
 pub returns-then-is_empty : goal.returns-then-is_empty

@@ -1,11 +1,13 @@
-use Rattle.std.proofs.Common.{◌≡◌, ◌∙◌, ap, length, ℤ, List, arith}
+use Rattle.std.proofs.Common.{◌≡◌, ◌∙◌, ap, sym, subst, length, ℤ, List, arith}
 use Rattle.std.proofs.lemmas.Result.{err_from_is_err_and}
 use Rattle.core_steps.specs.States.{bits_of}
 use Rattle.core_steps.specs.declared.view.View.{View}
 use Rattle.nest_lang.specs.Stores.{Store}
 use Rattle.nest_lang.specs.Runs.{finish_of_ending}
 use Rattle.nest_grammar.specs.Files.{first_store}
-use Rattle.controller.proofs.Starts.{journey-broke, journey-handed, journey-unbegun, journey-unfinished, scalars-same, store-shown, words-few}
+use Rattle.profile.specs.Reach.{IsOfI64s}
+use Rattle.controller.proofs.FileNumberLaws.{store-of-i64s}
+use Rattle.controller.proofs.StartLaws.{journey-broke, journey-handed, journey-unbegun, journey-unfinished, scalars-same, store-shown, words-few}
 use Rattle.controller.proofs.StandingLaws.{journey-stands}
 use Rattle.controller.proofs.file.journey.Goals as goal
 
@@ -16,6 +18,15 @@ new-requires g c =
     let few = words-few file c.file.ensures.of_text in
     let same = ap (λ (ws : List ℤ). length ws) words in
     omega (arith, few, same)
+
+pub run_nests-requires-clause-fits : goal.run_nests-requires-clause-fits
+run_nests-requires-clause-fits g c =
+    let file = c.args.file.now in
+    let words : c.as_slice.result.now ≡ (first_store file).memory = c.as_slice.ensures.value ∙ ap (λ (s : Store). s.memory) c.memory.view_is ∙ ap (λ (s : Store). s.memory) c.in_ok-memory.ensures.store in
+    let scalars = ap (λ (s : Store). s.scalars) c.memory.view_is ∙ ap (λ (s : Store). s.scalars) c.in_ok-memory.ensures.store in
+    let base : c.in_ok-words.main.view.base ≡ bits_of c.as_slice.result.now = ap (λ (v : View). v.base) c.in_ok-words.ensures.view in
+    let store = c.new-machine.ensures.store ∙ store-shown file c.file.ensures.of_text c.in_ok-words.main.view.base c.as_slice.result.now c.memory.inside.scalars.items base words scalars in
+    λ _ _. subst (λ (s : Store). IsOfI64s s) (sym store) (store-of-i64s file c.file.ensures.of_text)
 
 pub run_nests-requires-clause-reach : goal.run_nests-requires-clause-reach
 run_nests-requires-clause-reach g c =

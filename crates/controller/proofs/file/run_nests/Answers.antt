@@ -3,12 +3,12 @@ use Rattle.std.specs.Prelude.{slice_get}
 use Rattle.std.proofs.lemmas.List.{length-map}
 use Rattle.nest_grammar.specs.declared.file.NestUnit.{NestUnit}
 use Rattle.nest_grammar.specs.Files.{nests_of}
-use Rattle.controller.proofs.Nests.{heading-at, is-unit, nested-broke, nested-end, nested-next, nested-out, nested-room, nested-start, nested-stopped, nests-few, unit-at}
-use Rattle.controller.proofs.Plainly.{if-err}
+use Rattle.controller.proofs.NestLaws.{heading-at, is-unit, nested-broke, nested-end, nested-next, nested-out, nested-room, nested-start, nested-stopped, nests-few, unit-at}
+use Rattle.controller.proofs.PlainTurnLaws.{if-err}
 use Rattle.controller.proofs.file.run_nests.Goals as goal
 
 pub nests-init : goal.nests-init
-nests-init g c = nested-start c.args.options.now c.args.file.now c.args.machine.now c.args.lines.now.items (g.C.Crew.handed c.args.crew.now) c.requires.count
+nests-init g c = nested-start c.args.options.now c.args.file.now c.args.machine.now c.args.lines.now.items (g.C.Crew.handed c.args.crew.now) c.requires.count c.requires.fits
 
 pub overflow_cast-number : goal.overflow_cast-number
 overflow_cast-number g c =

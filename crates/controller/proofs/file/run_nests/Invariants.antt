@@ -1,4 +1,4 @@
-use Rattle.controller.proofs.Nests.{Nested}
+use Rattle.controller.proofs.NestLaws.{Nested}
 use Rattle.controller.proofs.file.run_nests.Given as goal
 
 abbrev pub invariant-nests : goal.invariant-nests

@@ -1,5 +1,5 @@
 use Rattle.std.proofs.Common.{◌≡◌, rules}
-use Rattle.controller.proofs.Entries.{entry-answer}
+use Rattle.controller.proofs.EntryLaws.{entry-answer}
 use Rattle.controller.proofs.machine.enter_at.Goals as goal
 
 pub returns-in-At-clause-entered : goal.returns-in-At-clause-entered

@@ -1,7 +1,7 @@
 use Rattle.std.proofs.Common.{refl, ◌≤◌, ◌^◌, rules}
 use Rattle.controller.specs.declared.stage.Stage.TheVariants.{Profiles, Chunks, Plainly}
-use Rattle.controller.proofs.Going.{along-broke, along-by, along-over, along-room, along-start, along-stopped, led-with-none}
-use Rattle.controller.proofs.Plainly.{if-err}
+use Rattle.controller.proofs.StageLaws.{along-broke, along-by, along-over, along-room, along-start, along-stopped, led-with-none}
+use Rattle.controller.proofs.PlainTurnLaws.{if-err}
 use Rattle.controller.proofs.nest.run_stages.Goals as goal
 
 pub stages-init : goal.stages-init

@@ -1,5 +1,5 @@
 use Rattle.controller.specs.Courses.{rest_of}
-use Rattle.controller.proofs.Going.{Along}
+use Rattle.controller.proofs.StageLaws.{Along}
 use Rattle.controller.proofs.nest.run_stages.Given as goal
 
 abbrev pub invariant-stages : goal.invariant-stages

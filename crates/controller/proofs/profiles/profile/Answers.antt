@@ -7,7 +7,7 @@ use Rattle.journeys.specs.Settings.{Setting, observed, profile_turns, turns_with
 use Rattle.controller.specs.declared.stage.Stage.TheVariants.{Profiles, Over}
 use Rattle.controller.specs.Courses.{IsJudged, Led, ending_of}
 use Rattle.controller.proofs.ProfileLaws.{kept-observed, profile-judged, profile-none, profile-stopped, profile-told, profile-used_up}
-use Rattle.controller.proofs.Plainly.{if-ok}
+use Rattle.controller.proofs.PlainTurnLaws.{if-ok}
 use Rattle.controller.proofs.profiles.profile.Goals as goal
 
 pub returns-then-not-has_turn-clause-led : goal.returns-then-not-has_turn-clause-led

@@ -5,7 +5,7 @@ use Rattle.report.specs.declared.line.Line.TheVariants as said
 use Rattle.controller.specs.declared.stage.Stage.{Stage}
 use Rattle.controller.specs.declared.stage.Stage.TheVariants.{Plainly}
 use Rattle.controller.specs.Courses.{Led}
-use Rattle.controller.proofs.Plainly.{plain-led, difference-fits, done-few, next-fits, if-ok}
+use Rattle.controller.proofs.PlainTurnLaws.{plain-led, difference-fits, done-few, next-fits, if-ok}
 use Rattle.controller.proofs.turns.plainly.Goals as goal
 
 pub after_turns-requires : goal.after_turns-requires

@@ -1,4 +1,4 @@
-use Rattle.core_steps.proofs.Phases.{reached-sound, known-held, main-failed}
+use Rattle.core_steps.proofs.PhaseLaws.{reached-sound, known-held, main-failed}
 use Rattle.std.proofs.Common.{refl}
 use Rattle.core_steps.proofs.laws.before_settle.Goals as goal
 

@@ -1,4 +1,4 @@
-use Rattle.core_steps.proofs.Phases.{reached-sound, one-holder-of}
+use Rattle.core_steps.proofs.PhaseLaws.{reached-sound, one-holder-of}
 use Rattle.core_steps.proofs.laws.one_holder.Goals as goal
 
 pub returns : goal.returns

@@ -1,4 +1,4 @@
-use Rattle.core_steps.proofs.Phases.{phase-state}
+use Rattle.core_steps.proofs.PhaseLaws.{phase-state}
 use Rattle.core_steps.proofs.OneWriter.{one-writer-of}
 use Rattle.core_steps.proofs.laws.one_writer.Goals as goal
 

@@ -1,4 +1,4 @@
-use Rattle.core_steps.proofs.Phases.{other-words-keep}
+use Rattle.core_steps.proofs.PhaseLaws.{other-words-keep}
 use Rattle.core_steps.proofs.laws.others_keep.Goals as goal
 
 pub returns : goal.returns

@@ -1,5 +1,5 @@
 use Rattle.std.proofs.Common.{refl, arith}
-use Rattle.core_steps.proofs.PlanTests.{all-alone-below}
+use Rattle.core_steps.proofs.PlanTestLaws.{all-alone-below}
 use Rattle.core_steps.proofs.plan.all_write_alone.Goals as goal
 
 pub returns : goal.returns

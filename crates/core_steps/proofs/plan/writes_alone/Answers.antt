@@ -1,5 +1,5 @@
 use Rattle.std.proofs.Common.{true≢false, sym, refl, arith}
-use Rattle.core_steps.proofs.PlanTests.{not-alone, alone-below}
+use Rattle.core_steps.proofs.PlanTestLaws.{not-alone, alone-below}
 use Rattle.core_steps.proofs.plan.writes_alone.Goals as goal
 
 pub returns-then-not-is_apart_from : goal.returns-then-not-is_apart_from

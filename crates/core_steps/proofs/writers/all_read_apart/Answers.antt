@@ -4,7 +4,7 @@ use Rattle.std.specs.HashMap.{get}
 use Rattle.core_steps.specs.declared.plan.Tile.{Tile}
 use Rattle.core_steps.specs.Plans.{no_tile}
 use Rattle.core_steps.specs.Writers.{ReadsApart}
-use Rattle.core_steps.proofs.NumberLists.{not_both}
+use Rattle.core_steps.proofs.NumberListLaws.{not_both}
 use Rattle.core_steps.proofs.writers.all_read_apart.Goals as goal
 
 pub returns-then-not-reads_apart : goal.returns-then-not-reads_apart

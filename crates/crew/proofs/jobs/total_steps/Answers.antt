@@ -1,5 +1,5 @@
 use Rattle.std.proofs.Common.{ap, arith}
-use Rattle.crew.proofs.Totals.{total-more}
+use Rattle.crew.proofs.TotalLaws.{total-more}
 use Rattle.crew.proofs.jobs.total_steps.Goals as goal
 
 pub loop-job-preserved : goal.loop-job-preserved

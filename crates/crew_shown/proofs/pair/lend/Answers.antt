@@ -4,7 +4,7 @@ use Rattle.core_steps.specs.declared.plan.Plan.{Plan}
 use Rattle.core_steps.specs.declared.view.View.{View}
 use Rattle.follow_chunk.specs.Tasks.{IsTask}
 use Rattle.shared_words.specs.Seats.{memory_words}
-use Rattle.crew_shown.proofs.EmptyTiles.{none-in, none-at-all, few-empties}
+use Rattle.crew_shown.proofs.EmptyTileLaws.{none-in, none-at-all, few-empties}
 use Rattle.crew_shown.proofs.pair.lend.Goals as goal
 
 pub new-requires : goal.new-requires

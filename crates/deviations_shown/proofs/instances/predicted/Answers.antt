@@ -4,9 +4,9 @@ use Rattle.std.proofs.lemmas.Int.{ints}
 use Rattle.plain_lemmas.proofs.IntegerLaws.{int_lt-true}
 use Rattle.domain.specs.Instances.{Instance, Predicted, opening_at}
 use Rattle.domain.proofs.OriginalLaws.{opening-predicted}
-use Rattle.follow_chunk.proofs.Standing.{can-turn}
-use Rattle.compare.proofs.PredictedChains.{tasks-are-chunks}
-use Rattle.deviations_shown.proofs.Listing.{in-chunk, all-with}
+use Rattle.follow_chunk.proofs.LaunchedInstanceLaws.{can-turn}
+use Rattle.compare.proofs.PredictedChainLaws.{tasks-are-chunks}
+use Rattle.deviations_shown.proofs.ListingLaws.{in-chunk, all-with}
 use Rattle.deviations_shown.proofs.instances.predicted.Goals as goal
 
 pub loop-done-init : goal.loop-done-init

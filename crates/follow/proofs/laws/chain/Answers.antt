@@ -1,4 +1,4 @@
-use Rattle.follow.proofs.Saying.{chain-law}
+use Rattle.follow.proofs.ChainLaws.{chain-law}
 use Rattle.follow.proofs.laws.chain.Goals as goal
 
 pub returns : goal.returns

@@ -1,5 +1,5 @@
-use Rattle.follow.proofs.Deviating.{deviates-or-follows}
-use Rattle.follow.proofs.Deviating.{not-both}
+use Rattle.follow.proofs.DeviatingLaws.{deviates-or-follows}
+use Rattle.follow.proofs.DeviatingLaws.{not-both}
 use Rattle.follow.proofs.laws.deviates_or_follows.Goals as goal
 
 pub returns-clause-one : goal.returns-clause-one

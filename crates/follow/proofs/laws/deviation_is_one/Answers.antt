@@ -1,4 +1,4 @@
-use Rattle.follow.proofs.Deviating.{deviation-is-one}
+use Rattle.follow.proofs.DeviatingLaws.{deviation-is-one}
 use Rattle.follow.proofs.laws.deviation_is_one.Goals as goal
 
 pub returns : goal.returns

@@ -1,4 +1,4 @@
-use Rattle.follow.proofs.Reordering.{order-keeps}
+use Rattle.follow.proofs.ReorderingLaws.{order-keeps}
 use Rattle.follow.proofs.laws.order_keeps.Goals as goal
 
 pub returns : goal.returns

@@ -1,5 +1,5 @@
-use Rattle.follow.proofs.Reordering.{permutation-keeps}
-use Rattle.follow.proofs.Reordering.{places-keep}
+use Rattle.follow.proofs.ReorderingLaws.{permutation-keeps}
+use Rattle.follow.proofs.ReorderingLaws.{places-keep}
 use Rattle.follow.proofs.laws.permutation_keeps.Goals as goal
 
 pub returns-clause-permutation : goal.returns-clause-permutation

@@ -1,7 +1,7 @@
-use Rattle.follow.proofs.Ranking.{original-order}
-use Rattle.follow.proofs.Having.{planned-some}
-use Rattle.follow.proofs.Beginning.{planned-first}
-use Rattle.follow.proofs.Finding.{planned-by-instance}
+use Rattle.follow.proofs.OriginalOrderLaws.{original-order}
+use Rattle.follow.proofs.TurnInstanceLaws.{planned-some}
+use Rattle.follow.proofs.FirstBlockLaws.{planned-first}
+use Rattle.follow.proofs.FindingLaws.{planned-by-instance}
 use Rattle.follow.proofs.laws.planned_in_order.Goals as goal
 
 pub returns-clause-ordered : goal.returns-clause-ordered

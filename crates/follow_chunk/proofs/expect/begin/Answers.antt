@@ -1,7 +1,7 @@
 use Rattle.std.proofs.Common.{◌≡◌, ◌≤◌, ◌∙◌, sym, pos, FitsSigned, w64, get_or, length, arith, rules}
 use Rattle.std.proofs.lemmas.List.{take_all}
 use Rattle.follow_chunk.specs.Predicted.{scalars_at}
-use Rattle.follow_chunk.proofs.Predicting.{scalar-set, length-scalars}
+use Rattle.follow_chunk.proofs.PredictingLaws.{scalar-set, length-scalars}
 use Rattle.follow_chunk.proofs.expect.begin.Goals as goal
 
 pub loop-number-preserved : goal.loop-number-preserved

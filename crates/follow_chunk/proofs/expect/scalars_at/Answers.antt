@@ -3,7 +3,7 @@ use Rattle.std.specs.Int.{w128}
 use Rattle.std.proofs.lemmas.Int.{to_z-of_z}
 use Rattle.std.proofs.lemmas.List.{take_all}
 use Rattle.follow_chunk.specs.Predicted.{scalars_at}
-use Rattle.follow_chunk.proofs.Predicting.{scalar-next, length-scalars}
+use Rattle.follow_chunk.proofs.PredictingLaws.{scalar-next, length-scalars}
 use Rattle.follow_chunk.proofs.expect.scalars_at.Goals as goal
 
 pub loop-number-preserved : goal.loop-number-preserved

@@ -2,7 +2,7 @@ use Rattle.std.proofs.Common.{refl, subst, Result, ℕ, length, pos}
 use Rattle.follow.specs.declared.how.Differs.{Differs}
 use Rattle.follow.specs.Told.{told}
 use Rattle.follow_chunk.specs.Followed.{IsRun}
-use Rattle.follow_chunk.proofs.Whole.{follows-by, deviates-by}
+use Rattle.follow_chunk.proofs.WholeInstanceLaws.{follows-by, deviates-by}
 use Rattle.follow_chunk.proofs.instance.follow_instance.Goals as goal
 
 pub returns-in-Ok-clause-followed : goal.returns-in-Ok-clause-followed

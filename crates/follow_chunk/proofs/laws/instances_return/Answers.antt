@@ -1,4 +1,4 @@
-use Rattle.follow_chunk.proofs.Conflicts.{instances-return}
+use Rattle.follow_chunk.proofs.ConflictLaws.{instances-return}
 use Rattle.follow_chunk.proofs.laws.instances_return.Goals as goal
 
 pub returns : goal.returns

@@ -4,8 +4,8 @@ use Rattle.domain.specs.Instances.{Instance, Predicted}
 use Rattle.follow_chunk.specs.declared.task.Followed.{Followed}
 use Rattle.follow_chunk.specs.Tasks.{IsTask}
 use Rattle.follow_chunk.specs.Followed.{FirstDeviates, IsInstanceFollowed}
-use Rattle.follow_chunk.proofs.Whole.{follows-few}
-use Rattle.follow_chunk.proofs.Listing.{all-at, next-follows, list-none, list-first, long-after}
+use Rattle.follow_chunk.proofs.WholeInstanceLaws.{follows-few}
+use Rattle.follow_chunk.proofs.ListingLaws.{all-at, next-follows, list-none, list-first, long-after}
 use Rattle.follow_chunk.proofs.list.follow_list.Goals as goal
 
 pub follow_instance-requires : goal.follow_instance-requires

@@ -4,7 +4,7 @@ use Rattle.follow.specs.Told.{told}
 use Rattle.follow_chunk.specs.declared.task.Followed.{Followed}
 use Rattle.follow_chunk.specs.Verifies.{IsShort}
 use Rattle.follow_chunk.specs.Followed.{IsRun, IsInstanceFollowed, IsClosedSmall}
-use Rattle.follow_chunk.proofs.Whole.{follows-by, deviates-by, run-few}
+use Rattle.follow_chunk.proofs.WholeInstanceLaws.{follows-by, deviates-by, run-few}
 use Rattle.follow_chunk.proofs.verified.follow_verified.Goals as goal
 
 pub returns-in-Ok-clause-followed : goal.returns-in-Ok-clause-followed

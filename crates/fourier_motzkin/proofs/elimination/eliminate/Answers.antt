@@ -2,7 +2,7 @@ use Rattle.std.proofs.Common.{◌∙◌, sym, subst}
 use Rattle.fourier_motzkin.proofs.EliminationLaws.{eliminated-is}
 use Rattle.fourier_motzkin.specs.Elimination.{MeetsSaid}
 use Rattle.fourier_motzkin.specs.declared.elimination.Eliminated.{Eliminated}
-use Rattle.fourier_motzkin.proofs.Points.{eliminated-met}
+use Rattle.fourier_motzkin.proofs.PointLaws.{eliminated-met}
 use Rattle.fourier_motzkin.proofs.elimination.eliminate.Goals as goal
 
 pub returns-clause-value : goal.returns-clause-value

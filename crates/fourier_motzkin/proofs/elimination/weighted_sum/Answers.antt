@@ -1,7 +1,7 @@
 use Rattle.std.proofs.Common.{◌≡◌, ◌^◌, ℤ, ◌+ℤ◌, ◌*ℤ◌, FitsSigned, lit<, to_z, of_z}
 use Rattle.std.specs.Int.{w128}
 use Rattle.std.proofs.lemmas.Int.{fits_signed_mul, to_z-of_z}
-use Rattle.fourier_motzkin.proofs.Sizes.{weighted-within, weighted-fits}
+use Rattle.fourier_motzkin.proofs.SizeLaws.{weighted-within, weighted-fits}
 use Rattle.fourier_motzkin.proofs.elimination.weighted_sum.Goals as goal
 
 sum-fits : (q x p y : ℤ) → FitsSigned w128 q → FitsSigned w128 x → FitsSigned w128 p → FitsSigned w128 y → FitsSigned w128 (q *ℤ x) → FitsSigned w128 (p *ℤ y) → FitsSigned w128 (q *ℤ x +ℤ p *ℤ y) → FitsSigned w128 (to_z w128 (of_z w128 (to_z w128 (of_z w128 q) *ℤ to_z w128 (of_z w128 x))) +ℤ to_z w128 (of_z w128 (to_z w128 (of_z w128 p) *ℤ to_z w128 (of_z w128 y))))

@@ -2,7 +2,7 @@ use Rattle.std.proofs.Common.{FitsSigned, lit<, rules}
 use Rattle.std.specs.Int.{w128}
 use Rattle.std.proofs.lemmas.Int.{to_z-of_z}
 use Rattle.std.proofs.lemmas.Slice.Zip.{Zip-more, either_empty_from_Zip}
-use Rattle.fourier_motzkin.proofs.Combinations.{weighted-more, weighted-end, weighted-room, weighted-room-more, pushed-within}
+use Rattle.fourier_motzkin.proofs.CombinationLaws.{weighted-more, weighted-end, weighted-room, weighted-room-more, pushed-within}
 use Rattle.fourier_motzkin.proofs.elimination.weighted_sums.Goals as goal
 
 pub push-requires : goal.push-requires

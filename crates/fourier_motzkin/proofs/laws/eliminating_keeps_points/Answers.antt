@@ -1,4 +1,4 @@
-use Rattle.fourier_motzkin.proofs.Points.{eliminated-met}
+use Rattle.fourier_motzkin.proofs.PointLaws.{eliminated-met}
 use Rattle.fourier_motzkin.proofs.laws.eliminating_keeps_points.Goals as goal
 
 pub returns : goal.returns

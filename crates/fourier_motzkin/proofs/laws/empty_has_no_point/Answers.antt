@@ -1,4 +1,4 @@
-use Rattle.fourier_motzkin.proofs.Points.{verdict-unmet}
+use Rattle.fourier_motzkin.proofs.PointLaws.{verdict-unmet}
 use Rattle.fourier_motzkin.proofs.laws.empty_has_no_point.Goals as goal
 
 pub returns : goal.returns

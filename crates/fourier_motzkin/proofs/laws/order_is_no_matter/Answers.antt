@@ -1,4 +1,4 @@
-use Rattle.fourier_motzkin.proofs.Orders.{order_is_no_matter as law}
+use Rattle.fourier_motzkin.proofs.OrderLaws.{order_is_no_matter as law}
 use Rattle.fourier_motzkin.proofs.laws.order_is_no_matter.Goals as goal
 
 pub returns : goal.returns

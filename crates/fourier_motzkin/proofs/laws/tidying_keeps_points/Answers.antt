@@ -1,4 +1,4 @@
-use Rattle.fourier_motzkin.proofs.Points.{tidied-met, met-tidied}
+use Rattle.fourier_motzkin.proofs.PointLaws.{tidied-met, met-tidied}
 use Rattle.fourier_motzkin.proofs.laws.tidying_keeps_points.Goals as goal
 
 pub returns : goal.returns

@@ -4,7 +4,7 @@ use Rattle.std.specs.Prelude.{is_some}
 use Rattle.std.proofs.lemmas.Int.{to_z-of_z}
 use Rattle.fourier_motzkin.specs.Elimination.{bounds_above, bounds_below}
 use Rattle.fourier_motzkin.specs.Ranges.{Allowed}
-use Rattle.fourier_motzkin.proofs.Ranges.{lies-all, lies-more, none-at-row, range-none, range-some, side-all, side-more}
+use Rattle.fourier_motzkin.proofs.RangeLaws.{lies-all, lies-more, none-at-row, range-none, range-some, side-all, side-more}
 use Rattle.fourier_motzkin.proofs.range.range_of.Goals as goal
 
 pub returns-in_err-ends-clause-none : goal.returns-in_err-ends-clause-none

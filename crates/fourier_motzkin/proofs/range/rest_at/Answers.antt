@@ -2,7 +2,7 @@ use Rattle.std.proofs.Common.{◌≤◌, ◌^◌, unsigned_abs, FitsSigned, to_z
 use Rattle.std.specs.Int.{w64, w128}
 use Rattle.std.proofs.lemmas.Int.{to_z-of_z}
 use Rattle.std.proofs.lemmas.Slice.Zip.{Zip-more, either_empty_from_Zip}
-use Rattle.fourier_motzkin.proofs.Combinations.{dot-more, dot-end, long-more, size-more, within-head, within-tail}
+use Rattle.fourier_motzkin.proofs.CombinationLaws.{dot-more, dot-end, long-more, size-more, within-head, within-tail}
 use Rattle.fourier_motzkin.proofs.range.rest_at.Goals as goal
 
 pub loop-number-preserved : goal.loop-number-preserved

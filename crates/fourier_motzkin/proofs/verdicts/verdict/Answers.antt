@@ -1,5 +1,5 @@
 use Rattle.std.proofs.Common.{sym, ◌∙◌}
-use Rattle.fourier_motzkin.proofs.Points.{verdict-unmet}
+use Rattle.fourier_motzkin.proofs.PointLaws.{verdict-unmet}
 use Rattle.fourier_motzkin.proofs.EliminationRunLaws.{verdict-bounds}
 use Rattle.fourier_motzkin.proofs.verdicts.verdict.Goals as goal
 

@@ -1,5 +1,5 @@
 use Rattle.grammar_laws.proofs.equal.fault_or_file.Goals as goal
-use Rattle.grammar_laws.proofs.Main.{fault-or-file}
+use Rattle.grammar_laws.proofs.GrammarLaws.{fault-or-file}
 
 -- src/equal.rt:20:1
 pub returns : goal.returns

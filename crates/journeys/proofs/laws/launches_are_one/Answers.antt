@@ -1,5 +1,5 @@
 use Rattle.journeys.proofs.OneLaunched.{one-launched}
-use Rattle.journeys.proofs.BegunJourneys.{begun-goes_on}
+use Rattle.journeys.proofs.BegunJourneyLaws.{begun-goes_on}
 use Rattle.journeys.proofs.laws.launches_are_one.Goals as goal
 
 pub returns : goal.returns

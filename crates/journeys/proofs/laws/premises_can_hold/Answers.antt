@@ -1,4 +1,4 @@
-use Rattle.journeys.proofs.Premises.{premises-can-meet}
+use Rattle.journeys.proofs.PremiseLaws.{premises-can-meet}
 use Rattle.journeys.proofs.laws.premises_can_hold.Goals as goal
 
 pub returns : goal.returns

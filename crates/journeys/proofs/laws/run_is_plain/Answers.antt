@@ -1,4 +1,4 @@
-use Rattle.journeys.proofs.PlainRuns.{moments-are-plain, nest_run-is-plain, run-is-plain}
+use Rattle.journeys.proofs.PlainRunLaws.{moments-are-plain, nest_run-is-plain, run-is-plain}
 use Rattle.journeys.proofs.laws.run_is_plain.Goals as goal
 
 pub returns : goal.returns

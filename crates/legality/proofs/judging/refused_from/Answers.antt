@@ -5,7 +5,7 @@ use Rattle.dependence.specs.Systems.{systems_of}
 use Rattle.dependence.specs.Legality.{trials_of}
 use Rattle.legality.specs.Judgements.{first_refusal, refuses, told}
 use Rattle.legality.proofs.FirstLaws.{none-more, found-here, none-at-end}
-use Rattle.legality.proofs.RefusalLaws.{flat_flat}
+use Rattle.legality.proofs.RefusalLaws.{flat_map-flat_map}
 use Rattle.legality.proofs.judging.refused_from.Goals as goal
 
 pub loop-second-preserved : goal.loop-second-preserved
@@ -21,7 +21,7 @@ returns-then-is_some g c =
     let t = c.args.pred.now in
     let s = c.args.schedule.now in
     found-here (refuses t s) (told t s) (λ second. flat_map (trials_of t s) (systems_of t c.args.length c.args.first second)) c.args.refs.now c.loop-second.second-index _ _ c.in_ok-found.found (omega (arith, c.loop-second-test.true)) refl (simp to_z-of_z at c.loop-second.invariant) (simp to_z-of_z at c.in_ok-found.ensures) (sym c.if-is_some.ensures)
-    ∙ ap (first_refusal t s) (flat_flat (trials_of t s) (systems_of t c.args.length c.args.first) c.args.refs.now)
+    ∙ ap (first_refusal t s) (sym (flat_map-flat_map (trials_of t s) (systems_of t c.args.length c.args.first) c.args.refs.now))
 
 pub returns : goal.returns
 returns g c =
@@ -29,4 +29,4 @@ returns g c =
     let t = c.args.pred.now in
     let s = c.args.schedule.now in
     none-at-end (refuses t s) (told t s) (λ second. flat_map (trials_of t s) (systems_of t c.args.length c.args.first second)) c.args.refs.now c.loop-second.second-index (omega (arith, c.loop-second-test.false)) (simp to_z-of_z at c.loop-second.invariant)
-    ∙ ap (first_refusal t s) (flat_flat (trials_of t s) (systems_of t c.args.length c.args.first) c.args.refs.now)
+    ∙ ap (first_refusal t s) (sym (flat_map-flat_map (trials_of t s) (systems_of t c.args.length c.args.first) c.args.refs.now))

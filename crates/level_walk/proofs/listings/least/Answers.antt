@@ -3,7 +3,7 @@ use Rattle.std.specs.Prelude.{None}
 use Rattle.level_walk.specs.Listed.{least_after}
 use Rattle.level_walk.specs.Listings.{items_of, listed_in}
 use Rattle.level_walk.specs.Lattices.{in_box}
-use Rattle.level_walk.proofs.ListLemmas.{listed-end, passed, taken}
+use Rattle.level_walk.proofs.ListLaws.{listed-end, passed, taken}
 use Rattle.level_walk.proofs.listings.least.Goals as goal
 use Rattle.level_walk.proofs.listings.least.Goals.{then-is_in_box, else-is_in_box}
 

@@ -2,7 +2,7 @@ use Rattle.std.proofs.Common.{rules, ◌≡◌, true}
 use Rattle.std.specs.Prelude.{is_some}
 use Rattle.level_walk.specs.Listings.{items_of}
 use Rattle.level_walk.specs.States.{head_of}
-use Rattle.level_walk.proofs.ListLemmas.{found-long, moved-head}
+use Rattle.level_walk.proofs.ListLaws.{found-long, moved-head}
 use Rattle.level_walk.proofs.listings.moved_listing.Goals as goal
 
 pub with_head-requires : goal.with_head-requires

@@ -1,7 +1,7 @@
 use Rattle.std.proofs.Common.{ap, ◌∙◌}
 use Rattle.std.specs.Prelude.{None}
 use Rattle.level_walk.specs.Listings.{after_head, listed_in}
-use Rattle.level_walk.proofs.ListLemmas.{differ-from, differ-in, found-long, next-head}
+use Rattle.level_walk.proofs.ListLaws.{differ-from, differ-in, found-long, next-head}
 use Rattle.level_walk.proofs.listings.started_listing.Goals as goal
 
 pub with_head-requires : goal.with_head-requires

@@ -3,7 +3,7 @@ use Rattle.std.proofs.lemmas.Int.{ints, to_z-of_z}
 use Rattle.std.proofs.lemmas.Float.{T_from_true}
 use Rattle.std.specs.Int.Signed.{lt_z, lt_z_yes}
 use Rattle.level_walk.specs.States.{state_left}
-use Rattle.level_walk.proofs.StateLemmas.{advanced-left}
+use Rattle.level_walk.proofs.StateLaws.{advanced-left}
 use Rattle.level_walk.proofs.states.advance.Goals as goal
 
 pub returns-then-state-2-clause-left : goal.returns-then-state-2-clause-left

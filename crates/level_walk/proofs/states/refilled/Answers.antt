@@ -1,7 +1,7 @@
 use Rattle.std.proofs.Common.{◌≤◌, length, subst, sym, refl, ◌∙◌}
 use Rattle.std.specs.Prelude.{IfSome}
 use Rattle.level_walk.specs.Lattices.{in_cell}
-use Rattle.level_walk.proofs.StateLemmas.{at-small, front-small, packed-stands, same-space, space_at, taken-left, taken-stands}
+use Rattle.level_walk.proofs.StateLaws.{at-small, front-small, packed-stands, same-space, space_at, taken-left, taken-stands}
 use Rattle.level_walk.proofs.states.refilled.Goals as goal
 
 pub packed-requires-clause-at : goal.packed-requires-clause-at

@@ -1,7 +1,7 @@
 use Rattle.std.proofs.Common.{subst, sym, length, ◌≤◌}
 use Rattle.std.specs.Prelude.{IfSome}
 use Rattle.level_walk.specs.Lattices.{in_cell}
-use Rattle.level_walk.proofs.StateLemmas.{front-small}
+use Rattle.level_walk.proofs.StateLaws.{front-small}
 use Rattle.level_walk.proofs.states.started.Goals as goal
 
 pub packed-requires-clause-front : goal.packed-requires-clause-front

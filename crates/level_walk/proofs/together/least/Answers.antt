@@ -1,8 +1,8 @@
 use Rattle.std.proofs.Common.{rules, ◌≡◌, ◌≤◌, ◌<◌, ◌∷◌, [], length, drop, get_or, refl, sym, subst}
 use Rattle.std.specs.Prelude.{MatchOption}
-use Rattle.level_walk.proofs.MergeLemmas.{chosen-is}
+use Rattle.level_walk.proofs.MergeLaws.{chosen-is}
 use Rattle.level_walk.specs.Walks.{left_in}
-use Rattle.level_walk.proofs.WalkLemmas.{blank, head-in, least-end, least-more, stands-at, width-in}
+use Rattle.level_walk.proofs.WalkLaws.{blank, head-in, least-end, least-more, stands-at, width-in}
 use Rattle.level_walk.proofs.together.least.Goals as goal
 
 pub head-requires : goal.head-requires

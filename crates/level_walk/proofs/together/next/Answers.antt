@@ -1,8 +1,8 @@
 use Rattle.std.proofs.Common.{◌∷◌, refl, sym, subst, ap, ◌∙◌, ◌≤◌, length, rules, arith}
 use Rattle.level_walk.specs.Merges.{AllOrdered, merged}
-use Rattle.level_walk.proofs.MergeLemmas.{first-none, first-some, stepped-ordered}
+use Rattle.level_walk.proofs.MergeLaws.{first-none, first-some, stepped-ordered}
 use Rattle.level_walk.specs.Walks.{all_left}
-use Rattle.level_walk.proofs.WalkLemmas.{left-length}
+use Rattle.level_walk.proofs.WalkLaws.{left-length}
 use Rattle.level_walk.proofs.together.next.Goals as goal
 
 pub returns-in_err-best-clause-none : goal.returns-in_err-best-clause-none

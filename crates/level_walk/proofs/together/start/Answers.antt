@@ -1,8 +1,8 @@
 use Rattle.std.proofs.Common.{rules, sym, subst}
 use Rattle.level_walk.specs.Merges.{AllOrdered}
-use Rattle.level_walk.proofs.MergeLemmas.{all-at}
+use Rattle.level_walk.proofs.MergeLaws.{all-at}
 use Rattle.level_walk.specs.Walks.{IsBlock}
-use Rattle.level_walk.proofs.WalkLemmas.{points-all-ordered, started-end, started-more}
+use Rattle.level_walk.proofs.WalkLaws.{points-all-ordered, started-end, started-more}
 use Rattle.level_walk.proofs.together.start.Goals as goal
 
 pub started-requires-clause-block : goal.started-requires-clause-block

@@ -1,4 +1,4 @@
-use Rattle.level_walk.proofs.WalkLemmas.{IsStarted}
+use Rattle.level_walk.proofs.WalkLaws.{IsStarted}
 use Rattle.level_walk.proofs.together.start.Given as goal
 
 abbrev pub invariant-loop-rank : goal.invariant-loop-rank

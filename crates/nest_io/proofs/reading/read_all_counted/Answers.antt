@@ -1,6 +1,6 @@
 use Rattle.std.proofs.Common.{rules}
 use Rattle.std.proofs.lemmas.Result.{err_from_is_err_and}
-use Rattle.nest_io.proofs.Transfers.{whole_text, take_more}
+use Rattle.nest_io.proofs.TransferLaws.{whole_text, take_more}
 use Rattle.nest_io.proofs.reading.read_all_counted.Goals as goal
 
 pub returns-then-count-eq0-clause-end : goal.returns-then-count-eq0-clause-end

@@ -1,6 +1,6 @@
 use Rattle.std.proofs.Common.{rules, arith}
 use Rattle.std.proofs.lemmas.Result.{err_from_is_err_and}
-use Rattle.nest_io.proofs.Transfers.{put-more, put-front}
+use Rattle.nest_io.proofs.TransferLaws.{put-more, put-front}
 use Rattle.nest_io.proofs.writing.write_all_counted.Goals as goal
 
 pub returns-in_err-count-clause-front : goal.returns-in_err-count-clause-front

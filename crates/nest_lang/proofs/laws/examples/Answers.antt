@@ -1,6 +1,6 @@
-use Rattle.nest_lang.proofs.BlocksComputed.{accesses-computed, blocks-computed}
-use Rattle.nest_lang.proofs.ValuesComputed.{values-computed}
-use Rattle.nest_lang.proofs.RunsComputed.{runs-computed}
+use Rattle.nest_lang.proofs.BlockExampleLaws.{accesses-computed, blocks-computed}
+use Rattle.nest_lang.proofs.ValueExampleLaws.{values-computed}
+use Rattle.nest_lang.proofs.RunExampleLaws.{runs-computed}
 use Rattle.nest_lang.proofs.laws.examples.Goals as goal
 
 pub returns : goal.returns

@@ -1,4 +1,4 @@
-use Rattle.nest_lang.proofs.OwnAccesses.{instances-have-own-accesses, heads-have-own-accesses}
+use Rattle.nest_lang.proofs.OwnAccessLaws.{instances-have-own-accesses, heads-have-own-accesses}
 use Rattle.nest_lang.proofs.laws.instances_have_own_accesses.Goals as goal
 
 pub returns : goal.returns

@@ -1,4 +1,4 @@
-use Rattle.nest_lang.proofs.Ranks.{present_blocks-have-ranks}
+use Rattle.nest_lang.proofs.RankLaws.{present_blocks-have-ranks}
 use Rattle.nest_lang.proofs.laws.present_blocks_have_ranks.Goals as goal
 
 pub returns : goal.returns

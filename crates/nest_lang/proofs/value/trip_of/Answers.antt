@@ -2,7 +2,7 @@ use Rattle.std.proofs.Common.{pos, ◌<ℤ◌, ◌≤ℤ◌, arith}
 use Rattle.std.proofs.lemmas.Int.{ints, to_z-of_z}
 use mir.Val.{SFits}
 use mir.Syntax.{w64}
-use Rattle.nest_lang.proofs.Trips.{trip_count-rising, trip_count-falling, turns-counted}
+use Rattle.nest_lang.proofs.TripLaws.{trip_count-rising, trip_count-falling, turns-counted}
 use Rattle.nest_lang.proofs.value.trip_of.Goals as goal
 
 pub returns-then-stride-gt0 : goal.returns-then-stride-gt0

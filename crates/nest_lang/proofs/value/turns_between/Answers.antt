@@ -2,7 +2,7 @@ use Rattle.std.proofs.Common.{pos, ◌<ℤ◌, ◌≤ℤ◌, ◌-ℤ◌, arith}
 use Rattle.std.proofs.lemmas.Int.{ints, to_z-of_z}
 use mir.Val.{SFits}
 use mir.Syntax.{w64}
-use Rattle.nest_lang.proofs.Trips.{steps_over-abs, steps_over-none}
+use Rattle.nest_lang.proofs.TripLaws.{steps_over-abs, steps_over-none}
 use Rattle.nest_lang.proofs.value.turns_between.Goals as goal
 
 pub returns-then-from-to : goal.returns-then-from-to

@@ -2,7 +2,7 @@ use Rattle.std.proofs.Common.{◌≡◌, ◌∙◌, ◌+◌, ◌*◌, ◌+ℤ◌
 use Rattle.std.specs.Prelude.{slice_set}
 use Rattle.std.proofs.lemmas.Int.{to_z-of_z}
 use Rattle.std.proofs.lemmas.List.{length-set}
-use Rattle.nest_text.proofs.Stored.{ramp_from, ramp-from-next, ramp-from-all, ramp_fits-value}
+use Rattle.nest_text.proofs.StoredItemLaws.{ramp_from, ramp-from-next, ramp-from-all, ramp_fits-value}
 use Rattle.nest_text.proofs.file.set_ramp.Goals as goal
 
 pub value_of_turn-requires : goal.value_of_turn-requires

@@ -1,6 +1,6 @@
 use Rattle.std.proofs.Common.{◌≡◌, length}
 use Rattle.nest_grammar.specs.Files.{set_ramp}
-use Rattle.nest_text.proofs.Stored.{ramp_from}
+use Rattle.nest_text.proofs.StoredItemLaws.{ramp_from}
 use Rattle.nest_text.proofs.file.set_ramp.Given as goal
 
 abbrev pub invariant-words : goal.invariant-words

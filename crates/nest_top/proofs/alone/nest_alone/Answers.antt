@@ -1,5 +1,5 @@
 use Rattle.std.proofs.Common.{map, string_bytes}
-use Rattle.nest_top.proofs.RunLemmas.{answer-alone, run-put}
+use Rattle.nest_top.proofs.RunLaws.{answer-alone, run-put}
 use Rattle.nest_top.proofs.alone.nest_alone.Goals as goal
 
 pub returns-in-Ok-Some : goal.returns-in-Ok-Some

@@ -5,8 +5,8 @@ use Rattle.command_line.specs.Invocations.{Finds, IsInvocation, IsNoInvocation}
 use Rattle.nest_top.specs.declared.unanswered.Unanswered.TheVariants.{NoMemory}
 use Rattle.nest_top.specs.Texts.{IsRead, IsTextOf}
 use Rattle.nest_top.specs.Answers.{AnswersReading, has_journey, text_for}
-use Rattle.nest_top.proofs.AnswerLemmas.{invocation-prepared, options-in-range}
-use Rattle.nest_top.proofs.RunLemmas.{asks-not, none-alone, takes-text, text-made, text-taken, unread-made, usage-made, wanting-made}
+use Rattle.nest_top.proofs.AnswerLaws.{invocation-prepared, options-in-range}
+use Rattle.nest_top.proofs.RunLaws.{asks-not, none-alone, takes-text, text-made, text-taken, unread-made, usage-made, wanting-made}
 use Rattle.nest_top.proofs.alone.prepare.Goals as goal
 
 pub returns-in_default : goal.returns-in_default

@@ -7,9 +7,9 @@ use Rattle.nest_gen.specs.Generated.{text_of}
 use Rattle.report.specs.Summaries.{summary}
 use Rattle.report.specs.declared.journey.Options.{Options as JourneyOptions}
 use Rattle.journeys.specs.Journeys.{IsJourney}
-use Rattle.journeys.proofs.PlainRuns.{run-is-plain}
+use Rattle.journeys.proofs.PlainRunLaws.{run-is-plain}
 use Rattle.nest_top.specs.Answers.{heading, journey_options, run_of_file, text_made}
-use Rattle.nest_top.proofs.HandedLemmas.{file-handed, journey-begun, journey-gains, not-begun, wanting-reading}
+use Rattle.nest_top.proofs.HandedLaws.{file-handed, journey-begun, journey-gains, not-begun, wanting-reading}
 use Rattle.nest_top.proofs.generated.generated.Goals as goal
 
 pub returns-clause-answer : goal.returns-clause-answer

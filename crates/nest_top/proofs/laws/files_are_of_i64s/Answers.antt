@@ -1,4 +1,4 @@
-use Rattle.nest_top.proofs.FileNumbers.{are-i64s}
+use Rattle.nest_top.proofs.FileNumberLaws.{are-i64s}
 use Rattle.nest_top.proofs.laws.files_are_of_i64s.Goals as goal
 
 pub returns : goal.returns

@@ -1,4 +1,4 @@
-use Rattle.nest_top.proofs.AnswerLemmas.{one-answer}
+use Rattle.nest_top.proofs.AnswerLaws.{one-answer}
 use Rattle.nest_top.proofs.laws.one_answer.Goals as goal
 
 pub returns : goal.returns

@@ -4,7 +4,7 @@ use Rattle.nest_grammar.specs.Files.{nests_of}
 use Rattle.report.specs.Outcomes.{IsOutcome}
 use Rattle.nest_text.specs.Files.{scalar_names}
 use Rattle.nest_top.specs.Answers.{run_of_file}
-use Rattle.nest_top.proofs.PlainLemmas.{nests-ran}
+use Rattle.nest_top.proofs.PlainLaws.{nests-ran}
 use Rattle.nest_top.proofs.plain.plain.Goals as goal
 
 pub returns : goal.returns

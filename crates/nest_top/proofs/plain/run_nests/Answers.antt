@@ -1,7 +1,7 @@
 use Rattle.std.proofs.Common.{◌≡◌, ◌∙◌, ◌≤◌, ap, sym, Some, option_map, length, arith}
 use Rattle.std.specs.Prelude.{slice_get}
 use Rattle.nest_grammar.specs.Files.{nests_of}
-use Rattle.nest_top.proofs.PlainLemmas.{NestRan, left-end, left-next, left-out}
+use Rattle.nest_top.proofs.PlainLaws.{NestRan, left-end, left-next, left-out}
 use Rattle.nest_top.proofs.plain.run_nests.Goals as goal
 
 pub returns-in_default-run_nest : goal.returns-in_default-run_nest

@@ -1,5 +1,5 @@
 use Rattle.nest_grammar.specs.Files.{nests_of}
-use Rattle.nest_top.proofs.PlainLemmas.{Left}
+use Rattle.nest_top.proofs.PlainLaws.{Left}
 use Rattle.nest_top.proofs.plain.run_nests.Given as goal
 
 abbrev pub invariant-nests : goal.invariant-nests

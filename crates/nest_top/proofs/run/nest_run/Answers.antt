@@ -1,12 +1,12 @@
 use Rattle.std.proofs.Common.{Result, map, string_bytes, subst, sym}
 use Rattle.nest_top.specs.Runs.{IsRun}
 use Rattle.nest_top.specs.Answers.{status_of_unanswered}
-use Rattle.nest_top.proofs.RunLemmas.{answer-made, reason-made, run-none, run-put}
+use Rattle.nest_top.proofs.RunLaws.{answer-made, reason-made, run-none, run-put}
 use Rattle.nest_top.specs.declared.answer.Answer.{Answer}
 use Rattle.nest_top.specs.declared.unanswered.Unanswered.{Unanswered}
 use Rattle.nest_top.specs.declared.status.Status.{Status}
 use Rattle.nest_top.specs.HandedOver.{Gains, HandsOver, IsHanded, IsHandedMade}
-use Rattle.nest_top.proofs.HandedLemmas.{alone-handed, put-handed}
+use Rattle.nest_top.proofs.HandedLaws.{alone-handed, put-handed}
 use Rattle.nest_top.proofs.run.nest_run.Goals as goal
 
 pub returns-in-Ok-clause-run : goal.returns-in-Ok-clause-run

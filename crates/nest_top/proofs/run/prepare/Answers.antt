@@ -8,11 +8,11 @@ use Rattle.command_line.specs.Invocations.{Finds, IsInvocation, IsNoInvocation}
 use Rattle.nest_top.specs.declared.unanswered.Unanswered.TheVariants.{NoMemory}
 use Rattle.nest_top.specs.Texts.{IsRead, IsTextOf}
 use Rattle.nest_top.specs.Answers.{AnswersReading, TakesText, has_journey, text_for, text_made, unanswered_by}
-use Rattle.nest_top.proofs.AnswerLemmas.{generated-prepared, invocation-prepared}
-use Rattle.nest_top.proofs.RunLemmas.{nothing-taken, none-made, text-made, unread-made, wanting-made}
+use Rattle.nest_top.proofs.AnswerLaws.{generated-prepared, invocation-prepared}
+use Rattle.nest_top.proofs.RunLaws.{nothing-taken, none-made, text-made, unread-made, wanting-made}
 use Rattle.nest_top.specs.HandedOver.{ReadingHanded}
-use Rattle.nest_top.proofs.AnswerLemmas.{text-of}
-use Rattle.nest_top.proofs.HandedLemmas.{answer-handed, none-handed, nothing-handed, wanting-handed}
+use Rattle.nest_top.proofs.AnswerLaws.{text-of}
+use Rattle.nest_top.proofs.HandedLaws.{answer-handed, none-handed, nothing-handed, wanting-handed}
 use Rattle.nest_top.proofs.run.prepare.Goals as goal
 
 pub unreachable-requires : goal.unreachable-requires

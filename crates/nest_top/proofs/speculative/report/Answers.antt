@@ -7,9 +7,9 @@ use Rattle.report.specs.Lines.{line_text}
 use Rattle.report.specs.Outcomes.{IsOutcome}
 use Rattle.report.specs.declared.journey.Options.{Options as JourneyOptions}
 use Rattle.journeys.specs.Journeys.{IsJourney}
-use Rattle.journeys.proofs.PlainRuns.{run-is-plain}
+use Rattle.journeys.proofs.PlainRunLaws.{run-is-plain}
 use Rattle.nest_top.specs.Answers.{journey_options, run_of_file}
-use Rattle.nest_top.proofs.HandedLemmas.{journey-begun, journey-gains, wanting-file}
+use Rattle.nest_top.proofs.HandedLaws.{journey-begun, journey-gains, wanting-file}
 use Rattle.nest_top.proofs.speculative.report.Goals as goal
 
 pub returns-clause-answer : goal.returns-clause-answer

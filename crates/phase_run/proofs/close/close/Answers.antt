@@ -1,6 +1,6 @@
 use Rattle.std.proofs.Common.{◌∙◌, ◌<◌, vec_len, arith}
 use Rattle.verified_turns.specs.Workers.{task_state}
-use Rattle.phase_run.proofs.Closing.{ran-together, ran-broken, others_keep}
+use Rattle.phase_run.proofs.ClosingLaws.{ran-together, ran-broken, others_keep}
 use Rattle.phase_run.proofs.close.close.Goals as goal
 
 pub returns-then-settle-clause-ran : goal.returns-then-settle-clause-ran

@@ -4,12 +4,12 @@ use Rattle.core_steps.specs.declared.view.View.{View}
 use Rattle.core_steps.specs.Views.{stored_at, joined_view}
 use Rattle.follow_chunk.specs.Followed.{ClosesSmall}
 use Rattle.phases.specs.Laws.{Gathered}
-use Rattle.phases.proofs.Gathering.{gathered-start}
+use Rattle.phases.proofs.GatheringLaws.{gathered-start}
 use Rattle.verified_turns.specs.Workers.{Status, instances_of, task_state}
 use Rattle.crew.specs.Jobs.{total}
 use Rattle.phase_run.specs.Postings.{PostingState}
 use Rattle.phase_run.specs.Seats.{IsOfPhase, AreOfPhase, OnlyTheirs, OwnsWrites}
-use Rattle.phase_run.proofs.Returning.{all-but, out-but, none_out, total-but, back, owns}
+use Rattle.phase_run.proofs.ReturningLaws.{all-but, out-but, none_out, total-but, back, owns}
 use Rattle.phase_run.proofs.close.take_back.Goals as goal
 
 pub overflow_add-steps : goal.overflow_add-steps

@@ -2,13 +2,13 @@ use Rattle.std.proofs.Common.{◌≡◌, ◌∙◌, ap, sym, subst, ℕ, ◌+◌
 use Rattle.domain.specs.Instances.{Instance, Predicted}
 use Rattle.core_steps.specs.declared.view.View.{View}
 use Rattle.core_steps.specs.Numbers.{has}
-use Rattle.orders.specs.Orders.{Has}
+use Rattle.plain_lemmas.specs.Lists.{Has}
 use Rattle.orders.specs.Tiles.{flat}
 use Rattle.shared_words.specs.Seats.{memory_words}
 use Rattle.verified_turns.specs.Workers.{task_state, StaysWithin}
 use Rattle.phase_run.specs.Postings.{PostingState}
 use Rattle.phase_run.specs.Seats.{OnlyTheirs}
-use Rattle.phase_run.proofs.Lending.{still-below, lent-base, lent-plan, fresh, long, task, within, one-more, theirs-more}
+use Rattle.phase_run.proofs.LendingLaws.{still-below, lent-base, lent-plan, fresh, long, task, within, one-more, theirs-more}
 use Rattle.phase_run.proofs.lend.lend.Goals as goal
 
 pub new-requires : goal.new-requires

@@ -3,7 +3,7 @@ use Rattle.core_steps.specs.declared.view.View.{View}
 use Rattle.verified_turns.specs.Workers.{task_state}
 use Rattle.phase_run.specs.Postings.{PostingState, IsPostable}
 use Rattle.phase_run.specs.Seats.{AreOfPhase, IsPosted}
-use Rattle.phase_run.proofs.Handing.{still-of-phase, are-done, still-theirs, tiles-are, gains}
+use Rattle.phase_run.proofs.HandingLaws.{still-of-phase, are-done, still-theirs, tiles-are, gains}
 use Rattle.phase_run.proofs.run.run_phase.Goals as goal
 
 pub close-requires-after_bounds : goal.close-requires-after_bounds

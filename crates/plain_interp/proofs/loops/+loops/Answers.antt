@@ -12,11 +12,11 @@ use Rattle.block_exec.specs.Runs.{outside}
 use Rattle.block_exec.proofs.PlaceLaws.{around-shallower}
 use Rattle.block_exec.proofs.RunLaws.{finish-err, kept-trans}
 use Rattle.plain_interp.specs.Levels.{level_trace}
-use Rattle.plain_interp.proofs.Blocks.{instance-steps}
-use Rattle.plain_interp.proofs.Keeps.{loop_keeps-strides, loop_keeps-body}
+use Rattle.plain_interp.proofs.BlockLaws.{instance-steps}
+use Rattle.plain_interp.proofs.NestRuleLaws.{loop_keeps-strides, loop_keeps-body}
 use Rattle.plain_interp.proofs.LevelLaws.{stride-not-0, inward-same, head-at, for-cut, while-cut, for-turns-moved}
-use Rattle.plain_interp.proofs.Rans.{ran-ends, turns-next, turns-out, turns-end, while-next, while-out, while-end}
-use Rattle.plain_interp.proofs.Turns.{for_turns, for-yields, turn-ran-before, turn-ran-inside, turn-moved, inner-moved, ran-no-loops, turn-ran-behind, while_frames, while_turns}
+use Rattle.plain_interp.proofs.TraceRunLaws.{ran-ends, turns-next, turns-out, turns-end, while-next, while-out, while-end}
+use Rattle.plain_interp.proofs.TurnLaws.{for_turns, for-yields, turn-ran-before, turn-ran-inside, turn-moved, inner-moved, ran-no-loops, turn-ran-behind, while_frames, while_turns}
 use Rattle.plain_interp.proofs.loops.+loops.Goals as goal
 use Rattle.plain_interp.proofs.loops.+loops.Goals.{run_turn-in-Some+in_ok-run_loop, run_turn-in_default}
 

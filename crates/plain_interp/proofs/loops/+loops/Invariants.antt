@@ -6,8 +6,8 @@ use Rattle.block_exec.specs.Sites.{around_at}
 use Rattle.block_exec.specs.Moments.{Ran}
 use Rattle.block_exec.specs.Runs.{Kept, outside}
 use Rattle.plain_interp.specs.Levels.{level_trace}
-use Rattle.plain_interp.proofs.Rans.{Leads}
-use Rattle.plain_interp.proofs.Turns.{for_turns, while_frames, while_turns}
+use Rattle.plain_interp.proofs.TraceRunLaws.{Leads}
+use Rattle.plain_interp.proofs.TurnLaws.{for_turns, while_frames, while_turns}
 use Rattle.plain_interp.proofs.loops.+loops.Given as goal
 
 abbrev pub decreases-run_loop : goal.decreases-run_loop

@@ -4,7 +4,7 @@ use Rattle.nest_lang.specs.declared.state.Outer.{Outer}
 use Rattle.nest_lang.specs.Loops.{outside}
 use Rattle.block_exec.specs.Runs as run
 use Rattle.plain_interp.proofs.LevelLaws.{stride-not-0, head-at}
-use Rattle.plain_interp.proofs.Positions.{loops_keep-found, loops_keep-strides, position-entered, entry-for, entered-trapped}
+use Rattle.plain_interp.proofs.PositionLaws.{loops_keep-found, loops_keep-strides, position-entered, entry-for, entered-trapped}
 use Rattle.plain_interp.proofs.outer.enter.Goals as goal
 
 pub unreachable-requires : goal.unreachable-requires

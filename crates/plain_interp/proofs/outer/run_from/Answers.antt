@@ -5,7 +5,7 @@ use Rattle.nest_lang.specs.Loops.{inward}
 use Rattle.block_exec.specs.Sites.{around_at}
 use Rattle.block_exec.specs.Runs.{outside}
 use Rattle.plain_interp.proofs.LevelLaws.{place-outermost, pos-unsigned_abs}
-use Rattle.plain_interp.proofs.Turns.{turn-moved}
+use Rattle.plain_interp.proofs.TurnLaws.{turn-moved}
 use Rattle.plain_interp.proofs.outer.run_from.Goals as goal
 
 pub returns-in-Ok-clause-ran : goal.returns-in-Ok-clause-ran

@@ -8,7 +8,7 @@ use Rattle.nest_lang.specs.Turns.{finish_of_turned}
 use Rattle.block_exec.specs.Sites.{around_at}
 use Rattle.block_exec.specs.Runs.{outside}
 use Rattle.plain_interp.proofs.LevelLaws.{head-at, place-tested, level_turn-outermost, ran-while-cut}
-use Rattle.plain_interp.proofs.OuterTurns.{ran-for-over, ran-for-some, ran-turn-of, ran-while-turn, ran-while-over, position-for, position-while, position-kept, while-head}
+use Rattle.plain_interp.proofs.OuterTurnLaws.{ran-for-over, ran-for-some, ran-turn-of, ran-while-turn, ran-while-over, position-for, position-while, position-kept, while-head}
 use Rattle.plain_interp.proofs.outer.run_next.Goals as goal
 
 pub returns-then-eq-clause-ran : goal.returns-then-eq-clause-ran

@@ -5,9 +5,9 @@ use Rattle.nest_lang.specs.Turns.{turns_trace, turns_later, finish_of_turned, Ar
 use Rattle.block_exec.specs.Moments.{Ran}
 use Rattle.block_exec.specs.Runs.{outside}
 use Rattle.block_exec.proofs.RunLaws.{kept-trans}
-use Rattle.plain_interp.proofs.Nests.{loops_keep-some, nest-level}
-use Rattle.plain_interp.proofs.Positions.{position-outermost, position-nest, position-next}
-use Rattle.plain_interp.proofs.OuterTurns.{turns-moved, turns_later-none, turns_later-more, ran-no-turns, number-more, number-kept, finish_of_turned-not, ran-turns-more, ran-turns-out, whole-turns-all, whole-turns-some}
+use Rattle.plain_interp.proofs.NestLaws.{loops_keep-some, nest-level}
+use Rattle.plain_interp.proofs.PositionLaws.{position-outermost, position-nest, position-next}
+use Rattle.plain_interp.proofs.OuterTurnLaws.{turns-moved, turns_later-none, turns_later-more, ran-no-turns, number-more, number-kept, finish_of_turned-not, ran-turns-more, ran-turns-out, whole-turns-all, whole-turns-some}
 use Rattle.plain_interp.proofs.outer.run_turns.Goals as goal
 
 pub unreachable-requires : goal.unreachable-requires

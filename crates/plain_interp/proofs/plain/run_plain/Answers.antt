@@ -1,5 +1,5 @@
 use Rattle.std.proofs.Common.{◌+◌, arith}
-use Rattle.plain_interp.proofs.Nests.{nest-ran}
+use Rattle.plain_interp.proofs.NestLaws.{nest-ran}
 use Rattle.plain_interp.proofs.plain.run_plain.Goals as goal
 
 pub returns : goal.returns

@@ -1,5 +1,5 @@
 use Rattle.std.proofs.Common.{rules, arith, sym, ap, ◌∙◌, ◌≡◌, ◌∷◌, refl, length}
-use Rattle.plain_interp.proofs.Nests.{loops_keep-some, nest-level, cut-loops, words-cut}
+use Rattle.plain_interp.proofs.NestLaws.{loops_keep-some, nest-level, cut-loops, words-cut}
 use Rattle.plain_interp.proofs.plain.run_words.Goals as goal
 
 pub unreachable-requires : goal.unreachable-requires

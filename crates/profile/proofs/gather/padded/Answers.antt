@@ -2,7 +2,7 @@ use Rattle.std.proofs.Common.{◌≡◌, ◌<◌, ◌∙◌, sym, pos, length, s
 use Rattle.std.proofs.Math.ListN.{length-set}
 use Rattle.std.proofs.lemmas.Int.{to_z-of_z}
 use Rattle.std.proofs.lemmas.List.{take_all}
-use Rattle.affine.proofs.MatrixLemmas.{map-range-step}
+use Rattle.affine.proofs.MatrixLaws.{map-range-step}
 use Rattle.profile.proofs.gather.padded.Goals as goal
 
 pub loop-place-preserved : goal.loop-place-preserved

@@ -1,4 +1,4 @@
-use Rattle.report.proofs.RunLemmas.{longest-runs}
+use Rattle.report.proofs.RunLaws.{longest-runs}
 use Rattle.report.proofs.OneList.{same-runs}
 use Rattle.report.proofs.laws.one_list_of_runs.Goals as goal
 

@@ -1,7 +1,7 @@
 use Rattle.std.proofs.Common.{List, ap, ◌∙◌, refl}
 use Rattle.report.specs.declared.runs.WordRun.{WordRun}
 use Rattle.report.specs.Outcomes.{outcome_lines}
-use Rattle.report.proofs.RunLemmas.{longest-runs}
+use Rattle.report.proofs.RunLaws.{longest-runs}
 use Rattle.report.proofs.OneList.{same-runs}
 use Rattle.report.proofs.laws.one_outcome.Goals as goal
 

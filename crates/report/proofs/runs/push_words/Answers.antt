@@ -2,7 +2,7 @@ use Rattle.std.proofs.Common.{rules, ◌≡◌, ℤ, ◌++◌, string_bytes, len
 use Rattle.std.proofs.lemmas.List.Sorted.{answers_always}
 use Rattle.std.specs.Ordering.{int_eq}
 use Rattle.report.specs.Outcomes.{words_line}
-use Rattle.report.proofs.RunLemmas.{IsPiece, LongestRuns-below, LongestBelow-zeros, LongestBelow-push, IsPiece-chunk, rest-chunk, run_of, lines-push}
+use Rattle.report.proofs.RunLaws.{IsPiece, LongestRuns-below, LongestBelow-zeros, LongestBelow-push, IsPiece-chunk, rest-chunk, run_of, lines-push}
 use Rattle.report.proofs.runs.push_words.Goals as goal
 use Rattle.report.proofs.runs.push_words.Goals.{then-run-ne0+in_ok-push_line, else-run-ne0}
 

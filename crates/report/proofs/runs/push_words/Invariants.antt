@@ -1,7 +1,7 @@
 use Rattle.std.proofs.Common.{◌≡◌, List, ◌++◌, drop, flat_map, string_bytes}
 use Rattle.report.specs.declared.runs.WordRun.{WordRun}
 use Rattle.report.specs.Outcomes.{words_line}
-use Rattle.report.proofs.RunLemmas.{LongestBelow}
+use Rattle.report.proofs.RunLaws.{LongestBelow}
 use Rattle.report.proofs.runs.push_words.Given as goal
 
 -- the lines of the longest runs below the next piece are written

@@ -1,7 +1,7 @@
 use Rattle.std.proofs.Common.{◌≡◌, ◌<◌, ◌+◌, ◌+ℤ◌, ◌∙◌, pos, length, get_or, subst, sym, FitsSigned, arith, rules, to_z, w64}
 use Rattle.std.specs.Int.{w128}
 use Rattle.std.proofs.lemmas.Int.{to_z-of_z}
-use Rattle.report.proofs.Sums.{SumIs, one-more}
+use Rattle.report.proofs.SumLaws.{SumIs, one-more}
 use Rattle.report.proofs.summary.sum.Goals as goal
 
 pub loop-word-preserved : goal.loop-word-preserved

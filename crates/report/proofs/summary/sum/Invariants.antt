@@ -1,4 +1,4 @@
-use Rattle.report.proofs.Sums.{SumIs}
+use Rattle.report.proofs.SumLaws.{SumIs}
 use Rattle.report.proofs.summary.sum.Given as goal
 
 abbrev pub invariant-loop-word : goal.invariant-loop-word

@@ -1,6 +1,6 @@
 use Rattle.std.proofs.Common.{◌≡◌, ◌∷◌, rules}
 use Rattle.std.proofs.lemmas.Result.{on_ok_weaker}
-use Rattle.report.proofs.Phrases.{joined-numbers}
+use Rattle.report.proofs.PhraseLaws.{joined-numbers}
 use Rattle.report.proofs.words.push_joined.Goals as goal
 
 pub returns : goal.returns

@@ -1,7 +1,7 @@
 use Rattle.std.proofs.Common.{FitsSigned, codes, decimal, rules, to_z-of_z, w64}
 use Rattle.std.proofs.lemmas.Result.{on_ok_weaker}
 use Rattle.report.specs.Lines.{counts_phrase, turns_phrase}
-use Rattle.report.proofs.Phrases.{commit-text}
+use Rattle.report.proofs.PhraseLaws.{commit-text}
 use Rattle.report.proofs.written.push_commit.Goals as goal
 
 pub returns : goal.returns

@@ -1,7 +1,7 @@
 use Rattle.std.proofs.Common.{FitsSigned, rules, to_z-of_z, w64}
 use Rattle.std.proofs.lemmas.Result.{on_ok_weaker}
 use Rattle.report.specs.Lines.{tube_words}
-use Rattle.report.proofs.Phrases.{form-words}
+use Rattle.report.proofs.PhraseLaws.{form-words}
 use Rattle.report.proofs.written.push_form.Goals as goal
 
 pub returns : goal.returns

@@ -4,7 +4,7 @@ use Rattle.std.proofs.lemmas.Result.{on_ok_weaker}
 use Rattle.nest_text.specs.Files.{scalar_names}
 use Rattle.report.specs.Words.{block_word, datum_phrase}
 use Rattle.report.specs.Lines.{listing_phrase, tube_words}
-use Rattle.report.proofs.Phrases.{form-phrase}
+use Rattle.report.proofs.PhraseLaws.{form-phrase}
 use Rattle.report.proofs.written.push_listed_phrase.Goals as goal
 
 pub returns-in_ok-push_datum-in-Form : goal.returns-in_ok-push_datum-in-Form

@@ -1,4 +1,4 @@
-use Rattle.shared_words.proofs.ViewSteps.{join-views}
+use Rattle.shared_words.proofs.ViewStepLaws.{join-views}
 use Rattle.shared_words.proofs.laws.join_is_its_step.Goals as goal
 
 pub returns : goal.returns

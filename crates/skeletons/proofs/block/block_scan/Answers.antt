@@ -1,5 +1,5 @@
 use Rattle.std.proofs.Common.{◌∙◌, ◌≤◌, ℤ, sym, ap, subst, length, List, map, arith}
-use Rattle.orders.specs.Orders.{Has}
+use Rattle.plain_lemmas.specs.Lists.{Has}
 use Rattle.arrayvec.specs.ArrayVec.{ArrayVec}
 use Rattle.fourier_motzkin.specs.Verdicts.{bounds_of}
 use Rattle.domain.specs.Tables.{Block}

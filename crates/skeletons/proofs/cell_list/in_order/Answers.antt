@@ -2,8 +2,9 @@ use Rattle.std.proofs.Common.{◌∙◌, subst, sym}
 use Rattle.std.proofs.lemmas.List.Filters.{dedup_is}
 use Rattle.std.proofs.lemmas.List.Kept.{Contains-dedup, Contains-from_dedup, IsStrictlySortedBy-dedup}
 use Rattle.std.proofs.lemmas.List.Sorted.{Contains-permutation, IsPermutation-sym}
-use Rattle.orders.specs.Orders.{Has, Ordered}
-use Rattle.orders.proofs.Lists.{contains-from-has, has-from-contains}
+use Rattle.orders.specs.Orders.{Ordered}
+use Rattle.plain_lemmas.specs.Lists.{Has}
+use Rattle.plain_lemmas.proofs.MembershipLaws.{contains-from-has, has-from-contains}
 use Rattle.skeletons.specs.Cells.{CellComes}
 use Rattle.skeletons.specs.contracts.cell.CellOrd.TheImpl.Laws.{total-law, matches_eq-law}
 use Rattle.skeletons.proofs.CellListLaws.{cell-exact, equivalence-of, ordered-sorted}

@@ -1,5 +1,5 @@
 use Rattle.std.specs.Prelude.{◌↔◌}
-use Rattle.orders.specs.Orders.{Has}
+use Rattle.plain_lemmas.specs.Lists.{Has}
 use Rattle.skeletons.specs.CellLists.{IsMetBelow}
 use Rattle.skeletons.specs.Cells.{Cell}
 use Rattle.skeletons.proofs.cell_list.met_cells.Given as goal

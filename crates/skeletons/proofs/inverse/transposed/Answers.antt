@@ -1,6 +1,6 @@
 use Rattle.std.proofs.Common.{◌≡◌, ◌<◌, length, arith}
 use Rattle.std.proofs.Math.ListN.{length-set}
-use Rattle.affine.proofs.MatrixLemmas.{map-range-step}
+use Rattle.affine.proofs.MatrixLaws.{map-range-step}
 use Rattle.skeletons.specs.Frames.{entries}
 use Rattle.skeletons.proofs.FrameLaws.{transposed-small-from}
 use Rattle.skeletons.proofs.inverse.transposed.Goals as goal

@@ -3,7 +3,8 @@ use Rattle.std.specs.Prelude.{◌↔◌}
 use Rattle.std.specs.Cmp.Lexicographic.{lists_ties}
 use Rattle.std.proofs.lemmas.List.Filters.{dedup_is}
 use Rattle.arrayvec.specs.ArrayVec.{ArrayVec}
-use Rattle.orders.specs.Orders.{Has, Ordered}
+use Rattle.orders.specs.Orders.{Ordered}
+use Rattle.plain_lemmas.specs.Lists.{Has}
 use Rattle.level_walk.specs.Orders.{Precedes}
 use Rattle.skeletons.specs.PlaceLists.{numbers}
 use Rattle.skeletons.proofs.SortedPointLaws.{dedup-has, dedup-ordered}

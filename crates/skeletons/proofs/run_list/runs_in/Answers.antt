@@ -1,6 +1,6 @@
 use Rattle.std.proofs.Common.{rules, ◌≡◌, ◌∙◌, ◌<◌, ◌≤◌, ◌+◌, ◌-◌, ℤ, List, [], ◌++◌, map, length, get_or, sym, ap, subst}
 use Rattle.std.specs.List.{AllByRecursion}
-use Rattle.orders.proofs.Lists.{all-from}
+use Rattle.plain_lemmas.proofs.MembershipLaws.{all-from}
 use Rattle.level_walk.specs.Walks.{IsBlock}
 use Rattle.level_walk.specs.declared.runs.Run.{Run as Stretch}
 use Rattle.level_walk.specs.declared.scans.BlockScan.{BlockScan}

@@ -7,7 +7,7 @@ use Rattle.skeletons.specs.Runs.{HasRuns, Run}
 use Rattle.tiles.specs.Counts.{count_of}
 use Rattle.tiles.specs.Plans.{IsPlanOf, Phase}
 use Rattle.tiles.specs.Strips.{IsListOfWords, IsPlannedRun, loads_of_run, stores_of_run, strip_of}
-use Rattle.orders.specs.Orders.{Has}
+use Rattle.plain_lemmas.specs.Lists.{Has}
 use Rattle.tiles.proofs.PlanLaws.{Stands, scope-bound, scope-more, scope-of, scope-plan, scope-planned}
 use Rattle.tiles.proofs.chunk_plan.plan.Goals as goal
 

@@ -1,4 +1,4 @@
-use Rattle.verified_turns.proofs.Following.{runs-are-follow-runs}
+use Rattle.verified_turns.proofs.FollowingLaws.{runs-are-follow-runs}
 use Rattle.verified_turns.proofs.laws.runs_are_follow_runs.Goals as goal
 
 pub returns : goal.returns

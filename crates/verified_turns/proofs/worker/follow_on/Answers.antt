@@ -8,8 +8,8 @@ use Rattle.follow_chunk.specs.Predicted.{scalars_at, interval_at}
 use Rattle.follow_chunk.specs.Tasks.{IsTask}
 use Rattle.follow_chunk.specs.Verifies.{VerifiesInstance}
 use Rattle.verified_turns.specs.Ports.{own_expectation, MayTouch}
-use Rattle.verified_turns.proofs.Shown.{length-shown}
-use Rattle.verified_turns.proofs.Touching.{may-touch, verifies-instance}
+use Rattle.verified_turns.proofs.SeatMemoryLaws.{length-shown}
+use Rattle.verified_turns.proofs.TouchLaws.{may-touch, verifies-instance}
 use Rattle.verified_turns.proofs.worker.follow_on.Goals as goal
 
 pub new-port-requires : goal.new-port-requires

@@ -1,7 +1,7 @@
 use Rattle.std.proofs.Common.{◌≡◌, ◌<◌, length, arith}
 use Rattle.std.proofs.Math.ListN.{length-set}
 use Rattle.affine.specs.Matrices.{unit_row}
-use Rattle.affine.proofs.MatrixLemmas.{map-range-step, HasSmallEntries-identity-from}
+use Rattle.affine.proofs.MatrixLaws.{map-range-step, HasSmallEntries-identity-from}
 use Rattle.affine.proofs.matrix.Matrix.identity.Goals as goal
 
 pub loop-place-preserved : goal.loop-place-preserved

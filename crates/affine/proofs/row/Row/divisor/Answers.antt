@@ -1,7 +1,7 @@
 use Rattle.std.proofs.Common.{◌<◌, ◌^◌, refl, arith}
 use Rattle.std.specs.Int.{w128}
 use Rattle.std.proofs.lemmas.Int.{fits_signed_from_abs, to_z_pos}
-use Rattle.affine.proofs.DivisorLemmas.{common_divisor-≤}
+use Rattle.affine.proofs.DivisorLaws.{common_divisor-≤}
 use Rattle.affine.proofs.row.Row.divisor.Goals as goal
 
 pub overflow_cast-result : goal.overflow_cast-result

@@ -1,7 +1,7 @@
 use Rattle.std.proofs.Common.{FitsSigned, rules}
 use Rattle.std.specs.Int.{w128}
 use Rattle.std.proofs.lemmas.Int.{to_z-of_z}
-use Rattle.affine.proofs.NormalLemmas.{normal-from-quotients}
+use Rattle.affine.proofs.NormalLaws.{normal-from-quotients}
 use Rattle.affine.proofs.row.Row.normal.Goals as goal
 
 pub returns : goal.returns

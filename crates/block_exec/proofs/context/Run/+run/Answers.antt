@@ -1,5 +1,5 @@
 use Rattle.std.proofs.Common.{◌≡◌, refl, Err, rules}
-use Rattle.nest_lang.proofs.StatementLemmas.{run-next, run-out}
+use Rattle.nest_lang.proofs.StatementLaws.{run-next, run-out}
 use Rattle.block_exec.proofs.StatementLaws.{shown-next, shown-out}
 use Rattle.block_exec.proofs.RunLaws.{kept-trans, finish-err}
 use Rattle.block_exec.proofs.context.Run.+run.Goals as goal

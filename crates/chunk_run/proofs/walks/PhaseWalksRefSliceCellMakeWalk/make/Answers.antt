@@ -1,5 +1,5 @@
 use Rattle.std.proofs.Common.{◌∙◌, rules}
-use Rattle.chunk_run.proofs.CellLists.{lists-unique}
+use Rattle.chunk_run.proofs.CellListLaws.{lists-unique}
 use Rattle.chunk_run.proofs.walks.PhaseWalksRefSliceCellMakeWalk.make.Goals as goal
 
 pub new-requires : goal.new-requires

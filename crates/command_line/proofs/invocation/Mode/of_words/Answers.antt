@@ -1,7 +1,7 @@
 use Rattle.std.proofs.Common.{ap, subst, Option, Some, List, map, option_map}
 use Rattle.clap.specs.Words.{Text}
 use Rattle.command_line.specs.Modes.{HasArguments}
-use Rattle.command_line.proofs.Found.{has-recipe, nothing}
+use Rattle.command_line.proofs.FoundWordLaws.{has-recipe, nothing}
 use Rattle.command_line.proofs.invocation.Mode.of_words.Goals as goal
 
 pub returns-in_err-of_words-in-gen-Some : goal.returns-in_err-of_words-in-gen-Some

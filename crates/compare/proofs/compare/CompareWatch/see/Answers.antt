@@ -4,7 +4,7 @@ use Rattle.compare.specs.Differences.{difference}
 use Rattle.block_exec.specs.Watches.{observed}
 use Rattle.compare.specs.Comparisons.{Comparison, looked, found_of}
 use Rattle.std.specs.Prelude.{option_map}
-use Rattle.compare.proofs.Closing.{now-looked}
+use Rattle.compare.proofs.ClosingLaws.{now-looked}
 use Rattle.compare.proofs.compare.CompareWatch.see.Goals as goal
 
 pub returns : goal.returns

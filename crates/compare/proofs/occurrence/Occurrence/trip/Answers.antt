@@ -1,6 +1,6 @@
 use Rattle.std.proofs.Common.{◌≡◌, ap, ◌∙◌, ℕ, ◌-◌, min, length, take, to_z, of_z, rules}
 use Rattle.std.specs.Int.{w128}
-use Rattle.compare.proofs.Occurring.{trip-wanted, take-least}
+use Rattle.compare.proofs.OccurringLaws.{trip-wanted, take-least}
 use Rattle.compare.proofs.occurrence.Occurrence.trip.Goals as goal
 
 pub returns : goal.returns

@@ -5,7 +5,7 @@ use Rattle.nest_lang.specs.declared.state.Outer.{Outer}
 use Rattle.nest_lang.specs.Turns.{turns_later}
 use Rattle.shared_words.specs.Memories.{signed}
 use Rattle.chunk_run.specs.ChunkEnds.{between}
-use Rattle.plain_interp.proofs.Positions.{position-next}
+use Rattle.plain_interp.proofs.PositionLaws.{position-next}
 use Rattle.controller.specs.Machines.{MachineState, between_at}
 use Rattle.controller.proofs.PlacedLaws.{take-front}
 use Rattle.controller.proofs.RunLaws.{has-run, has-run-none}

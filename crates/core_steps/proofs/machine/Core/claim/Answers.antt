@@ -3,7 +3,7 @@ use Rattle.core_steps.specs.declared.view.View.{View}
 use Rattle.core_steps.specs.States.{State}
 use Rattle.core_steps.specs.Places.{IsPlaceOf}
 use Rattle.core_steps.specs.Invariant.{Inv}
-use Rattle.core_steps.proofs.Applied.{claim-done, seats-kept}
+use Rattle.core_steps.proofs.AppliedStepLaws.{claim-done, seats-kept}
 use Rattle.core_steps.proofs.machine.Core.claim.Goals as goal
 
 pub invariant_of-self : goal.invariant_of-self

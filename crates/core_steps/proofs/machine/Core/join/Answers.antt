@@ -1,6 +1,6 @@
 use Rattle.core_steps.specs.States.{State}
 use Rattle.core_steps.specs.Places.{IsPlaceOf}
-use Rattle.core_steps.proofs.Applied.{join-done}
+use Rattle.core_steps.proofs.AppliedStepLaws.{join-done}
 use Rattle.core_steps.proofs.machine.Core.join.Goals as goal
 
 pub invariant_of-self-2 : goal.invariant_of-self-2

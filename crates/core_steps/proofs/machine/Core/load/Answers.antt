@@ -3,7 +3,7 @@ use Rattle.std.proofs.Common.{◌<◌, length, arith}
 use Rattle.std.proofs.Math.Facts.{to_z-of_z}
 use Rattle.core_steps.specs.States.{State, memory_word}
 use Rattle.core_steps.specs.Steps.{MayLoad}
-use Rattle.core_steps.proofs.Applied.{may-within, load-applied}
+use Rattle.core_steps.proofs.AppliedStepLaws.{may-within, load-applied}
 use Rattle.core_steps.proofs.machine.Core.load.Goals as goal
 
 pub overflow_add-address : goal.overflow_add-address

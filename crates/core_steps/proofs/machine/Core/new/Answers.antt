@@ -1,7 +1,7 @@
 use Rattle.std.proofs.Common.{ℕ, List, ◌++◌, replicate, ap, ◌∙◌}
 use Rattle.core_steps.specs.States.{bits_of}
 use Rattle.core_steps.specs.Views.{first_view}
-use Rattle.core_steps.proofs.Starts.{new-state, new-sound}
+use Rattle.core_steps.proofs.StartLaws.{new-state, new-sound}
 use Rattle.core_steps.proofs.machine.Core.new.Goals as goal
 
 pub invariant_of-result : goal.invariant_of-result

@@ -2,7 +2,7 @@ use Rattle.std.proofs.Common.{◌≡◌, eqb, List, ap, ◌∙◌}
 use Rattle.std.specs.Prelude.{position}
 use Rattle.core_steps.specs.declared.view.View.{View}
 use Rattle.core_steps.specs.States.{State, IsOut}
-use Rattle.core_steps.proofs.Places.{place-found}
+use Rattle.core_steps.proofs.PlaceLaws.{place-found}
 use Rattle.core_steps.proofs.machine.Core.place_of.Goals as goal
 
 pub returns : goal.returns

@@ -1,7 +1,7 @@
 use Rattle.std.proofs.Common.{◌≡◌, ◌<◌, ◌-◌, ◌^◌, []}
 use Rattle.core_steps.specs.States.{State, memory_of}
 use Rattle.core_steps.specs.Steps.{IsPlan}
-use Rattle.core_steps.proofs.Applied.{post-done}
+use Rattle.core_steps.proofs.AppliedStepLaws.{post-done}
 use Rattle.core_steps.proofs.machine.Core.post.Goals as goal
 
 pub invariant_of-self : goal.invariant_of-self

@@ -1,6 +1,6 @@
 use Rattle.core_steps.specs.States.{State}
 use Rattle.core_steps.specs.Places.{IsPlaceOf}
-use Rattle.core_steps.proofs.Applied.{raise-done}
+use Rattle.core_steps.proofs.AppliedStepLaws.{raise-done}
 use Rattle.core_steps.proofs.machine.Core.raise.Goals as goal
 
 pub invariant_of-self : goal.invariant_of-self

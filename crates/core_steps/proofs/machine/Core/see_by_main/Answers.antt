@@ -1,5 +1,5 @@
 use Rattle.core_steps.specs.States.{State}
-use Rattle.core_steps.proofs.Applied.{main-see-done}
+use Rattle.core_steps.proofs.AppliedStepLaws.{main-see-done}
 use Rattle.core_steps.proofs.machine.Core.see_by_main.Goals as goal
 
 pub invariant_of-self : goal.invariant_of-self

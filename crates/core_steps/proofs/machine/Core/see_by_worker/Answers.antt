@@ -1,6 +1,6 @@
 use Rattle.core_steps.specs.States.{State}
 use Rattle.core_steps.specs.Places.{IsPlaceOf}
-use Rattle.core_steps.proofs.Applied.{see-done}
+use Rattle.core_steps.proofs.AppliedStepLaws.{see-done}
 use Rattle.core_steps.proofs.machine.Core.see_by_worker.Goals as goal
 
 pub invariant_of-self : goal.invariant_of-self

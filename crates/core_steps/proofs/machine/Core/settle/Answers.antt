@@ -1,6 +1,6 @@
 use Rattle.std.proofs.Common.{◌≡◌, []}
 use Rattle.core_steps.specs.States.{State, memory_of}
-use Rattle.core_steps.proofs.Applied.{settle-done}
+use Rattle.core_steps.proofs.AppliedStepLaws.{settle-done}
 use Rattle.core_steps.proofs.machine.Core.settle.Goals as goal
 
 pub invariant_of-self : goal.invariant_of-self

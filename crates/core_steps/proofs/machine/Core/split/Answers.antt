@@ -4,8 +4,8 @@ use Rattle.core_steps.specs.declared.view.View.{View}
 use Rattle.core_steps.specs.Numbers.{has}
 use Rattle.core_steps.specs.States.{State}
 use Rattle.core_steps.specs.Invariant.{Inv}
-use Rattle.core_steps.proofs.NumberLists.{not_both}
-use Rattle.core_steps.proofs.Applied.{split-done}
+use Rattle.core_steps.proofs.NumberListLaws.{not_both}
+use Rattle.core_steps.proofs.AppliedStepLaws.{split-done}
 use Rattle.core_steps.proofs.machine.Core.split.Goals as goal
 
 pub invariant_of-self : goal.invariant_of-self

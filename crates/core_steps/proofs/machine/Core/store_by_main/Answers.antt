@@ -4,7 +4,7 @@ use Rattle.std.proofs.Math.Facts.{to_z-of_z}
 use Rattle.std.proofs.Common.{ap, ◌∙◌}
 use Rattle.core_steps.specs.States.{State}
 use Rattle.core_steps.specs.Steps.{MayTouch}
-use Rattle.core_steps.proofs.Applied.{main-store-done}
+use Rattle.core_steps.proofs.AppliedStepLaws.{main-store-done}
 use Rattle.core_steps.proofs.machine.Core.store_by_main.Goals as goal
 
 pub invariant_of-self : goal.invariant_of-self

@@ -5,7 +5,7 @@ use Rattle.std.proofs.Common.{◌≡◌, ◌<◌, true, length, arith, sym, ap, 
 use Rattle.core_steps.specs.Views.{may_store}
 use Rattle.core_steps.specs.States.{State, memory_word}
 use Rattle.core_steps.specs.Places.{IsPlaceOf}
-use Rattle.core_steps.proofs.Applied.{store-done, store-within}
+use Rattle.core_steps.proofs.AppliedStepLaws.{store-done, store-within}
 use Rattle.core_steps.proofs.machine.Core.store_by_worker.Goals as goal
 
 pub overflow_add-address : goal.overflow_add-address

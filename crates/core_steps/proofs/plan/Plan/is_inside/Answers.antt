@@ -2,7 +2,7 @@ use Rattle.std.proofs.Common.{◌≡◌, List, sym, ◌∙◌, ap}
 use Rattle.std.specs.List.{list_all}
 use Rattle.core_steps.specs.declared.plan.Tile.{Tile}
 use Rattle.core_steps.specs.Plans.{keeps_inside}
-use Rattle.core_steps.proofs.PlanTests.{all-inside-fact, all-inside-test}
+use Rattle.core_steps.proofs.PlanTestLaws.{all-inside-fact, all-inside-test}
 use Rattle.core_steps.proofs.plan.Plan.is_inside.Goals as goal
 
 pub returns : goal.returns

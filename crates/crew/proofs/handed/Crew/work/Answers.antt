@@ -5,8 +5,8 @@ use denote.Param.{param, number}
 use Rattle.crew.specs.Jobs.{total}
 use Rattle.verified_turns.specs.Workers.{Status, origin_of}
 use Rattle.std.proofs.Math.Facts.{to_z-of_z}
-use Rattle.crew.proofs.Totals.{ran-back, tiles-first}
-use Rattle.crew.proofs.Crossings.{job-send}
+use Rattle.crew.proofs.TotalLaws.{ran-back, tiles-first}
+use Rattle.crew.proofs.CrossingLaws.{job-send}
 use Rattle.crew.proofs.handed.Crew.work.Goals as goal
 
 pub returns-clause-ran : goal.returns-clause-ran

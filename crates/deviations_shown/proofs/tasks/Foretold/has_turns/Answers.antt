@@ -1,5 +1,5 @@
 use Rattle.std.proofs.Common.{◌≡◌, ◌≤◌, ℕ, Some, sym, ◌∙◌, arith, rules}
-use Rattle.deviations_shown.proofs.Turns.{turns-counted}
+use Rattle.deviations_shown.proofs.TurnLaws.{turns-counted}
 use Rattle.deviations_shown.proofs.tasks.Foretold.has_turns.Goals as goal
 
 pub returns-in-Some : goal.returns-in-Some

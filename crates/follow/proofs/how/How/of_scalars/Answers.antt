@@ -1,6 +1,6 @@
 use Rattle.std.proofs.Common.{◌≡◌, ◌<◌, ◌∙◌, sym, subst, ℕ, ℤ, pos, FitsSigned, w64, get_or, length, ⊎_elim, arith, rules}
 use Rattle.std.proofs.lemmas.Bool.{cases_lt}
-use Rattle.follow.proofs.Differing.{differ-after}
+use Rattle.follow.proofs.DifferingLaws.{differ-after}
 use Rattle.follow.proofs.how.How.of_scalars.Goals as goal
 
 pub loop-number-preserved : goal.loop-number-preserved

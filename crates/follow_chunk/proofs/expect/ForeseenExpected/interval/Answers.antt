@@ -5,7 +5,7 @@ use Rattle.affine.specs.Forms.{Affine, value_at}
 use Rattle.domain.specs.Tables.{Block, access_at}
 use Rattle.domain.specs.Instances.{Instance, block_of}
 use Rattle.follow_chunk.specs.Predicted.{interval_about}
-use Rattle.follow_chunk.proofs.Predicting.{interval-none, interval-some}
+use Rattle.follow_chunk.proofs.PredictingLaws.{interval-none, interval-some}
 use Rattle.follow_chunk.proofs.expect.ForeseenExpected.interval.Goals as goal
 
 pub returns-in-Some : goal.returns-in-Some

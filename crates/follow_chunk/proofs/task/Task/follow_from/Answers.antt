@@ -17,11 +17,12 @@ use Rattle.follow.proofs.VerifiedLaws.{verified-block}
 use Rattle.follow.specs.Told.{told}
 use Rattle.follow_chunk.specs.Predicted.{scalars_at, interval_at}
 use Rattle.follow_chunk.specs.Items.{around_of}
-use Rattle.follow_chunk.proofs.Standing.{counters-here, none-head, strides-here, head-same}
-use Rattle.follow_chunk.proofs.Predicting.{length-scalars}
-use Rattle.follow_chunk.proofs.Running.{run-block, run-head, few-scalars, count-here}
-use Rattle.follow_chunk.proofs.Keeping.{changes-nothing, changes-block, closes-small}
-use Rattle.follow_chunk.proofs.OwnAccesses.{own-block, own-head}
+use Rattle.follow_chunk.proofs.NestInstanceLaws.{counters-here, none-head, strides-here, head-same}
+use Rattle.follow_chunk.proofs.PlacingLaws.{nest-of, in-turns}
+use Rattle.follow_chunk.proofs.PredictingLaws.{length-scalars}
+use Rattle.follow_chunk.proofs.RunningLaws.{run-block, run-head, few-scalars, count-here}
+use Rattle.follow_chunk.proofs.LeftMemoryLaws.{changes-nothing, changes-block, closes-small}
+use Rattle.follow_chunk.proofs.OwnAccessLaws.{own-block, own-head}
 use Rattle.follow_chunk.proofs.task.Task.follow_from.Goals as goal
 
 pub values-values-requires : goal.values-values-requires
@@ -30,7 +31,7 @@ values-values-requires g c =
     let task = c.requires.task in
     let x = c.args.foreseen.now.inst.now in
     let p = c.requires.predicted in
-    let counts : c.in-Some.loops ≡ counters self.pred.now (block_of self.pred.now x) = (let e = sym c.in-Some.is ∙ c.counters.ensures ∙ ap (counters_of self.nest.now.loops) c.block-block.ensures ∙ counters-here g.row.D self.scalars self.nest.now.loops self.pred.now self.outer self.chunk task.0 task.1 x p in cc) in
+    let counts : c.in-Some.loops ≡ counters self.pred.now (block_of self.pred.now x) = (let e = sym c.in-Some.is ∙ c.counters.ensures ∙ ap (counters_of self.nest.now.loops) c.block-block.ensures ∙ counters-here g.row.D self.scalars self.nest.now.loops self.pred.now self.outer (nest-of g.row.D self.scalars self.nest.now.loops self.pred.now self.outer self.chunk task.0 task.1) x (in-turns g.row.D self.scalars self.nest.now.loops self.pred.now self.outer self.chunk task.0 task.1 x p) in cc) in
     search rules
 
 pub site-site-requires : goal.site-site-requires
@@ -39,7 +40,7 @@ site-site-requires g c =
     let task = c.requires.task in
     let x = c.args.foreseen.now.inst.now in
     let p = c.requires.predicted in
-    let counts : c.in-Some.loops ≡ counters self.pred.now (block_of self.pred.now x) = (let e = sym c.in-Some.is ∙ c.counters.ensures ∙ ap (counters_of self.nest.now.loops) c.block-block.ensures ∙ counters-here g.row.D self.scalars self.nest.now.loops self.pred.now self.outer self.chunk task.0 task.1 x p in cc) in
+    let counts : c.in-Some.loops ≡ counters self.pred.now (block_of self.pred.now x) = (let e = sym c.in-Some.is ∙ c.counters.ensures ∙ ap (counters_of self.nest.now.loops) c.block-block.ensures ∙ counters-here g.row.D self.scalars self.nest.now.loops self.pred.now self.outer (nest-of g.row.D self.scalars self.nest.now.loops self.pred.now self.outer self.chunk task.0 task.1) x (in-turns g.row.D self.scalars self.nest.now.loops self.pred.now self.outer self.chunk task.0 task.1 x p) in cc) in
     let values = c.values-values.ensures in
     search rules
 
@@ -51,7 +52,7 @@ returns-in-Some-statements-clause-run g c =
     let p = c.requires.predicted in
     let t = self.pred.now in
     let loops = self.nest.now.loops in
-    let counts : c.in-Some.loops ≡ counters t (block_of t x) = (let e = sym c.in-Some.is ∙ c.counters.ensures ∙ ap (counters_of loops) c.block-block.ensures ∙ counters-here g.row.D self.scalars self.nest.now.loops self.pred.now self.outer self.chunk task.0 task.1 x p in cc) in
+    let counts : c.in-Some.loops ≡ counters t (block_of t x) = (let e = sym c.in-Some.is ∙ c.counters.ensures ∙ ap (counters_of loops) c.block-block.ensures ∙ counters-here g.row.D self.scalars self.nest.now.loops self.pred.now self.outer (nest-of g.row.D self.scalars self.nest.now.loops self.pred.now self.outer self.chunk task.0 task.1) x (in-turns g.row.D self.scalars self.nest.now.loops self.pred.now self.outer self.chunk task.0 task.1 x p) in cc) in
     let frames = λ (e : Expectation). c.site-site.ensures e ∙ ap (λ (r : BlockRef). frame_of e r.part r.level (around_of t loops self.outer (take c.in-Some.loops x.at))) c.block-block.ensures
     ∙ ap (frame_of e (block_of t x).part (block_of t x).level) (ap (λ (n : ℕ). around_of t loops self.outer (take n x.at)) counts) in
     let intervals = interval_at c.args.foreseen.now.pred.now x in
@@ -71,7 +72,7 @@ returns-in-Some-statements-clause-changes g c =
     let p = c.requires.predicted in
     let t = self.pred.now in
     let loops = self.nest.now.loops in
-    let counts : c.in-Some.loops ≡ counters t (block_of t x) = (let e = sym c.in-Some.is ∙ c.counters.ensures ∙ ap (counters_of loops) c.block-block.ensures ∙ counters-here g.row.D self.scalars self.nest.now.loops self.pred.now self.outer self.chunk task.0 task.1 x p in cc) in
+    let counts : c.in-Some.loops ≡ counters t (block_of t x) = (let e = sym c.in-Some.is ∙ c.counters.ensures ∙ ap (counters_of loops) c.block-block.ensures ∙ counters-here g.row.D self.scalars self.nest.now.loops self.pred.now self.outer (nest-of g.row.D self.scalars self.nest.now.loops self.pred.now self.outer self.chunk task.0 task.1) x (in-turns g.row.D self.scalars self.nest.now.loops self.pred.now self.outer self.chunk task.0 task.1 x p) in cc) in
     let frames = λ (e : Expectation). c.site-site.ensures e ∙ ap (λ (r : BlockRef). frame_of e r.part r.level (around_of t loops self.outer (take c.in-Some.loops x.at))) c.block-block.ensures
     ∙ ap (frame_of e (block_of t x).part (block_of t x).level) (ap (λ (n : ℕ). around_of t loops self.outer (take n x.at)) counts) in
     let intervals = interval_at c.args.foreseen.now.pred.now x in
@@ -91,7 +92,7 @@ follow_head_verified-requires-clause-strides g c =
     let x = c.args.foreseen.now.inst.now in
     let p = c.requires.predicted in
     let head-is = ap (λ (r : BlockRef). head_at self.nest.now.loops r.level) (sym c.block-block.ensures) ∙ sym c.head.ensures ∙ ap (option_map (λ head. head.now)) c.in-Some-head.is in
-    subst (λ (h : Head). strides h ≡ _) (head-same g.row.D self.scalars self.nest.now.loops self.pred.now self.outer self.chunk task.0 task.1 x p c.in-Some-head.head.now head-is) (strides-here g.row.D self.scalars self.nest.now.loops self.pred.now self.outer self.chunk task.0 task.1 x p)
+    subst (λ (h : Head). strides h ≡ _) (head-same g.row.D self.scalars self.nest.now.loops self.pred.now self.outer (nest-of g.row.D self.scalars self.nest.now.loops self.pred.now self.outer self.chunk task.0 task.1) x (in-turns g.row.D self.scalars self.nest.now.loops self.pred.now self.outer self.chunk task.0 task.1 x p) c.in-Some-head.head.now head-is) (strides-here g.row.D self.scalars self.nest.now.loops self.pred.now self.outer (nest-of g.row.D self.scalars self.nest.now.loops self.pred.now self.outer self.chunk task.0 task.1) x (in-turns g.row.D self.scalars self.nest.now.loops self.pred.now self.outer self.chunk task.0 task.1 x p))
 
 pub returns-clause-run : goal.returns-clause-run
 returns-clause-run g c =
@@ -101,7 +102,7 @@ returns-clause-run g c =
     let p = c.requires.predicted in
     let t = self.pred.now in
     let loops = self.nest.now.loops in
-    let counts : c.in-Some.loops ≡ counters t (block_of t x) = (let e = sym c.in-Some.is ∙ c.counters.ensures ∙ ap (counters_of loops) c.block-block.ensures ∙ counters-here g.row.D self.scalars self.nest.now.loops self.pred.now self.outer self.chunk task.0 task.1 x p in cc) in
+    let counts : c.in-Some.loops ≡ counters t (block_of t x) = (let e = sym c.in-Some.is ∙ c.counters.ensures ∙ ap (counters_of loops) c.block-block.ensures ∙ counters-here g.row.D self.scalars self.nest.now.loops self.pred.now self.outer (nest-of g.row.D self.scalars self.nest.now.loops self.pred.now self.outer self.chunk task.0 task.1) x (in-turns g.row.D self.scalars self.nest.now.loops self.pred.now self.outer self.chunk task.0 task.1 x p) in cc) in
     let frames = λ (e : Expectation). c.site-site.ensures e ∙ ap (λ (r : BlockRef). frame_of e r.part r.level (around_of t loops self.outer (take c.in-Some.loops x.at))) c.block-block.ensures
     ∙ ap (frame_of e (block_of t x).part (block_of t x).level) (ap (λ (n : ℕ). around_of t loops self.outer (take n x.at)) counts) in
     let intervals = interval_at c.args.foreseen.now.pred.now x in
@@ -110,7 +111,7 @@ returns-clause-run g c =
     let closes = ap (λ (u : Table). scalars_at u c.args.foreseen.now.next) c.requires.pred ∙ c.requires.next in
     let head-is = ap (λ (r : BlockRef). head_at loops r.level) (sym c.block-block.ensures) ∙ sym c.head.ensures ∙ ap (option_map (λ head. head.now)) c.in-Some-head.is in
     let none = ap (statements_of loops) (sym c.block-block.ensures) ∙ sym c.statements.ensures ∙ ap (option_map (λ ss. ss.now)) c.in_default-statements.is in
-    let part = none-head g.row.D self.scalars self.nest.now.loops self.pred.now self.outer self.chunk task.0 task.1 x p none in
+    let part = none-head g.row.D self.scalars self.nest.now.loops self.pred.now self.outer (nest-of g.row.D self.scalars self.nest.now.loops self.pred.now self.outer self.chunk task.0 task.1) x (in-turns g.row.D self.scalars self.nest.now.loops self.pred.now self.outer self.chunk task.0 task.1 x p) none in
     let owned : VerifiesOwn _ intervals (head_accesses c.in-Some-head.head.now) = subst (λ (u : Table). VerifiesOwn (g.P.Port.expects c.args.port.now) (interval_at u x) (head_accesses c.in-Some-head.head.now)) (sym c.requires.pred) (own-head g.row.D self.scalars task.0 loops t self.outer self.chunk x task.1 p (g.P.Port.expects c.args.port.now) c.requires.own c.in-Some-head.head.now head-is part) in
     run-head g.row.D self.scalars self.nest.now.loops self.pred.now self.outer self.chunk task.0 task.1 x p c.site-site.result frames intervals each (g.P.Port.memory c.args.port.now) (g.P.Port.memory c.follow_head_verified.new.port) (told c.follow_head_verified.result c.follow_head_verified.new.how)
     c.args.scalars.now (scalars_at c.args.foreseen.now.pred.now c.args.foreseen.now.next) c.in-Some-head.head.now c.turning-turning.result begins closes head-is part c.turning-turning.ensures (λ r nx told turning. c.follow_head_verified.ensures.followed r nx told owned turning)

@@ -1,6 +1,6 @@
 use Rattle.std.proofs.Common.{◌≡◌, [], rules}
 use Rattle.follow_chunk.specs.Predicted.{scalars_at}
-use Rattle.follow_chunk.proofs.Running.{none-here}
+use Rattle.follow_chunk.proofs.RunningLaws.{none-here}
 use Rattle.follow_chunk.proofs.task.Task.follow_own.Goals as goal
 
 pub follow_from-requires : goal.follow_from-requires

@@ -1,7 +1,7 @@
 use Rattle.std.proofs.Common.{◌≡◌, ◌≤◌, sym, ◌∙◌, length, take, arith, rules}
 use Rattle.domain.specs.Instances.{block_of}
-use Rattle.follow_chunk.proofs.Predicting.{room, room-taken}
-use Rattle.follow_chunk.proofs.Running.{few-scalars, count-here, fits-here}
+use Rattle.follow_chunk.proofs.PredictingLaws.{room, room-taken}
+use Rattle.follow_chunk.proofs.RunningLaws.{few-scalars, count-here, fits-here}
 use Rattle.follow_chunk.proofs.task.Task.follow_with_scalars.Goals as goal
 
 pub slice_bounds-room-end : goal.slice_bounds-room-end

@@ -6,7 +6,7 @@ use Rattle.affine.specs.Forms.{Affine, value_at}
 use Rattle.domain.specs.Tables.{Level, cut, level_at}
 use Rattle.domain.specs.Instances.{Instance}
 use Rattle.follow_chunk.specs.Predicted.{value_or_zero}
-use Rattle.follow_chunk.proofs.Placing.{lower-level, counters-deep}
+use Rattle.follow_chunk.proofs.PlacingLaws.{lower-level, counters-deep}
 use Rattle.follow_chunk.proofs.task.Task.lower.Goals as goal
 
 pub overflow_cast-result : goal.overflow_cast-result

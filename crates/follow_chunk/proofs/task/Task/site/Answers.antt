@@ -1,7 +1,7 @@
 use Rattle.std.proofs.Common.{sym, ◌∙◌, ap, ap₂, List, ℤ, take, arith}
 use Rattle.domain.specs.Instances.{Instance}
 use Rattle.follow.specs.Plans.{frame_with}
-use Rattle.follow_chunk.proofs.Placing.{around-counters, counters-deep}
+use Rattle.follow_chunk.proofs.PlacingLaws.{around-counters, counters-deep}
 use Rattle.follow_chunk.proofs.task.Task.site.Goals as goal
 
 pub returns : goal.returns

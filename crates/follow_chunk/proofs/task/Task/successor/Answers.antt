@@ -1,6 +1,6 @@
 use Rattle.std.proofs.Common.{rules}
-use Rattle.follow_chunk.proofs.Standing.{can-turn}
-use Rattle.follow_chunk.proofs.Running.{next-is}
+use Rattle.follow_chunk.proofs.LaunchedInstanceLaws.{can-turn}
+use Rattle.follow_chunk.proofs.RunningLaws.{next-is}
 use Rattle.follow_chunk.proofs.task.Task.successor.Goals as goal
 
 pub successor-requires : goal.successor-requires

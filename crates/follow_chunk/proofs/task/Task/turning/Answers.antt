@@ -14,8 +14,8 @@ use Rattle.domain.specs.Expected.{expected_of}
 use Rattle.follow.specs.declared.how.Turning.TheVariants.{Bounds, Holds}
 use Rattle.follow.specs.Turnings.{IsTurning}
 use Rattle.follow_chunk.specs.Predicted.{occurrence_of, forecast_of}
-use Rattle.follow_chunk.proofs.Placing.{counter-fits}
-use Rattle.follow_chunk.proofs.Running.{trip-here, bounds-here, holds-here}
+use Rattle.follow_chunk.proofs.PlacingLaws.{counter-fits}
+use Rattle.follow_chunk.proofs.RunningLaws.{trip-here, bounds-here, holds-here}
 use Rattle.follow_chunk.proofs.task.Task.turning.Goals as goal
 
 pub returns-in-For : goal.returns-in-For

@@ -8,7 +8,7 @@ use Rattle.nest_lang.specs.Values.{turn_value}
 use Rattle.domain.specs.Instances.{Instance, counter}
 use Rattle.follow.specs.Instances.{lower_at}
 use Rattle.follow_chunk.specs.Predicted.{forecast_of}
-use Rattle.follow_chunk.proofs.Placing.{lower-fits, value-fits, counter-fits, head-there, counters-deep, name-for, name-while}
+use Rattle.follow_chunk.proofs.PlacingLaws.{lower-fits, value-fits, counter-fits, head-there, counters-deep, name-for, name-while}
 use Rattle.follow_chunk.proofs.task.Task.value.Goals as goal
 
 pub unreachable-requires : goal.unreachable-requires

@@ -4,7 +4,7 @@ use Rattle.std.proofs.lemmas.List.{length-replicate, take_more_set}
 use Rattle.nest_lang.specs.Loops.{Around}
 use Rattle.nest_lang.specs.Blocks.{head_at}
 use Rattle.follow_chunk.specs.Items.{around_of}
-use Rattle.follow_chunk.proofs.Placing.{around-next, around-none, counters-deep}
+use Rattle.follow_chunk.proofs.PlacingLaws.{around-next, around-none, counters-deep}
 use Rattle.follow_chunk.proofs.task.Task.values.Goals as goal
 
 pub loop-depth-init : goal.loop-depth-init

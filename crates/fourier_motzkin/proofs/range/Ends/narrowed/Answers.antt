@@ -1,7 +1,7 @@
 use Rattle.std.proofs.Common.{◌<ℤ◌, pos, FitsSigned, arith, rules}
 use Rattle.std.specs.Int.{w128}
 use Rattle.std.proofs.lemmas.Int.{to_z-of_z, ints}
-use Rattle.fourier_motzkin.proofs.Ends.{narrowed-above, narrowed-below}
+use Rattle.fourier_motzkin.proofs.EndLaws.{narrowed-above, narrowed-below}
 use Rattle.fourier_motzkin.proofs.range.Ends.narrowed.Goals as goal
 
 pub returns-then-coefficient-gt0-clause-some : goal.returns-then-coefficient-gt0-clause-some

@@ -1,7 +1,7 @@
 use Rattle.std.proofs.Common.{◌≡◌, List, sym, subst}
 use Rattle.std.specs.Prelude.{OnOk}
 use Rattle.affine.specs.declared.row.Row.{Row}
-use Rattle.fourier_motzkin.proofs.Sets.{with_row-nothing, with_row-tells}
+use Rattle.fourier_motzkin.proofs.SetLaws.{with_row-nothing, with_row-tells}
 use Rattle.fourier_motzkin.proofs.tidying.Tidying.add.Goals as goal
 
 pub returns-then-says_nothing : goal.returns-then-says_nothing

@@ -1,5 +1,5 @@
 use Rattle.std.proofs.Common.{◌≡◌, ◌++◌, map}
-use Rattle.fourier_motzkin.proofs.Entries.{row_at}
+use Rattle.fourier_motzkin.proofs.EntryLaws.{row_at}
 use Rattle.fourier_motzkin.proofs.tidying.Tidying.into_rows.Given as goal
 
 abbrev pub invariant-loop-coef : goal.invariant-loop-coef

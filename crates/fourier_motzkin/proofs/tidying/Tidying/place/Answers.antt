@@ -3,7 +3,7 @@ use Rattle.std.specs.Int.{w128}
 use Rattle.std.proofs.lemmas.Int.{to_z-of_z, ints}
 use Rattle.std.specs.BTreeMap.{is_at}
 use Rattle.std.specs.Map.{lookup}
-use Rattle.fourier_motzkin.proofs.Entries.{by_places, kept-stays, kept-inserted}
+use Rattle.fourier_motzkin.proofs.EntryLaws.{by_places, kept-stays, kept-inserted}
 use Rattle.fourier_motzkin.proofs.tidying.Tidying.place.Goals as goal
 use Rattle.fourier_motzkin.proofs.tidying.Tidying.place.Goals.{in-Some+else-least-cst, in_default}
 

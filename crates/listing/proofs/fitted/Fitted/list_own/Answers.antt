@@ -3,7 +3,7 @@ use Rattle.std.specs.List.{flat_map, range_with_len}
 use Rattle.transform.specs.Scripts.{schedule_of}
 use Rattle.report.specs.declared.line.ListingLine.{ListingLine}
 use Rattle.listing.specs.Lists.{judgement_at}
-use Rattle.listing.proofs.Growing.{ranged-more}
+use Rattle.listing.proofs.GrowingListLaws.{ranged-more}
 use Rattle.listing.proofs.CandidateLaws.{own-judged}
 use Rattle.listing.proofs.fitted.Fitted.list_own.Goals as goal
 

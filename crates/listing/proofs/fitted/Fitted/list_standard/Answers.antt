@@ -3,7 +3,7 @@ use Rattle.std.specs.List.{flat_map, range_with_len}
 use Rattle.transform.specs.Schedules.{Schedule}
 use Rattle.report.specs.declared.line.ListingLine.{ListingLine}
 use Rattle.listing.specs.Lists.{judged_if_any}
-use Rattle.listing.proofs.Growing.{ranged-more}
+use Rattle.listing.proofs.GrowingListLaws.{ranged-more}
 use Rattle.listing.proofs.CandidateLaws.{standard-judged, standard_at}
 use Rattle.listing.proofs.fitted.Fitted.list_standard.Goals as goal
 

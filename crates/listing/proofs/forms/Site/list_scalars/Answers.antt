@@ -4,7 +4,7 @@ use Rattle.domain.specs.declared.prediction.What.TheVariants.{Scalar}
 use Rattle.domain.specs.Tables.{block_at}
 use Rattle.profile.specs.Data.{tube_in}
 use Rattle.listing.specs.Lists.{form_if_any}
-use Rattle.listing.proofs.Growing.{numbered-more}
+use Rattle.listing.proofs.GrowingListLaws.{numbered-more}
 use Rattle.listing.proofs.forms.Site.list_scalars.Goals as goal
 
 pub loop-number-preserved : goal.loop-number-preserved

@@ -1,6 +1,6 @@
 use Rattle.std.proofs.Common.{arith, ap}
 use Rattle.nest_io.specs.Memory.{MemorySource}
-use Rattle.nest_io.proofs.Transfers.{front-copied}
+use Rattle.nest_io.proofs.TransferLaws.{front-copied}
 use Rattle.nest_io.proofs.memory.MemSourceSource.read.Goals as goal
 
 pub returns-clause-taken : goal.returns-clause-taken

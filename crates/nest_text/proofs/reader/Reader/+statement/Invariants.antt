@@ -1,6 +1,6 @@
 use Rattle.std.proofs.Common.{◌≡◌, ℕ, ◌+◌, ◌*◌, ◌≤◌, length, take, []}
 use Rattle.nest_grammar.specs.Names.{Names}
-use Rattle.nest_text.proofs.Listing.{Going, going}
+use Rattle.nest_text.proofs.ListingLaws.{Going, going}
 use Rattle.nest_text.proofs.reader.Reader.+statement.Given as goal
 
 abbrev pub decreases-braced : goal.decreases-braced

@@ -1,7 +1,7 @@
 use Rattle.std.proofs.Common.{◌≡◌, ℕ, ◌≤◌, ◌+◌, arith, length, drop, length-drop, ap}
 use Rattle.std.proofs.lemmas.List.{take_rest}
 use Rattle.nest_tokens.specs.Lexing.{lexed}
-use Rattle.nest_tokens.proofs.Places.{placed}
+use Rattle.nest_tokens.proofs.PlaceLaws.{placed}
 use Rattle.nest_tokens.proofs.cursor.Cursor.from.Goals as goal
 
 pub invariant_of-result : goal.invariant_of-result

@@ -1,6 +1,6 @@
 use Rattle.std.proofs.Common.{sym}
 use Rattle.nest_tokens.specs.Ahead.{here}
-use Rattle.nest_tokens.proofs.Places.{here-at}
+use Rattle.nest_tokens.proofs.PlaceLaws.{here-at}
 use Rattle.nest_tokens.proofs.FitLaws.{placed-fits}
 use Rattle.nest_tokens.proofs.cursor.Cursor.spot.Goals as goal
 

@@ -1,6 +1,6 @@
 use Rattle.std.proofs.Common.{◌∙◌}
 use Rattle.nest_tokens.specs.Tokens.{is_mark}
-use Rattle.nest_tokens.proofs.Marks.{is-same}
+use Rattle.nest_tokens.proofs.MarkLaws.{is-same}
 use Rattle.nest_tokens.proofs.token.Token.is.Goals as goal
 
 pub returns-in-Plain : goal.returns-in-Plain

@@ -8,7 +8,7 @@ use Rattle.profile.specs.Data.{samples_at, tube_about}
 use Rattle.profile.specs.Fits.{HasFitAt}
 use Rattle.profile.specs.Parts.{IsEndIn}
 use Rattle.profile.proofs.EndLaws.{handed-on, ranged-end}
-use Rattle.profile.proofs.FitParts.{fit-tube, forms-length, more-access}
+use Rattle.profile.proofs.FitPartLaws.{fit-tube, forms-length, more-access}
 use Rattle.nest_lang.specs.declared.tree.Access.{Access as NestAccess}
 use Rattle.nest_lang.specs.declared.tree.AccessKind.TheVariants.{Load}
 use Rattle.std.proofs.Common.{pos, false, None, rules}

@@ -3,7 +3,7 @@ use Rattle.nest_lang.specs.Accesses.{accesses_of}
 use Rattle.profile.specs.Data.{data_of}
 use Rattle.profile.specs.Parts.{IsEndIn}
 use Rattle.profile.proofs.EndLaws.{handed-on}
-use Rattle.profile.proofs.FitParts.{first-end, second-end, third-end}
+use Rattle.profile.proofs.FitPartLaws.{first-end, second-end, third-end}
 use Rattle.profile.proofs.site.Site.block.Goals as goal
 
 pub returns-in_err-scalars : goal.returns-in_err-scalars

@@ -3,7 +3,7 @@ use Rattle.nest_lang.specs.declared.tree.Part.TheVariants.{Head}
 use Rattle.profile.specs.Data.{bounds_of}
 use Rattle.profile.specs.Parts.{IsEndIn}
 use Rattle.profile.proofs.EndLaws.{handed-on}
-use Rattle.profile.proofs.FitParts.{bounds-end}
+use Rattle.profile.proofs.FitPartLaws.{bounds-end}
 use Rattle.profile.proofs.site.Site.bounds.Goals as goal
 
 pub returns-in_err-trip : goal.returns-in_err-trip

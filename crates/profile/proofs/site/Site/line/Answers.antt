@@ -2,7 +2,7 @@ use Rattle.std.proofs.Common.{sym, subst, Option, Some}
 use Rattle.line_fit.specs.Lines.{Tube}
 use Rattle.profile.specs.Data.{samples_at, widest}
 use Rattle.profile.specs.Fits.{HasFitAt}
-use Rattle.profile.proofs.FitParts.{narrow-fit}
+use Rattle.profile.proofs.FitPartLaws.{narrow-fit}
 use Rattle.profile.proofs.site.Site.line.Goals as goal
 
 pub returns-in-Some : goal.returns-in-Some

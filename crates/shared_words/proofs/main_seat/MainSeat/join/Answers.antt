@@ -1,5 +1,5 @@
 use Rattle.std.proofs.Common.{arith, ap, ◌∙◌}
-use Rattle.shared_words.proofs.MainSteps.{joins}
+use Rattle.shared_words.proofs.MainStepLaws.{joins}
 use Rattle.shared_words.proofs.main_seat.MainSeat.join.Goals as goal
 
 pub join_seat-requires : goal.join_seat-requires

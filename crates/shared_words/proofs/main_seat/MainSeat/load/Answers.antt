@@ -1,5 +1,5 @@
 use Rattle.std.proofs.Common.{arith, ap}
-use Rattle.shared_words.proofs.MainSteps.{main-loads}
+use Rattle.shared_words.proofs.MainStepLaws.{main-loads}
 use Rattle.shared_words.proofs.main_seat.MainSeat.load.Goals as goal
 
 pub load-requires : goal.load-requires

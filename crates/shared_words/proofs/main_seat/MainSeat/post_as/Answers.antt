@@ -2,7 +2,7 @@ use Rattle.std.proofs.Common.{arith, ap, ◌∙◌, sym}
 use Rattle.core_steps.specs.declared.plan.Plan.{Plan}
 use Rattle.core_steps.specs.Views.{posted_view}
 use Rattle.shared_words.proofs.SeatLaws.{keeps-posted}
-use Rattle.shared_words.proofs.MainSteps.{posts}
+use Rattle.shared_words.proofs.MainStepLaws.{posts}
 use Rattle.shared_words.proofs.main_seat.MainSeat.post_as.Goals as goal
 
 pub load-requires : goal.load-requires

@@ -1,9 +1,9 @@
 use Rattle.std.proofs.Common.{length, arith, ap, ◌∙◌}
 use Rattle.atomic_table.specs.Table.{Me}
 use Rattle.core_steps.specs.declared.view.View.{View}
-use Rattle.core_steps.proofs.StoreLists.{length-overlaid}
+use Rattle.core_steps.proofs.StoreListLaws.{length-overlaid}
 use Rattle.shared_words.proofs.SeatLaws.{keeps-settled}
-use Rattle.shared_words.proofs.MainSteps.{settles}
+use Rattle.shared_words.proofs.MainStepLaws.{settles}
 use Rattle.shared_words.proofs.main_seat.MainSeat.settle.Goals as goal
 
 pub load-requires : goal.load-requires

@@ -1,5 +1,5 @@
 use Rattle.std.proofs.Common.{arith, ap}
-use Rattle.shared_words.proofs.MainSteps.{splits}
+use Rattle.shared_words.proofs.MainStepLaws.{splits}
 use Rattle.shared_words.proofs.main_seat.MainSeat.split_as.Goals as goal
 
 pub split_seat-seat-requires : goal.split_seat-seat-requires

@@ -1,5 +1,5 @@
 use Rattle.std.proofs.Common.{arith, ap}
-use Rattle.shared_words.proofs.MainSteps.{main-stores}
+use Rattle.shared_words.proofs.MainStepLaws.{main-stores}
 use Rattle.shared_words.proofs.main_seat.MainSeat.store.Goals as goal
 
 pub store-requires : goal.store-requires

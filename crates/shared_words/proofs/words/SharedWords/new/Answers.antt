@@ -5,7 +5,7 @@ use Rattle.core_steps.specs.Views.{first_view}
 use Rattle.core_steps.specs.States.{memory_of, bits_of}
 use Rattle.shared_words.specs.Seats.{IsCoreState}
 use Rattle.shared_words.proofs.SeatLaws.{keeps-first}
-use Rattle.shared_words.proofs.MainSteps.{start-in}
+use Rattle.shared_words.proofs.MainStepLaws.{start-in}
 use Rattle.shared_words.proofs.words.SharedWords.new.Goals as goal
 
 pub of_words-requires : goal.of_words-requires

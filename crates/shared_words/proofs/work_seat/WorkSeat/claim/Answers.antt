@@ -1,5 +1,5 @@
 use Rattle.std.proofs.Common.{arith, ap}
-use Rattle.shared_words.proofs.WorkerSteps.{claims}
+use Rattle.shared_words.proofs.WorkerStepLaws.{claims}
 use Rattle.shared_words.proofs.work_seat.WorkSeat.claim.Goals as goal
 
 pub swap-old-requires : goal.swap-old-requires

@@ -1,7 +1,7 @@
 use Rattle.std.proofs.Common.{◌<◌, length, arith, ap}
 use Rattle.core_steps.specs.Plans.{touches}
-use Rattle.core_steps.proofs.StateSteps.{any-held}
-use Rattle.shared_words.proofs.WorkerSteps.{loads}
+use Rattle.core_steps.proofs.StateStepLaws.{any-held}
+use Rattle.shared_words.proofs.WorkerStepLaws.{loads}
 use Rattle.shared_words.proofs.work_seat.WorkSeat.load.Goals as goal
 
 pub overflow_add-address : goal.overflow_add-address

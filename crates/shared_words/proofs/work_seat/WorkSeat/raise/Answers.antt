@@ -1,5 +1,5 @@
 use Rattle.std.proofs.Common.{arith, ap}
-use Rattle.shared_words.proofs.WorkerSteps.{raises}
+use Rattle.shared_words.proofs.WorkerStepLaws.{raises}
 use Rattle.shared_words.proofs.work_seat.WorkSeat.raise.Goals as goal
 
 pub store-requires : goal.store-requires

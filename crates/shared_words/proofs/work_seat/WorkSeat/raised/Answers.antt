@@ -1,5 +1,5 @@
 use Rattle.std.proofs.Common.{arith, ap}
-use Rattle.shared_words.proofs.WorkerSteps.{sees}
+use Rattle.shared_words.proofs.WorkerStepLaws.{sees}
 use Rattle.shared_words.proofs.work_seat.WorkSeat.raised.Goals as goal
 
 pub load-requires : goal.load-requires

@@ -1,8 +1,8 @@
 use Rattle.std.proofs.Common.{◌<◌, length, arith, ap}
 use Rattle.core_steps.specs.Plans.{writes}
-use Rattle.core_steps.proofs.StateSteps.{any-held}
+use Rattle.core_steps.proofs.StateStepLaws.{any-held}
 use Rattle.core_steps.proofs.StoreKeeps.{write-touches}
-use Rattle.shared_words.proofs.WorkerSteps.{stores}
+use Rattle.shared_words.proofs.WorkerStepLaws.{stores}
 use Rattle.shared_words.proofs.work_seat.WorkSeat.store.Goals as goal
 
 pub overflow_add-address : goal.overflow_add-address

@@ -3,7 +3,7 @@ use Rattle.level_walk.specs.declared.merges.Best.{Best}
 use Rattle.level_walk.specs.declared.scans.BlockScan.{BlockScan}
 use Rattle.level_walk.specs.Merges.{AllOrdered, merged}
 use Rattle.level_walk.specs.Walks.{AllStand, all_left, all_points}
-use Rattle.orders.specs.Orders.{Has}
+use Rattle.plain_lemmas.specs.Lists.{Has}
 use Rattle.skeletons.specs.Cells.{Extent}
 use Rattle.skeletons.specs.Frames.{instance_at}
 use Rattle.skeletons.proofs.ListLaws.{entered, merged-has}

@@ -1,7 +1,7 @@
 use Rattle.std.proofs.Common.{ap, subst, ℤ, pos, List, map, replicate, arith}
 use Rattle.level_walk.specs.declared.merges.Best.{Best}
-use Rattle.orders.specs.Orders.{Has}
-use Rattle.level_walk.proofs.NewLemmas.{IsEnded, ended-ordered, ended-stands, nothing-merged, zeros-box}
+use Rattle.plain_lemmas.specs.Lists.{Has}
+use Rattle.level_walk.proofs.NewWalkLaws.{IsEnded, ended-ordered, ended-stands, nothing-merged, zeros-box}
 use Rattle.skeletons.specs.Cells.{Extent}
 use Rattle.skeletons.specs.Frames.{instance_at}
 use Rattle.skeletons.proofs.tile_walk.Places.new.Goals as goal

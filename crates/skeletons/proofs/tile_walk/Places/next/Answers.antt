@@ -3,7 +3,7 @@ use Rattle.level_walk.specs.declared.merges.Best.{Best}
 use Rattle.level_walk.specs.declared.scans.BlockScan.{BlockScan}
 use Rattle.level_walk.specs.Merges.{AllOrdered, merged}
 use Rattle.level_walk.specs.Walks.{AllStand, all_left}
-use Rattle.orders.specs.Orders.{Has}
+use Rattle.plain_lemmas.specs.Lists.{Has}
 use Rattle.skeletons.proofs.tile_walk.Places.next.Goals as goal
 
 pub returns-clause-stands : goal.returns-clause-stands

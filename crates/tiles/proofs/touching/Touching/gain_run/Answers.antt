@@ -3,12 +3,12 @@ use Rattle.std.specs.List.{flat_map}
 use Rattle.domain.specs.Footprints.{Gains}
 use Rattle.domain.specs.Tables.{Access, Block, block_at}
 use Rattle.domain.specs.Instances.{Instance, block_of}
-use Rattle.orders.specs.Orders.{Has}
+use Rattle.plain_lemmas.specs.Lists.{Has}
 use Rattle.skeletons.specs.Runs.{Run}
 use Rattle.tiles.specs.declared.strip.Strip.{Strip}
 use Rattle.tiles.specs.Strips.{IsWordOf, load_strips, store_strips, strip_of}
 use Rattle.tiles.proofs.WordLaws.{flat-all, flat-more, get_or-has, strips-append, words-more}
-use Rattle.tiles.proofs.CountLaws.{has-flat-map}
+use Rattle.plain_lemmas.proofs.MembershipLaws.{has-flat_map}
 use Rattle.tiles.proofs.touching.Touching.gain_run.Goals as goal
 
 pub gain_access-requires : goal.gain_access-requires
@@ -24,7 +24,7 @@ gain_access-requires g c =
           c.requires.few,
           (
             c.requires.planned.small,
-            λ strip h. c.requires.planned.stores strip (has-flat-map (store_strips c.args.run.now) (block_of c.args.pred.now c.args.run.now.first).accesses c.access-item.result strip there h),
+            λ strip h. c.requires.planned.stores strip (has-flat_map (store_strips c.args.run.now) (block_of c.args.pred.now c.args.run.now.first).accesses c.access-item.result strip there h),
           ),
         ),
       ),

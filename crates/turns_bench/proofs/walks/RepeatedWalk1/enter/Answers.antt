@@ -1,5 +1,5 @@
 use Rattle.std.proofs.Common.{◌<◌, sym, arith}
-use Rattle.turns_bench.proofs.Copying.{tile-at, tiles-long}
+use Rattle.turns_bench.proofs.CopyingLaws.{tile-at, tiles-long}
 use Rattle.turns_bench.proofs.walks.RepeatedWalk1.enter.Goals as goal
 
 pub returns-clause-rest : goal.returns-clause-rest

@@ -1,5 +1,5 @@
 use Rattle.std.proofs.Common.{sym}
-use Rattle.turns_bench.proofs.Copying.{tiles-long}
+use Rattle.turns_bench.proofs.CopyingLaws.{tiles-long}
 use Rattle.turns_bench.proofs.walks.RepeatedWalk1.tiles.Goals as goal
 
 pub returns : goal.returns

@@ -10,7 +10,7 @@ use Rattle.shared_words.specs.Memories.{shown}
 use Rattle.follow.proofs.VerifyLaws.{refused_by, store-refused}
 use Rattle.follow_chunk.specs.Predicted.{interval_at}
 use Rattle.verified_turns.specs.Ports.{own_expectation, MayTouch}
-use Rattle.verified_turns.proofs.Shown.{found, outside, lies, shown-store}
+use Rattle.verified_turns.proofs.SeatMemoryLaws.{found, outside, lies, shown-store}
 use Rattle.verified_turns.proofs.port.WorkerPortPort.store.Goals as goal
 
 pub returns-in-Some-clause-answer : goal.returns-in-Some-clause-answer

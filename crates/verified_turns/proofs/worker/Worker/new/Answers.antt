@@ -1,6 +1,6 @@
 use Rattle.std.proofs.Common.{arith}
 use Rattle.verified_turns.specs.Workers.{task_state}
-use Rattle.verified_turns.proofs.Turned.{new-keeps}
+use Rattle.verified_turns.proofs.TurnLaws.{new-keeps}
 use Rattle.verified_turns.proofs.worker.Worker.new.Goals as goal
 
 pub invariant_of-result : goal.invariant_of-result
