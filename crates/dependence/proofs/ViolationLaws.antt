@@ -1,5 +1,5 @@
 -- The rows of a violation.
-use Rattle.std.proofs.Common.{◌≡◌, refl, sym, ap, ap₂, ◌∙◌, ℕ, ◌+◌, ◌<◌, ◌-◌, ℤ, Bool, min, List, [], ◌∷◌, ◌++◌, map, take, length, append_assoc, append-nil}
+use Rattle.std.proofs.Common.{◌≡◌, sym, ap, ap₂, ◌∙◌, ℕ, ◌+◌, ◌<◌, ◌-◌, ℤ, Bool, min, List, [], ◌∷◌, ◌++◌, map, take, length, append_assoc, append-nil}
 use Rattle.std.specs.List.{range_with_len, flat_map}
 use Rattle.std.proofs.lemmas.List.{map-append, take_more}
 use Rattle.affine.specs.declared.row.Row.{Row}

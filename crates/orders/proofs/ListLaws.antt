@@ -1,6 +1,6 @@
 -- Lists in order, and lists with the same elements.
-use Rattle.std.proofs.Common.{◌≡◌, ℕ, suc, zero, ◌<◌, List, [], ◌∷◌, ◌++◌, length, get_or, refl, sym, ap, subst, arith, inl, inr, ⊎_elim, IsPermutation, ◌⊎◌}
-use Rattle.std.specs.List.{AllByRecursion, Contains, AllPairs}
+use Rattle.std.proofs.Common.{◌≡◌, suc, zero, List, [], ◌∷◌, ◌++◌, refl, sym, ap, subst, arith, inl, inr, ⊎_elim, IsPermutation}
+use Rattle.std.specs.List.{Contains, AllPairs}
 use Rattle.std.proofs.lemmas.List.Elements.{Contains-get_or}
 use Rattle.std.proofs.lemmas.List.Sorted.{Contains-permutation, IsPermutation-sym}
 use Rattle.orders.specs.Orders.{Ordered, SameElements, Differ, Before}

@@ -1,6 +1,4 @@
 use Rattle.std.proofs.Common.{rules, ◌<◌, length, get_or, refl}
-use Rattle.level_walk.proofs.MergeLaws.{all-at}
-use Rattle.level_walk.specs.Walks.{IsBlock}
 use Rattle.level_walk.proofs.WalkLaws.{blank, left-set, stands-at, stands-set}
 use Rattle.level_walk.proofs.together.step.Goals as goal
 
