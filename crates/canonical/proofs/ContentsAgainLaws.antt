@@ -32,7 +32,7 @@ use Rattle.canonical.proofs.TokenWalkLaws.{Walks, walks-append, Counts, counts}
 use Rattle.canonical.proofs.LoopsAgainLaws.{AgreesAll, Named, loops-again, signed-again, signed-kept}
 use Rattle.canonical.proofs.ScriptsAgainLaws.{candidates-again, candidates-kept}
 use Rattle.canonical.proofs.PieceLaws.{flat_map-last}
-use Rattle.grammar_laws.proofs.ContentLaws.{version-of}
+use Rattle.nest_grammar.proofs.ContentLaws.{version-of}
 
 abbrev pub VersionArrives : Sight → Version → List Spot → Type 0
 VersionArrives s v m = (t : Sight) × IsVersion s v t × (t.size ≡ s.size) × (t.left ≡ m) × (t.version ≡ v)

@@ -8,7 +8,7 @@ use Rattle.nest_grammar.specs.declared.file.File.{File}
 use Rattle.nest_grammar.specs.Limits.{most_bytes}
 use Rattle.nest_grammar.specs.Contents.{reading}
 use Rattle.nest_text.specs.Files.{IsOfText}
-use Rattle.grammar_laws.proofs.ContentLaws.{reads-reading, reading-reads}
+use Rattle.nest_grammar.proofs.ContentLaws.{reads-reading, reading-reads}
 use Rattle.canonical.specs.Contents.{canonical}
 use Rattle.canonical.specs.Laws.{TokensAreWords, ReadIsWritten, RoundTrip, WritesTheSame, FewestTokens}
 use Rattle.canonical.proofs.ContentsAgainLaws.{reads-again}

@@ -7,8 +7,8 @@
 //!
 //! `laws` has what this is for: the canonical text of what a text reads as reads as the same file.
 //!
-//! The crate stands on `nest_grammar`, whose `File` it writes, on `nest_tokens` for how tokens are spelled,
-//! and for its laws on `grammar_laws`; the file that it writes is one that `nest_text` has read.
+//! The crate stands on `nest_grammar`, whose `File` it writes and whose laws its own cite, and on `nest_tokens` for how
+//! tokens are spelled; the file that it writes is one that `nest_text` has read.
 #![tactic(auto)]
 
 mod contents;

@@ -1,3 +1,5 @@
+mod KeptWordLaws
+mod StoringBackLaws
 mod ListLaws
 mod ScheduleLaws
 mod ChunkPartLaws

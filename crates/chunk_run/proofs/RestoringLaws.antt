@@ -3,9 +3,9 @@ use Rattle.std.proofs.Common.{◌≡◌, refl, sym, ap, ◌∙◌, subst, ℕ, �
 use Rattle.std.specs.List.{Contains}
 use Rattle.std.proofs.lemmas.List.Folds.{list_any_at}
 use Rattle.core_steps.specs.Numbers.{has}
-use Rattle.backup.specs.declared.keep.Kept.{Kept}
-use Rattle.backup.specs.Backups.{addresses_kept, DiffersOnlyAt}
-use Rattle.backup.specs.Stripes.{addresses_of_all}
+use Rattle.chunk_run.specs.declared.keep.Kept.{Kept}
+use Rattle.chunk_run.specs.Backups.{addresses_kept, DiffersOnlyAt}
+use Rattle.tiles.specs.Stripes.{addresses_of_all}
 use Rattle.skeletons.specs.Cells.{Extent}
 use Rattle.tiles.specs.Plans.{ChunkPlan, IsPlanOf}
 use Rattle.chunk_run.specs.Parts.{ChangesChunk}

@@ -1,8 +1,15 @@
--- Examples, computed: steps that are taken, and what a crew was handed.
-use Rattle.std.specs.Prelude.{◌≡◌, pos, [], ◌∷◌, refl}
+-- Examples, computed: words that are kept, steps that are taken, and what a crew was handed.
+use Rattle.std.specs.Prelude.{◌≡◌, ℤ, pos, negsuc, List, [], ◌∷◌, refl}
 use Rattle.crew.specs.declared.handed.Handed.{Handed}
+use Rattle.chunk_run.specs.Backups.{words_at}
 use Rattle.chunk_run.specs.ChunkEnds.{AreTaken}
 use Rattle.chunk_run.specs.Groups.{AreEntries, steps_of}
+
+abbrev pub memory : List ℤ
+memory = pos 5 ∷ pos 6 ∷ negsuc 6 ∷ []
+
+pub the_words_are_kept : words_at memory (2 ∷ 0 ∷ []) ≡ record { address = 2; value = negsuc 6 } ∷ record { address = 0; value = pos 5 } ∷ []
+the_words_are_kept = refl
 
 -- 3 of 10 steps are taken, where 5 were used before
 three-taken : AreTaken 3 (record { left = 10; used = 5 }) (record { left = 7; used = 8 })

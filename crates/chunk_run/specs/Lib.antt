@@ -1,4 +1,5 @@
 pub mod ScheduleLaw
+pub mod Backups
 pub mod ChunkEnds
 pub mod Groups
 pub mod Parts

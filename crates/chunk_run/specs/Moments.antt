@@ -6,7 +6,7 @@ use Rattle.core_steps.specs.declared.step.Step.TheVariants.{Post, Split, Load, S
 use Rattle.core_steps.specs.States.{State, word_of}
 use Rattle.core_steps.specs.Steps.{Runs}
 use Rattle.core_steps.specs.Laws.{IsReached}
-use Rattle.backup.specs.Stripes.{addresses_of_all}
+use Rattle.tiles.specs.Stripes.{addresses_of_all}
 use Rattle.plain_lemmas.specs.Lists.{Has}
 use Rattle.skeletons.specs.Cells.{Extent}
 use Rattle.tiles.specs.Plans.{ChunkPlan, Phase, IsPlanOf}

@@ -9,10 +9,10 @@ ghost use Rattle.chunk_run.specs.Ready.{IsReady};
 ghost use Rattle.chunk_run.specs.ChunkEnds.{IsLegalFor, HasEnded, between};
 ghost use Rattle.chunk_run.specs.Groups.{AttemptGains, GainsGroup, RunsOn, StoredBefore};
 
+use crate::keep::{restore, take};
 use crate::launch::Launch;
 use crate::prepared::{Prepared, run_number};
 use crate::scalars::{begins, set_closing};
-use backup::{restore, take};
 use crew::Crew;
 use nest_lang::Budget;
 use shared_words::MainSeat;

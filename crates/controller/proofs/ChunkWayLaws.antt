@@ -34,7 +34,7 @@ use Rattle.chunk_run.specs.declared.run.ChunkEnd.TheVariants.{Committed, RolledB
 use Rattle.chunk_run.specs.Groups.{GainsGroup}
 use Rattle.crew.specs.declared.handed.Handed.{Handed}
 use Rattle.chunk_run.specs.ChunkEnds.{IsCommitted, IsRolledBack, store_in}
-use Rattle.profiling.specs.FirstProfiles.{has_turn}
+use Rattle.profile.specs.FirstProfiles.{has_turn}
 use Rattle.report.specs.declared.line.Line.{Line}
 use Rattle.report.specs.declared.line.Line.TheVariants as said
 use Rattle.journeys.specs.Settings.{Setting, Moment, Ran, plain_turns, next_turns, chunk_turns, next_chunk, words_at}

@@ -25,7 +25,7 @@ use Rattle.nest_grammar.specs.Names.{Names}
 use Rattle.nest_grammar.specs.Scripts.{Script}
 use Rattle.nest_grammar.specs.Grammar as grammar
 use Rattle.nest_grammar.specs.Grammar.{Is, Precedence, IsBlock, IsBraced, IsCandidates, IsCommand, IsCommands, IsExpression, IsHeading, IsItem, IsItems, IsList, IsLoops, IsRows, IsScalars, IsScript, IsSigned, IsStmt, IsStride, IsUnit, IsUnits, IsValues, IsVersion, Reads, SeesNumber}
-use Rattle.grammar_laws.proofs.ContentLaws.{reading-reads}
+use Rattle.nest_grammar.proofs.ContentLaws.{reading-reads}
 use Rattle.nest_text.specs.Files.{IsOfText}
 use Rattle.profile.specs.Reach.{HasI64s, IsOfI64s, all_in, block_numbers, expression_numbers, head_numbers, statement_numbers}
 use Rattle.controller.proofs.TextNumberLaws.{FitSight, I64, divided-fit, fit-skip, items-fit, number-fits, positive-fits, signed-fits, version-passes, words-fit}

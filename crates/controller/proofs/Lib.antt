@@ -1,3 +1,4 @@
+pub mod MainSeatLaws
 pub mod EntryLaws
 pub mod WordLaws
 pub mod StageLaws

@@ -15,7 +15,7 @@ use Rattle.domain.specs.Launches.{IsLaunched}
 use Rattle.follow.specs.ChunkRuns.{HasTurns, HasTurnsIn}
 use Rattle.follow_chunk.specs.Tasks.{IsTask}
 use Rattle.chunk_run.specs.ChunkEnds.{IsLegalFor}
-use Rattle.profiling.specs.FirstProfiles.{has_turn}
+use Rattle.profile.specs.FirstProfiles.{has_turn}
 use Rattle.journeys.specs.Settings.{Setting, Moment, turns_within, chunk_turns, next_chunk, words_at}
 use Rattle.controller.specs.Machines.{IsPlaced}
 use Rattle.controller.specs.Courses.{IsSetting, IsChosen}

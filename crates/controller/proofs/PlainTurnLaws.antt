@@ -18,7 +18,7 @@ use Rattle.nest_lang.proofs.CutLaws.{cut-and_then, cut-left, cut-kept, resumed, 
 use Rattle.nest_lang.proofs.TurnLaws.{turns_trace-split}
 use Rattle.profile.specs.Reach.{IsOfI64s}
 use Rattle.profile.proofs.TripLaws.{turns-leave-i64s}
-use Rattle.profiling.specs.FirstProfiles.{has_turn}
+use Rattle.profile.specs.FirstProfiles.{has_turn}
 use Rattle.compare.specs.KeptLaws.{IsRunOfI64s}
 use Rattle.report.specs.declared.line.Line.{Line}
 use Rattle.report.specs.declared.line.Line.TheVariants as said

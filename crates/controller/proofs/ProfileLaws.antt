@@ -11,8 +11,8 @@ use Rattle.nest_lang.specs.Runs.{finish_of_ending}
 use Rattle.nest_lang.specs.TurnLaws.{over_is_done}
 use Rattle.block_exec.specs.Watches.{Chain}
 use Rattle.profile.specs.Sampled.{MayKeep}
-use Rattle.profiling.specs.FirstProfiles.{has_turn}
-use Rattle.profiling.proofs.ProfileLaws.{kept-all}
+use Rattle.profile.specs.FirstProfiles.{has_turn}
+use Rattle.profile.proofs.ProfileLaws.{kept-all}
 use Rattle.report.specs.declared.line.Line.{Line}
 use Rattle.report.specs.declared.line.Line.TheVariants as said
 use Rattle.journeys.specs.Settings.{Setting, Moment, Ran, next_turns, observed, profile_turns}

@@ -10,7 +10,7 @@ use Rattle.nest_lang.specs.Traces.{Finish, Cut, cut_of}
 use Rattle.nest_grammar.specs.declared.file.File.{File}
 use Rattle.nest_grammar.specs.declared.file.Item.{Item}
 use Rattle.nest_grammar.specs.Files.{after_item, after_items, first_memory, first_store}
-use Rattle.grammar_laws.proofs.RuleLaws.{reading-keeps}
+use Rattle.nest_grammar.proofs.RuleLaws.{reading-keeps}
 use Rattle.nest_text.specs.Files.{IsOfText}
 use Rattle.nest_text.proofs.StoredItemLaws.{length-after_item}
 use Rattle.shared_words.specs.Memories.{signed}

@@ -28,7 +28,7 @@ use Rattle.nest_grammar.specs.Sights.{Sight, here, skip, start}
 use Rattle.nest_grammar.specs.Grammar as grammar
 use Rattle.nest_grammar.specs.Grammar.{IsItem, IsItems, IsScalars, IsSigned, IsValues, IsVersion, Reads, SeesNumber, unsigned, negative, data_, ramp}
 use Rattle.nest_grammar.specs.Readings.{with_sign}
-use Rattle.grammar_laws.proofs.ContentLaws.{reading-reads}
+use Rattle.nest_grammar.proofs.ContentLaws.{reading-reads}
 use Rattle.nest_text.specs.Files.{IsOfText}
 use Rattle.nest_text.proofs.StoredItemLaws.{ramp_from, ramp-from-all, ramp-from-next, ramp-from-start, ramp_fits-value}
 

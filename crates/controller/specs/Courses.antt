@@ -23,7 +23,7 @@ use Rattle.domain.specs.Tables.{Table, IsTable}
 use Rattle.domain.specs.Shapes.{IsTableOf, LowersWithTrips}
 use Rattle.dependence.specs.Legality.{Legal}
 use Rattle.legality.specs.declared.refusals.Refusal.{Refusal}
-use Rattle.profiling.specs.FirstProfiles.{has_turn}
+use Rattle.profile.specs.FirstProfiles.{has_turn}
 use Rattle.report.specs.declared.line.Line.{Line}
 use Rattle.report.specs.declared.journey.Journey.{Journey}
 use Rattle.journeys.specs.Settings.{Setting, Moment, setting_of}

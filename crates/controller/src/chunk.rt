@@ -5,7 +5,7 @@ ghost use Rattle.nest_lang.specs.Blocks.{present_blocks};
 ghost use Rattle.transform.specs.Schedules.{Schedule as Order};
 ghost use Rattle.domain.specs.Launches.{IsLaunched};
 ghost use Rattle.follow_chunk.specs.Tasks.{IsTask};
-ghost use Rattle.profiling.specs.FirstProfiles.{has_turn};
+ghost use Rattle.profile.specs.FirstProfiles.{has_turn};
 ghost use Rattle.report.specs.Places.{at_of};
 ghost use Rattle.report.specs.declared.line.Line.TheVariants as said;
 ghost use Rattle.journeys.specs.Settings.{next_chunk, words_at};

@@ -9,16 +9,17 @@ ghost use Rattle.nest_lang.specs.Rules.{loops_keep};
 ghost use Rattle.nest_lang.specs.Stores.{store_of};
 ghost use Rattle.nest_lang.specs.Traces.{seen_in};
 ghost use Rattle.nest_lang.specs.Turns.{finish_of_turned, entry_steps, turns_later, turns_trace, AreWhole, IsPositionIn};
-ghost use Rattle.profiling.specs.FirstProfiles.{has_turn};
+ghost use Rattle.profile.specs.FirstProfiles.{has_turn};
 ghost use Rattle.shared_words.specs.Memories.{signed};
 ghost use Rattle.journeys.specs.Settings.{Ran, entry, next_turns, turns_within};
 ghost use Rattle.chunk_run.specs.ChunkEnds.{IsLegalFor};
 ghost use Rattle.chunk_run.specs.Groups.{GainsGroup};
 ghost use Rattle.follow_chunk.specs.Tasks.{IsTask};
-ghost use Rattle.worker.specs.Bases.{unstored};
+ghost use Rattle.controller.specs.Bases.{unstored};
 ghost use Rattle.controller.specs.Machines.{IsPlaced, HasRun, HavePosted, entered_or_ended};
 
 use crate::course::Course;
+use crate::main_port::MainPort;
 use block_exec::{Blind, Halt, Port, Run, Watch};
 use chunk_run::{ChunkEnd, Launch, run_chunk};
 use crew::Crew;
@@ -29,7 +30,6 @@ use shared_words::{MainSeat, SharedWords};
 use std::alloc::{AllocError, Global};
 use std::marker::Model;
 use transform::Schedule;
-use worker::MainPort;
 
 /// Where a run stands between two turns: the position of the outermost loop, and the steps that are left and used.
 #[derive(Clone, Copy)]

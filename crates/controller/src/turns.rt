@@ -6,7 +6,7 @@ ghost use Rattle.report.specs.declared.line.Line.TheVariants as said;
 ghost use Rattle.nest_lang.specs.Runs.{finish_of_ending};
 ghost use Rattle.nest_lang.specs.Turns.{finish_of_turned};
 ghost use Rattle.nest_lang.specs.TurnLaws.{over_is_done};
-ghost use Rattle.profiling.specs.FirstProfiles.{has_turn};
+ghost use Rattle.profile.specs.FirstProfiles.{has_turn};
 ghost use Rattle.controller.specs.Machines.{IsPlaced};
 ghost use Rattle.controller.specs.Courses.{Led, ending_of, next_stage};
 

@@ -15,10 +15,6 @@ pub mod JoinKeeps
 pub mod SettleKeeps
 pub mod StateStepLaws
 pub mod StartLaws
-pub mod AppliedStepLaws
-pub mod PlaceLaws
-pub mod PlanTestLaws
-pub mod WriterLaws
 pub mod PhaseLaws
 pub mod OwnValueLaws
 pub mod OwnLoadLaws

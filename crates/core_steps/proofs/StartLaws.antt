@@ -38,11 +38,3 @@ start-keeps low memory is = let
 
 pub first-sound : (memory : List ℕ) → IsSound (first_state memory)
 first-sound memory = start-keeps 65537 memory refl
-
--- the fields of a new core
-pub new-state : (memory words : List ℕ) (m : View) (seats : List View) → words ≡ replicate 65537 0 ++ memory → m ≡ first_view memory → seats ≡ [] → (let t : State = record { words = words; main = m; seats = seats } in t ≡ first_state memory)
-new-state memory words m seats laid first none z = record { words = laid z; main = first z; seats = none z }
-
-pub new-sound : (memory words : List ℕ) (m : View) (seats : List View) → words ≡ replicate 65537 0 ++ memory → m ≡ first_view memory → seats ≡ [] → Inv words m (m ∷ seats) × (m.epoch < 2 ^ 63)
-new-sound memory words m seats laid first none = let same = new-state memory words m seats laid first none in
-    (subst IsSound (sym same) (first-sound memory), subst (λ (v : View). v.epoch < 2 ^ 63) (sym first) (lit< tt))

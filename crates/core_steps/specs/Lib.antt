@@ -1,9 +1,7 @@
 pub mod Numbers
 pub mod Plans
-pub mod Writers
 pub mod Views
 pub mod States
-pub mod Places
 pub mod Steps
 pub mod Invariant
 pub mod Laws

@@ -1,6 +1,5 @@
 -- What the tiles of a plan touch.
-use Rattle.std.specs.Prelude.{◌≡◌, ◌≢◌, ℕ, ◌<◌, Bool, true, false, ◌||◌, ◌&&◌, not, nat_lt, List, [], slice_index_or}
-use Rattle.std.specs.List.{list_all}
+use Rattle.std.specs.Prelude.{◌≡◌, ◌≢◌, ℕ, ◌<◌, Bool, true, false, ◌||◌, List, [], slice_index_or}
 use Rattle.core_steps.specs.declared.plan.Tile.{Tile}
 use Rattle.core_steps.specs.declared.plan.Plan.{Plan}
 use Rattle.core_steps.specs.Numbers.{has}
@@ -44,14 +43,3 @@ IsSeparate plan = (j : ℕ) → WritesAlone plan.tiles j
 -- all addresses of the plan are below n
 abbrev pub IsInside : ℕ → Plan → Type 0
 IsInside n plan = (k a : ℕ) → touches plan k a ≡ true → a < n
-
--- the tests of these facts
-
-abbrev pub are_apart : Tile → Tile → Bool
-are_apart one other = list_all (λ a. not (touches_of other a)) one.writes
-
-abbrev pub are_below : ℕ → List ℕ → Bool
-are_below n addresses = list_all (λ a. nat_lt a n) addresses
-
-abbrev pub keeps_inside : ℕ → Tile → Bool
-keeps_inside n tile = are_below n tile.reads && are_below n tile.writes

@@ -1,11 +1,9 @@
 -- The nine kinds of step: the condition of each, its effect, and its answer.
-use Rattle.std.specs.Prelude.{◌≡◌, ℕ, ℤ, ◌<◌, ◌≤◌, ◌==◌, true, false, ◌⊎◌, if◌then◌else◌, List, [], ◌∷◌, ◌++◌, length, pos, slice_set, Result, Ok, Err}
+use Rattle.std.specs.Prelude.{◌≡◌, ℕ, ℤ, ◌<◌, ◌≤◌, ◌==◌, true, false, ◌⊎◌, if◌then◌else◌, List, [], ◌∷◌, ◌++◌, length, pos, slice_set}
 use Rattle.std.specs.Int.{w64, cast_unsigned, cast_signed}
 use Rattle.core_steps.specs.declared.plan.Plan.{Plan}
 use Rattle.core_steps.specs.declared.step.Step.{Step}
 use Rattle.core_steps.specs.declared.step.Step.TheVariants.{Post, Split, Load, Store, See, Raise, Claim, Join, Settle}
-use Rattle.core_steps.specs.declared.ends.CoreEnd.{CoreEnd}
-use Rattle.core_steps.specs.declared.ends.CoreEnd.TheVariants.{Unlawful, NoMemory}
 use Rattle.core_steps.specs.declared.view.View.{View}
 use Rattle.core_steps.specs.Numbers.{has}
 use Rattle.core_steps.specs.Plans.{IsSeparate, IsInside}
@@ -71,26 +69,6 @@ answer_of (See i) s = pos (flag_of s.words)
 answer_of (Claim w k) s = pos (claim_of s.words k)
 answer_of Settle s = pos (flag_of s.words)
 answer_of _ s = pos 0
-
--- the steps that take memory: those that begin or end a phase, lend a seat or take it back, and those of which a
--- worker's view keeps a note
-abbrev pub TakesMemory : Step → Type 0
-TakesMemory (Post plan) = Unit {0}
-TakesMemory (Split w) = Unit {0}
-TakesMemory (Load i a) = ⊥
-TakesMemory (Store i a x) = 0 < i
-TakesMemory (See i) = ⊥
-TakesMemory (Raise w) = ⊥
-TakesMemory (Claim w k) = Unit {0}
-TakesMemory (Join w) = Unit {0}
-TakesMemory Settle = Unit {0}
-
--- what `apply` answers and leaves: the answer and the state after a lawful step, and the state as it was after a
--- refusal; want of memory refuses only a step that takes some
-abbrev pub IsApplied : Step → State → Result ℤ CoreEnd → State → Type 0
-IsApplied x s (Ok answer) t = Lawful x s × (answer ≡ answer_of x s) × (t ≡ state_after x s)
-IsApplied x s (Err Unlawful) t = (¬ Lawful x s) × (t ≡ s)
-IsApplied x s (Err NoMemory) t = TakesMemory x × (t ≡ s)
 
 -- the lawful steps of the list lead from s to t
 abbrev pub Runs : List Step → State → State → Type 0

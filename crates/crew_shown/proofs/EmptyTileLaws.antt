@@ -3,7 +3,7 @@ use Rattle.std.proofs.Common.{◌≡◌, ℕ, zero, suc, ◌≤◌, List, [], le
 use Rattle.domain.specs.Instances.{Instance}
 use Rattle.plain_lemmas.specs.Lists.{Has}
 use Rattle.orders.specs.Tiles.{flat}
-use Rattle.phases.specs.Workers.{list_of}
+use Rattle.verified_turns.specs.Progress.{list_of}
 use Rattle.crew_shown.specs.Empties.{empties}
 
 pub flat-empties : (n : ℕ) → flat (empties n) ≡ []

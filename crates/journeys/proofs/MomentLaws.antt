@@ -10,7 +10,7 @@ use Rattle.nest_lang.specs.TurnLaws.{over_is_done}
 use Rattle.nest_lang.proofs.CutLaws.{cut-and_then, cut-left, resumed}
 use Rattle.nest_lang.proofs.TurnLaws.{turns_trace-split}
 use Rattle.domain.specs.Tables.{Table}
-use Rattle.profiling.specs.FirstProfiles.{has_turn}
+use Rattle.profile.specs.FirstProfiles.{has_turn}
 use Rattle.report.specs.declared.line.Line.{Line}
 use Rattle.journeys.specs.Settings.{Setting, Moment, Ran, plain_turns, profile_turns, turns_within, observed}
 use Rattle.journeys.specs.Stages.{Stage, Profiles, Chunks, Plainly, Over, AreJudged, ProfileLeads, ChunkLeads, PlainLeads, Leads, Reaches}

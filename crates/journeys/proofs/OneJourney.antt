@@ -7,7 +7,7 @@ use Rattle.nest_lang.specs.Turns.{entry_steps}
 use Rattle.nest_grammar.specs.declared.file.NestUnit.{NestUnit}
 use Rattle.nest_grammar.specs.declared.version.Version.{Version}
 use Rattle.nest_grammar.specs.Files.{first_store}
-use Rattle.profiling.specs.FirstProfiles.{has_turn}
+use Rattle.profile.specs.FirstProfiles.{has_turn}
 use Rattle.report.specs.declared.journey.Options.{Options}
 use Rattle.report.specs.declared.line.Line.{Line}
 use Rattle.journeys.specs.Settings.{Setting, Moment, entry, setting_of}

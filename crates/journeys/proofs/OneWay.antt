@@ -13,7 +13,7 @@ use Rattle.profile.specs.declared.unfit.Unfit.{Unfit}
 use Rattle.profile.proofs.FitLaws.{fit_or_unfit}
 use Rattle.profile.proofs.OneFitLaws.{one-fit}
 use Rattle.profile.proofs.OneUnfitLaws.{one-first-unfit}
-use Rattle.profiling.specs.FirstProfiles.{has_turn}
+use Rattle.profile.specs.FirstProfiles.{has_turn}
 use Rattle.legality.specs.Choices.{choice}
 use Rattle.report.specs.declared.line.Line.{Line}
 use Rattle.journeys.specs.Settings.{Setting, Moment, Ran, plain_turns, profile_turns, turns_within, observed}

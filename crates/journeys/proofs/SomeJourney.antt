@@ -32,7 +32,7 @@ use Rattle.profile.specs.Reach.{HasI64s, IsOfI64s, head_numbers}
 use Rattle.profile.proofs.BoundsLaws.{fits-are-tables}
 use Rattle.profile.proofs.NumberLaws.{I64}
 use Rattle.profile.proofs.ReachLaws.{Each, YieldFine, all-each, head-fine}
-use Rattle.profiling.specs.FirstProfiles.{has_turn}
+use Rattle.profile.specs.FirstProfiles.{has_turn}
 use Rattle.legality.specs.Choices.{choice, first_legal, is_legal}
 use Rattle.report.specs.declared.journey.Options.{Options}
 use Rattle.report.specs.declared.line.Line.{Line}

@@ -18,7 +18,7 @@ use Rattle.follow_chunk.specs.Predicted.{forecast_of}
 use Rattle.compare.specs.Compared.{instance_in}
 use Rattle.profile.specs.Fits.{IsFitOf}
 use Rattle.profile.proofs.SomeFitLaws.{fit-or-first-unfit}
-use Rattle.profiling.specs.FirstProfiles.{has_turn}
+use Rattle.profile.specs.FirstProfiles.{has_turn}
 use Rattle.legality.specs.Choices.{choice}
 use Rattle.report.specs.declared.line.Line.{Line}
 use Rattle.journeys.specs.Settings.{Setting, Moment, Ran, chunk_turns, next_chunk, observed, plain_turns, profile_turns, turns_within, words_at}

@@ -15,7 +15,7 @@ use Rattle.skeletons.specs.Cells.{Extent}
 use Rattle.chunk_run.specs.ChunkEnds.{HasNumbers}
 use Rattle.nest_grammar.specs.declared.file.File.{File}
 use Rattle.nest_grammar.specs.Files.{first_store, nests_of}
-use Rattle.grammar_laws.specs.Rules.{KeepsRules}
+use Rattle.nest_grammar.specs.Rules.{KeepsRules}
 use Rattle.profile.specs.Reach.{HasI64s, IsOfI64s}
 use Rattle.report.specs.declared.journey.Options.{Options}
 use Rattle.report.specs.declared.line.Line.{Line}

@@ -20,7 +20,7 @@ use Rattle.transform.specs.Scripts.{schedule_of}
 use Rattle.transform.specs.Standards.{standard_scripts}
 use Rattle.domain.specs.declared.chunk.Chunk.{Chunk}
 use Rattle.profile.specs.Sampled.{observations_in}
-use Rattle.profiling.specs.FirstProfiles.{turns_from}
+use Rattle.profile.specs.FirstProfiles.{turns_from}
 use Rattle.report.specs.declared.journey.Options.{Options}
 
 -- what a nest is run with: its loops, in a file with so many scalars; its candidates; the turns of a profile, and those of

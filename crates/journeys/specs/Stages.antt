@@ -11,7 +11,7 @@ use Rattle.follow.specs.declared.how.How.{How}
 use Rattle.follow.specs.ChunkRuns.{ChunkRun}
 use Rattle.profile.specs.declared.unfit.Unfit.{Unfit}
 use Rattle.profile.specs.Fits.{IsFitOf, IsUnfitAt}
-use Rattle.profiling.specs.FirstProfiles.{has_turn}
+use Rattle.profile.specs.FirstProfiles.{has_turn}
 use Rattle.legality.specs.Choices.{choice}
 use Rattle.compare.specs.ChainLaw.{run_of_chunk}
 use Rattle.compare.specs.Compared.{IsDeviationOf}

@@ -14,8 +14,8 @@ use Rattle.nest_grammar.specs.Sights.{Sight}
 use Rattle.nest_grammar.specs.Names.{Names}
 use Rattle.nest_grammar.specs.Grammar.{IsCandidates, IsUnit, IsUnits, Reads}
 use Rattle.nest_grammar.specs.Grammar as grammar
-use Rattle.grammar_laws.proofs.ContentLaws.{reading-reads}
-use Rattle.grammar_laws.proofs.RuleLaws.{reading-keeps}
+use Rattle.nest_grammar.proofs.ContentLaws.{reading-reads}
+use Rattle.nest_grammar.proofs.RuleLaws.{reading-keeps}
 use Rattle.nest_text.specs.Files.{IsOfText}
 use Rattle.listing.specs.Parts.{IsUnitOf}
 

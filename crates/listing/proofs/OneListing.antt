@@ -13,9 +13,9 @@ use Rattle.profile.proofs.FitLaws.{fit_or_unfit}
 use Rattle.profile.proofs.OneFitLaws.{one-fit}
 use Rattle.profile.proofs.OneUnfitLaws.{one-first-unfit}
 use Rattle.profile.proofs.SomeFitLaws.{fit-or-first-unfit}
-use Rattle.profiling.specs.declared.run.FirstProfile.{FirstProfile}
-use Rattle.profiling.specs.declared.run.FirstProfile.TheVariants.{Missing, Short, Whole}
-use Rattle.profiling.proofs.OneProfile.{one-profile}
+use Rattle.profile.specs.declared.first_turns.FirstProfile.{FirstProfile}
+use Rattle.profile.specs.declared.first_turns.FirstProfile.TheVariants.{Missing, Short, Whole}
+use Rattle.profile.proofs.OneProfile.{one-profile}
 use Rattle.report.specs.declared.journey.Options.{Options}
 use Rattle.report.specs.declared.line.ListingLine.{ListingLine}
 use Rattle.report.specs.declared.line.ListingLine.TheVariants as listing

@@ -32,8 +32,8 @@ use Rattle.legality.specs.Judgements.{judged}
 use Rattle.profile.specs.declared.unfit.Unfit.{Unfit}
 use Rattle.profile.specs.Data.{bounds_of, data_of, tube_in}
 use Rattle.profile.specs.Fits.{IsUnfitAt}
-use Rattle.profiling.specs.declared.run.FirstProfile.{FirstProfile}
-use Rattle.profiling.specs.declared.run.FirstProfile.TheVariants.{Missing, Short, Whole}
+use Rattle.profile.specs.declared.first_turns.FirstProfile.{FirstProfile}
+use Rattle.profile.specs.declared.first_turns.FirstProfile.TheVariants.{Missing, Short, Whole}
 use Rattle.report.specs.declared.journey.Options.{Options}
 use Rattle.report.specs.declared.line.Line.TheVariants as said
 use Rattle.report.specs.declared.line.ListingLine.{ListingLine}

@@ -11,7 +11,7 @@ use Rattle.line_fit.specs.Lines.{Tube}
 use Rattle.domain.specs.declared.prediction.What.TheVariants.{Address, Trip}
 use Rattle.transform.specs.Standards.{standard_scripts}
 use Rattle.legality.specs.declared.refusals.Judged.TheVariants.{Legal}
-use Rattle.profiling.specs.declared.run.FirstProfile.TheVariants.{Missing, Short}
+use Rattle.profile.specs.declared.first_turns.FirstProfile.TheVariants.{Missing, Short}
 use Rattle.report.specs.declared.journey.Options.{Options}
 use Rattle.report.specs.declared.line.Line.TheVariants as said
 use Rattle.report.specs.declared.line.ListingLine.TheVariants as listing

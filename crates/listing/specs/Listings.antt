@@ -14,9 +14,9 @@ use Rattle.profile.specs.declared.unfit.Unfit.{Unfit}
 use Rattle.profile.specs.declared.unfit.UnfitWhy.{UnfitWhy}
 use Rattle.profile.specs.declared.unfit.UnfitWhy.TheVariants as why
 use Rattle.profile.specs.Fits.{IsFitOf, IsUnfitAt}
-use Rattle.profiling.specs.declared.run.FirstProfile.{FirstProfile}
-use Rattle.profiling.specs.declared.run.FirstProfile.TheVariants.{Missing, Short, Whole}
-use Rattle.profiling.specs.FirstProfiles.{IsFirstProfile}
+use Rattle.profile.specs.declared.first_turns.FirstProfile.{FirstProfile}
+use Rattle.profile.specs.declared.first_turns.FirstProfile.TheVariants.{Missing, Short, Whole}
+use Rattle.profile.specs.FirstProfiles.{IsFirstProfile}
 use Rattle.report.specs.declared.journey.Options.{Options}
 use Rattle.report.specs.declared.line.LineUnfit.{LineUnfit}
 use Rattle.report.specs.declared.line.LineUnfit.TheVariants as reason

@@ -6,8 +6,7 @@ ghost use Rattle.listing.specs.Parts.{Adds, IsUnitOf};
 
 use crate::task::Task;
 use nest_lang::{Budget, State};
-use profile::Samples;
-use profiling::{FirstProfile, first_profile};
+use profile::{FirstProfile, Samples, first_profile};
 use report::{Line, ListingLine};
 use std::alloc::{AllocError, Global};
 

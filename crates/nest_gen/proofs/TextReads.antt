@@ -23,9 +23,9 @@ use Rattle.nest_grammar.specs.Scripts.{Script, candidates}
 use Rattle.nest_grammar.specs.Contents.{reading}
 use Rattle.nest_grammar.specs.Grammar.{SeesNumber, IsVersion, IsScalars, IsItems}
 use Rattle.nest_grammar.specs.Grammar as grammar
-use Rattle.grammar_laws.proofs.LoopLaws.{loops-sound}
-use Rattle.grammar_laws.proofs.ScriptLaws.{candidates-sound}
-use Rattle.grammar_laws.proofs.ContentLaws.{reads-reading}
+use Rattle.nest_grammar.proofs.LoopLaws.{loops-sound}
+use Rattle.nest_grammar.proofs.ScriptLaws.{candidates-sound}
+use Rattle.nest_grammar.proofs.ContentLaws.{reads-reading}
 use Rattle.canonical.specs.Pieces.{Piece, Word, Space, Indent, Newline, piece_text, token_text, text_of}
 use Rattle.canonical.specs.Layout.{words, IsWritten, AllWritten}
 use Rattle.canonical.proofs.LayoutPieceLaws.{shown, Laid, Free, pieces-read}

@@ -9,3 +9,10 @@ pub mod Scripts
 pub mod Contents
 pub mod Grammar
 pub mod Files
+pub mod Beginnings
+pub mod Kinds
+pub mod Phrases
+pub mod Laws
+pub mod Examples
+pub mod Rules
+pub mod Refusals

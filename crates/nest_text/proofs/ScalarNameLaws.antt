@@ -13,7 +13,7 @@ use Rattle.nest_grammar.specs.declared.file.Scalar.{Scalar}
 use Rattle.nest_grammar.specs.declared.file.NestUnit.{NestUnit}
 use Rattle.nest_grammar.specs.declared.file.File.{File}
 use Rattle.nest_grammar.specs.Files.{nests_of}
-use Rattle.grammar_laws.specs.Rules.{IsSpelled}
+use Rattle.nest_grammar.specs.Rules.{IsSpelled}
 use Rattle.nest_tokens.specs.Spellings.{name_text}
 use Rattle.nest_tokens.proofs.SpelledLaws.{name_text-name_of}
 use Rattle.nest_text.specs.Files.{scalar_names}

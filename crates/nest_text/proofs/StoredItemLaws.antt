@@ -12,7 +12,7 @@ use Rattle.nest_grammar.specs.declared.file.Item.TheVariants.{Data, Ramp}
 use Rattle.nest_lang.specs.Values.{is_i64}
 use Rattle.nest_grammar.specs.Contents.{ramp_fits}
 use Rattle.nest_grammar.specs.Files.{set_words, set_ramp, after_item, after_items}
-use Rattle.grammar_laws.specs.Rules.{item_fits}
+use Rattle.nest_grammar.specs.Rules.{item_fits}
 
 -- the number of words stays
 

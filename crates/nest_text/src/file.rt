@@ -6,7 +6,7 @@ ghost use Rattle.std.specs.List.{All, prefix_len};
 ghost use Rattle.nest_lang.specs.Rules.{NestKeeps};
 ghost use Rattle.nest_grammar.specs.Contents.{reading, ramp_fits};
 ghost use Rattle.nest_grammar.specs.Files.{after_item, after_items, first_memory, first_store, nests_of, set_ramp, set_words};
-ghost use Rattle.grammar_laws.specs.Rules.{IsSpelled, KeepsRules, item_fits};
+ghost use Rattle.nest_grammar.specs.Rules.{IsSpelled, KeepsRules, item_fits};
 ghost use Rattle.nest_tokens.specs.Spellings.{name_text};
 ghost use Rattle.nest_text.specs.Answers.{Answers};
 ghost use Rattle.nest_text.specs.Files.{ByGrammar, IsOfText, scalar_names, scripts_of, script_at};

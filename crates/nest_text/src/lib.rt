@@ -6,9 +6,9 @@
 //! a reading, and else its first fault. A `NestFile` is made by it alone, so that some text reads as it; what
 //! holds of every file that was read is then known of it, and no caller proves it again.
 //!
-//! The crate stands on `nest_tokens` (the tokens of a text), on `nest_grammar` and `grammar_laws` (what a
-//! text reads as, and what holds of it) and on `nest_lang` (the trees and states). The layers above use
-//! `read_nest` and the parts of a `NestFile`; `canonical` writes one.
+//! The crate stands on `nest_tokens` (the tokens of a text), on `nest_grammar` (what a text reads as, and what holds of
+//! it) and on `nest_lang` (the trees and states). The layers above use `read_nest` and the parts of a `NestFile`;
+//! `canonical` writes one.
 #![tactic(auto)]
 
 mod contents;

@@ -39,7 +39,7 @@ use Rattle.report.specs.declared.line.Line.{Line}
 use Rattle.journeys.specs.Laws.{IsRunnable}
 use Rattle.journeys.proofs.OneJourney.{one-journey}
 use Rattle.journeys.proofs.SomeJourney.{some-journey}
-use Rattle.grammar_laws.proofs.RuleLaws.{reading-keeps}
+use Rattle.nest_grammar.proofs.RuleLaws.{reading-keeps}
 use Rattle.listing.proofs.OneListing.{one-listing}
 use Rattle.std.specs.List.{flat_map}
 use Rattle.nest_top.specs.Laws.{AreI64s, OneAnswer, SomeAnswer, EachHasItsCause}

@@ -16,9 +16,9 @@ use Rattle.follow.proofs.LawfulLaws.{follow-is-lawful}
 use Rattle.follow_chunk.specs.Predicted.{forecast_of}
 use Rattle.follow_chunk.specs.Items.{item_at, scalars_after}
 use Rattle.follow_chunk.specs.Followed.{ClosesSmall}
-use Rattle.phases.specs.Workers.{Fits}
-use Rattle.phases.specs.Laws.{Gathered, EndsRaised, AllRan, RanAs}
-use Rattle.phases.proofs.GatheringLaws.{phase_law}
+use Rattle.verified_turns.specs.Progress.{Fits}
+use Rattle.verified_turns.specs.Laws.{Gathered, EndsRaised, AllRan, RanAs}
+use Rattle.verified_turns.proofs.GatheringLaws.{phase_law}
 use Rattle.verified_turns.specs.Workers.{TaskState, StaysWithin, instances_of}
 use Rattle.verified_turns.proofs.TurnLaws.{new-fits}
 use Rattle.phase_run.specs.Postings.{PostingState, IsPostable}

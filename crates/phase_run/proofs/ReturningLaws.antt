@@ -11,9 +11,9 @@ use Rattle.domain.specs.Instances.{Instance}
 use Rattle.plain_lemmas.specs.Lists.{Has}
 use Rattle.plain_lemmas.proofs.MembershipLaws.{has-left, has-right, has-cases}
 use Rattle.follow_chunk.specs.Followed.{ClosesSmall}
-use Rattle.phases.specs.Workers.{HasEnded, HasFailed, HasStopped, IsTold}
-use Rattle.phases.specs.Laws.{Gathered}
-use Rattle.phases.proofs.GatheringLaws.{gathered-ended, gathered-failed, gathered-stopped}
+use Rattle.verified_turns.specs.Progress.{HasEnded, HasFailed, HasStopped, IsTold}
+use Rattle.verified_turns.specs.Laws.{Gathered}
+use Rattle.verified_turns.proofs.GatheringLaws.{gathered-ended, gathered-failed, gathered-stopped}
 use Rattle.verified_turns.specs.declared.worker.Outcome.{Outcome}
 use Rattle.verified_turns.specs.declared.worker.Outcome.TheVariants.{Done, Failed, Stopped}
 use Rattle.verified_turns.specs.Machines.{instances}

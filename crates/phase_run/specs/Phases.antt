@@ -9,7 +9,7 @@ use Rattle.orders.specs.Runs.{follow}
 use Rattle.orders.specs.Tiles.{flat}
 use Rattle.shared_words.specs.Memories.{signed}
 use Rattle.follow_chunk.specs.Followed.{ClosesSmall}
-use Rattle.phases.specs.Laws.{RanTogether}
+use Rattle.verified_turns.specs.Laws.{RanTogether}
 use Rattle.verified_turns.specs.Machines.{instances}
 use Rattle.verified_turns.specs.Workers.{TaskState}
 use Rattle.crew.specs.declared.handed.Handed.{Handed}

@@ -1,7 +1,7 @@
 //! The end of a phase: the seats come back, and main settles.
 
 ghost use Rattle.std.specs.Prelude.{◌≡◌, ◌<◌, ◌≤◌, ℕ, Some, true, [], length, vec_len, vec_capacity};
-ghost use Rattle.phases.specs.Laws.{Gathered};
+ghost use Rattle.verified_turns.specs.Laws.{Gathered};
 ghost use Rattle.follow_chunk.specs.Followed.{ClosesSmall};
 ghost use Rattle.crew.specs.Jobs.{total};
 ghost use Rattle.verified_turns.specs.Workers.{Status, instances_of, task_state};

@@ -5,8 +5,8 @@
 //! whatever the workers did beside each other; where the flag was raised there is none. Words that no tile writes are
 //! as before in either case, and the crew kept one entry more.
 //!
-//! It stands on `verified_turns` for the workers, on `crew` for what gives them turns, and on `phases` for the law. The
-//! layer above goes from phase to phase of a chunk.
+//! It stands on `verified_turns` for the workers and the law of a phase, and on `crew` for what gives them turns. The layer
+//! above goes from phase to phase of a chunk.
 #![tactic(auto)]
 
 mod close;

@@ -11,8 +11,7 @@ use follow_chunk::Task;
 use legality::{Judged, judge};
 use nest_lang::{Budget, Nest, Outer};
 use nest_text::{NestFile, ReadRefusal, read_nest};
-use profile::{FitEnd, fit};
-use profiling::{FirstProfile, first_profile};
+use profile::{FirstProfile, FitEnd, first_profile, fit};
 use std::alloc::{AllocError, Global};
 use transform::{Schedule, schedule_of, standard};
 

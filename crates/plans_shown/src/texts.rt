@@ -1,10 +1,9 @@
 //! The texts of plans.
 
-use backup::Stripe;
 use core_steps::Tile;
 use skeletons::Cell;
 use std::alloc::{AllocError, Global};
-use tiles::{ChunkPlan, Phase};
+use tiles::{ChunkPlan, Phase, Stripe};
 
 /// The numbers of a plan.
 pub fn numbers_text<const D: usize>(

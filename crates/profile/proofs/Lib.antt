@@ -1,5 +1,6 @@
 pub mod BoundsLaws
 pub mod EndLaws
+pub mod EntryLaws
 pub mod ExampleLaws
 pub mod FitLaws
 pub mod FitPartLaws
@@ -8,7 +9,9 @@ pub mod GatherLaws
 pub mod LogLaws
 pub mod NumberLaws
 pub mod OneFitLaws
+pub mod OneProfile
 pub mod OneUnfitLaws
+pub mod ProfileLaws
 pub mod ReachLaws
 pub mod SamplerLaws
 pub mod ShownBoundLaws

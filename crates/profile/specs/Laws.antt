@@ -1,18 +1,21 @@
--- Laws of the fit of a nest, each for all observations.
+-- Laws of first profiles, and of the fit of a nest, each for all observations.
 use Rattle.std.specs.Prelude.{◌≡◌, ◌<◌, ◌⊎◌, ℕ, pos, ◌+ℤ◌, ◌≤ℤ◌, List, length, slice_get, Some}
 use Rattle.std.specs.List.{Contains}
 use Rattle.affine.specs.Forms.{Affine, value_at}
 use Rattle.nest_lang.specs.declared.tree.BlockRef.{BlockRef}
 use Rattle.nest_lang.specs.declared.tree.Loop.{Loop}
 use Rattle.nest_lang.specs.Blocks.{present_blocks}
+use Rattle.nest_lang.specs.Stores.{Store}
 use Rattle.nest_lang.specs.Traces.{Observation}
 use Rattle.line_fit.specs.Laws.{HasPair}
 use Rattle.line_fit.specs.Samples.{sample_at}
 use Rattle.line_fit.specs.Lines.{Tube, Meets}
 use Rattle.domain.specs.declared.prediction.What.{What}
 use Rattle.domain.specs.Tables.{Table, block_at}
+use Rattle.profile.specs.declared.first_turns.FirstProfile.{FirstProfile}
 use Rattle.profile.specs.declared.unfit.Unfit.{Unfit}
 use Rattle.profile.specs.Data.{data_of, samples_at, tube_in}
+use Rattle.profile.specs.FirstProfiles.{IsFirstProfile}
 use Rattle.profile.specs.Fits.{IsFitOf, IsUnfitAt}
 
 -- observations have a fit, or a first datum that has none, and not both
@@ -54,3 +57,9 @@ FitOrFirstUnfit = (D scalars : ℕ) (loops : List Loop) (observations : List Obs
 -- observations have at most one first datum that has no fit
 abbrev pub OneFirstUnfit : Type 0
 OneFirstUnfit = (D scalars : ℕ) (loops : List Loop) (observations : List Observation) (u v : Unfit D) → IsUnfitAt D scalars loops observations u → IsUnfitAt D scalars loops observations v → u ≡ v
+
+-- a nest, a store and steps have exactly one first profile of so many turns
+abbrev pub OneFirstProfile : Type 0
+OneFirstProfile = (loops : List Loop) (c : ℕ) (s : Store) (left : ℕ) →
+    (profile : FirstProfile) × IsFirstProfile loops c s left profile
+    × ((other : FirstProfile) → IsFirstProfile loops c s left other → other ≡ profile)

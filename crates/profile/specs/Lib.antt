@@ -1,5 +1,6 @@
 pub mod Data
 pub mod Examples
+pub mod FirstProfiles
 pub mod Fits
 pub mod Gathered
 pub mod Keeping

@@ -1,6 +1,6 @@
 //! Laws: functions that do nothing, each with a law of the definitions as its contract.
 
-ghost use Rattle.profile.specs.Laws.{FitOrFirstUnfit, FitOrUnfit, FormIsOnlyAffine, OneFirstUnfit, OneFit, SamplesLieInTubes};
+ghost use Rattle.profile.specs.Laws.{FitOrFirstUnfit, FitOrUnfit, FormIsOnlyAffine, OneFirstProfile, OneFirstUnfit, OneFit, SamplesLieInTubes};
 ghost use Rattle.profile.specs.Reach.{FormsStayWithinReach, TripsStayWithinReach, TurnsLeaveI64s, TurnsShowValues};
 ghost use Rattle.profile.specs.Sampled.{SamplerKeepsAll};
 ghost use Rattle.profile.specs.TurnLaws.{FitsAreTables, LowersComeWithTrips};
@@ -67,4 +67,9 @@ pub fn lowers_come_with_trips()
 /// The fit of what some turns show is a table, as a prediction has.
 pub fn fits_are_tables()
     ensures { FitsAreTables }
+{}
+
+/// A nest, a store and steps have exactly one first profile.
+pub fn one_first_profile()
+    ensures { OneFirstProfile }
 {}

@@ -7,8 +7,8 @@ use Rattle.std.proofs.lemmas.Grind.{flat_map-append}
 use Rattle.std.proofs.lemmas.Int.{ints}
 use Rattle.std.proofs.lemmas.List.{append-nil, take_all, take_more}
 use Rattle.std.proofs.lemmas.List.Sums.{sum_by-cons}
-use Rattle.backup.specs.declared.stripe.Stripe.{Stripe}
-use Rattle.backup.specs.Stripes.{IsWithin, addresses_of, addresses_of_all}
+use Rattle.tiles.specs.declared.stripe.Stripe.{Stripe}
+use Rattle.tiles.specs.Stripes.{IsWithin, addresses_of, addresses_of_all}
 use Rattle.orders.specs.Orders.{Ordered}
 use Rattle.plain_lemmas.specs.Lists.{Has}
 use Rattle.orders.proofs.ListLaws.{ordered-right}

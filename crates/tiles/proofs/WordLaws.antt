@@ -15,7 +15,7 @@ use Rattle.plain_lemmas.proofs.MembershipLaws.{contains-from-has, has-cases, has
 use Rattle.domain.specs.Footprints.{Gains}
 use Rattle.domain.specs.Tables.{Access}
 use Rattle.domain.proofs.TouchedLaws.{gains-none, gains-same}
-use Rattle.backup.specs.declared.stripe.Stripe.{Stripe}
+use Rattle.tiles.specs.declared.stripe.Stripe.{Stripe}
 use Rattle.skeletons.specs.Runs.{Run}
 use Rattle.tiles.specs.declared.strip.Strip.{Strip}
 use Rattle.tiles.specs.Strips.{IsListOfWords, IsWordOf, access_strips, address_at, line_strips, offset_at, offset_count, run_strip, strip_of}

@@ -1,14 +1,17 @@
--- Computed examples: the strips of a run, phases, and one cell more.
-use Rattle.std.specs.Prelude.{◌≡◌, pos, negsuc, true, false, Some, None, [], ◌∷◌, map, refl}
+-- Computed examples: the strips of a run, stripes, phases, and one cell more.
+use Rattle.std.specs.Prelude.{◌≡◌, ℕ, pos, negsuc, ◌==◌, Bool, true, false, Some, None, [], ◌∷◌, map, refl}
+use Rattle.std.proofs.Common.{subst}
 use Rattle.affine.specs.Forms.{Affine}
 use Rattle.core_steps.specs.declared.plan.Tile.{Tile}
 use Rattle.domain.specs.Tables.{Access}
 use Rattle.skeletons.specs.Cells.{Cell}
 use Rattle.skeletons.specs.Runs.{Run}
 use Rattle.tiles.specs.declared.strip.Strip.{Strip}
+use Rattle.tiles.specs.declared.stripe.Stripe.{Stripe}
 use Rattle.tiles.specs.Counts.{count_of}
 use Rattle.tiles.specs.Groups.{added, alone}
 use Rattle.tiles.specs.Plans.{cells_of, phase_key}
+use Rattle.tiles.specs.Stripes.{addresses_of, addresses_of_all}
 use Rattle.tiles.specs.Strips.{access_strips, address_at, load_strips, store_strips}
 
 -- three instances of a block, at the counters (4, 0), (4, 1) and (4, 2)
@@ -44,6 +47,33 @@ no_form_no_strip = refl
 
 pub counts_are_added : count_of (row ∷ row ∷ []) ≡ 6
 counts_are_added = refl
+
+-- ---- stripes
+
+abbrev pub is_three : Bool → Type 0
+is_three true = Unit {0}
+is_three false = ⊥
+
+pub three_is_not_one : ◌≡◌ {A = ℕ} 3 1 → ⊥
+three_is_not_one e = subst (λ (n : ℕ). is_three (n == 3)) e tt
+
+-- from 10 on, three addresses downwards in steps of 4
+abbrev pub falling : Stripe
+falling = record { first = 10; step = negsuc 3; count = 3; single = λ one. absurd (three_is_not_one one) }
+
+pub a_stripe_may_fall : addresses_of falling ≡ 10 ∷ 6 ∷ 2 ∷ []
+a_stripe_may_fall = refl
+
+-- one address, with the step 0
+abbrev pub lone : Stripe
+lone = record { first = 6; step = pos 0; count = 1; single = λ one. refl }
+
+-- an address may stand in two stripes
+pub stripes_one_after_another : addresses_of_all (falling ∷ lone ∷ []) ≡ 10 ∷ 6 ∷ 2 ∷ 6 ∷ []
+stripes_one_after_another = refl
+
+pub no_addresses : addresses_of (record lone { count = 0; single = λ one. refl }) ≡ []
+no_addresses = refl
 
 -- ---- phases
 

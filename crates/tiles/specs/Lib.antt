@@ -1,3 +1,4 @@
+pub mod Stripes
 pub mod Strips
 pub mod Plans
 pub mod Groups

@@ -7,8 +7,8 @@ use Rattle.std.specs.Cmp.Lexicographic.{slice_cmp}
 use Rattle.core_steps.specs.declared.plan.Plan.{Plan}
 use Rattle.core_steps.specs.declared.plan.Tile.{Tile}
 use Rattle.core_steps.specs.Plans.{IsSeparate, IsInside}
-use Rattle.backup.specs.declared.stripe.Stripe.{Stripe}
-use Rattle.backup.specs.Stripes.{IsWithin, addresses_of_all}
+use Rattle.tiles.specs.declared.stripe.Stripe.{Stripe}
+use Rattle.tiles.specs.Stripes.{IsWithin, addresses_of_all}
 use Rattle.orders.specs.Orders.{Ordered}
 use Rattle.plain_lemmas.specs.Lists.{Has}
 use Rattle.domain.specs.declared.chunk.Chunk.{Chunk}

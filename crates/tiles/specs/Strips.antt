@@ -4,7 +4,7 @@ use Rattle.std.specs.List.{flat_map, range_with_len}
 use Rattle.std.specs.List.Sorted.{IsStrictlyIncreasing}
 use Rattle.affine.specs.Forms.{Affine, AllWithinSize, value_at}
 use Rattle.affine.specs.Sums.{dot, weighted}
-use Rattle.backup.specs.declared.stripe.Stripe.{Stripe}
+use Rattle.tiles.specs.declared.stripe.Stripe.{Stripe}
 use Rattle.plain_lemmas.specs.Lists.{Has}
 use Rattle.domain.specs.Tables.{Table, Access}
 use Rattle.domain.specs.Instances.{block_of}

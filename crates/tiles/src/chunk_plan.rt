@@ -7,8 +7,8 @@ ghost use Rattle.tiles.specs.Plans.{IsPlannable, IsPlanOf};
 
 use crate::group::{Group, add};
 use crate::phase::Phase;
+use crate::stripe::Stripe;
 use crate::touching::tile_of_runs;
-use backup::Stripe;
 use follow_chunk::Task;
 use skeletons::{Run, Skeleton};
 use std::alloc::{AllocError, Global};

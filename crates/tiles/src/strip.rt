@@ -5,9 +5,9 @@ ghost use Rattle.affine.specs.Forms.{AllWithinSize, value_at};
 ghost use Rattle.domain.specs.Footprints.{Gains};
 ghost use Rattle.tiles.specs.Strips.{AreSmall, IsNear, IsSmallRun, IsStored, IsWordOf, address_at, form_strip, run_strip, strip_of};
 
+use crate::stripe::Stripe;
 use crate::sums::{minus, plus, stepped};
 use affine::Form;
-use backup::Stripe;
 use skeletons::Run;
 use std::alloc::AllocError;
 

@@ -10,7 +10,7 @@ ghost use Rattle.tiles.specs.declared.strip.Strip.{Strip as PlainStrip};
 ghost use Rattle.tiles.specs.Strips.{IsListOfWords, IsStored, IsPlannedRun, IsSmallRun, IsWordOf, access_strips, load_strips, loads_of_run, offset_at, offset_count, store_strips, stores_of_run, strip_of};
 
 use crate::strip::Strip;
-use backup::Stripe;
+use crate::stripe::Stripe;
 use core_steps::Tile;
 use domain::{AccessForm, Prediction};
 use skeletons::Run;

@@ -4,7 +4,7 @@ use Rattle.domain.specs.Instances.{Instance}
 use Rattle.plain_lemmas.specs.Lists.{Has}
 use Rattle.orders.specs.Tiles.{flat}
 use Rattle.plain_lemmas.proofs.MembershipLaws.{has-cases}
-use Rattle.phases.specs.Workers.{list_of}
+use Rattle.verified_turns.specs.Progress.{list_of}
 use Rattle.turns_bench.specs.Copies.{first, copies, tiles_of}
 
 pub copies-next : (n : ℕ) → 0 < n → copies n ≡ first ∷ copies (n - 1)

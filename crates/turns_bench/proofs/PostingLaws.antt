@@ -13,7 +13,7 @@ use Rattle.domain.specs.declared.chunk.Chunk.{Chunk}
 use Rattle.nest_lang.specs.declared.state.Outer.{Outer}
 use Rattle.nest_lang.specs.declared.tree.Loop.{Loop}
 use Rattle.plain_lemmas.specs.Lists.{Has}
-use Rattle.phases.specs.Workers.{list_of}
+use Rattle.verified_turns.specs.Progress.{list_of}
 use Rattle.follow_chunk.specs.Laws.{one_row, one_turn}
 use Rattle.follow_chunk.proofs.PremiseLaws.{here, premises-can-hold}
 use Rattle.verified_turns.specs.Workers.{TaskState, task_state, StaysWithin}

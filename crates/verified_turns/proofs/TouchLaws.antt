@@ -15,7 +15,7 @@ use Rattle.follow_chunk.specs.Predicted.{interval_at}
 use Rattle.follow_chunk.specs.Tasks.{IsTask}
 use Rattle.follow_chunk.specs.Verifies.{expected_where, VerifiesInstance}
 use Rattle.follow_chunk.proofs.ConflictLaws.{about, lies-expects, interval-is, touches-from, writes-from}
-use Rattle.phases.specs.Workers.{MayRun}
+use Rattle.verified_turns.specs.Progress.{MayRun}
 use Rattle.verified_turns.specs.Machines.{instances}
 use Rattle.verified_turns.specs.Ports.{of_kind, own_expectation, MayTouch}
 

@@ -14,8 +14,8 @@ use Rattle.follow_chunk.specs.declared.task.Deviation.{Deviation}
 use Rattle.follow_chunk.specs.Followed.{Follows, Deviates, ClosesSmall}
 use Rattle.follow_chunk.specs.Tasks.{IsTask}
 use Rattle.follow_chunk.proofs.ConflictLaws.{writes-to, touches-to}
-use Rattle.phases.specs.Workers.{list_of, Fits, MayRun, Went, IsTold, looked_view, IsGoing, HasFailed}
-use Rattle.phases.proofs.WorkerStepLaws.{taken-held, may-run, going-start, going-instance, going-won, going-lost, going-look, ended-look, stopped-look, failed_raise}
+use Rattle.verified_turns.specs.Progress.{list_of, Fits, MayRun, Went, IsTold, looked_view, IsGoing, HasFailed}
+use Rattle.verified_turns.proofs.WorkerStepLaws.{taken-held, may-run, going-start, going-instance, going-won, going-lost, going-look, ended-look, stopped-look, failed_raise}
 use Rattle.verified_turns.specs.declared.worker.Outcome.{Outcome}
 use Rattle.verified_turns.specs.declared.worker.Outcome.TheVariants.{Done, Failed, Stopped}
 use Rattle.verified_turns.specs.Machines.{instances}

@@ -9,7 +9,7 @@ use Rattle.orders.specs.Tiles.{named}
 use Rattle.follow.specs.Footprints.{follow_machine}
 use Rattle.follow_chunk.specs.Predicted.{forecast_of}
 use Rattle.follow_chunk.specs.Items.{item_at, scalars_after}
-use Rattle.phases.specs.Laws.{PhaseLaw}
+use Rattle.verified_turns.specs.Laws.{PhaseLaw}
 use Rattle.follow_chunk.specs.Followed.{ClosesSmall}
 
 -- instances of a nest by what a table predicts of them, over so many words: each with its footprint, and with its follow

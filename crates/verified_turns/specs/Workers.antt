@@ -17,7 +17,7 @@ use Rattle.shared_words.specs.Seats.{memory_words}
 use Rattle.follow_chunk.specs.declared.task.Deviation.{Deviation}
 use Rattle.follow_chunk.specs.Followed.{ClosesSmall, Deviates}
 use Rattle.follow_chunk.specs.Tasks.{IsTask}
-use Rattle.phases.specs.Workers.{list_of, Fits, IsGoing, HasEnded, HasFailed, HasStopped}
+use Rattle.verified_turns.specs.Progress.{list_of, Fits, IsGoing, HasEnded, HasFailed, HasStopped}
 use Rattle.verified_turns.specs.declared.worker.Outcome.{Outcome}
 use Rattle.verified_turns.specs.declared.worker.Outcome.TheVariants.{Done, Failed, Stopped}
 use Rattle.verified_turns.specs.Machines.{instances}

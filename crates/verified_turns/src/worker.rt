@@ -6,7 +6,7 @@ ghost use Rattle.orders.specs.Tiles.{flat};
 ghost use Rattle.follow_chunk.specs.Tasks.{IsTask};
 ghost use Rattle.follow_chunk.specs.Followed.{IsInstanceFollowed, IsClosedSmall};
 ghost use Rattle.follow_chunk.specs.Verifies.{IsShort};
-ghost use Rattle.phases.specs.Workers.{MayRun};
+ghost use Rattle.verified_turns.specs.Progress.{MayRun};
 ghost use Rattle.shared_words.specs.Seats.{memory_words};
 ghost use Rattle.shared_words.specs.Memories.{shown};
 ghost use Rattle.verified_turns.specs.Machines.{instances};

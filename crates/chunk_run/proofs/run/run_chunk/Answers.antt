@@ -4,8 +4,8 @@ use Rattle.std.proofs.lemmas.List.{length-map}
 use Rattle.core_steps.specs.declared.view.View.{View}
 use Rattle.shared_words.specs.Memories.{signed}
 use Rattle.shared_words.specs.Seats.{SeatState}
-use Rattle.backup.specs.Backups.{words_at, addresses_kept, DiffersOnlyAt}
-use Rattle.backup.specs.Stripes.{addresses_of_all}
+use Rattle.chunk_run.specs.Backups.{words_at, addresses_kept, DiffersOnlyAt}
+use Rattle.tiles.specs.Stripes.{addresses_of_all}
 use Rattle.transform.specs.Schedules.{IsSchedule}
 use Rattle.skeletons.specs.Cells.{Extent, IsLaunch}
 use Rattle.tiles.specs.Plans.{ChunkPlan, IsPlanOf}

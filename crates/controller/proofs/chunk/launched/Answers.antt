@@ -3,7 +3,7 @@ use Rattle.follow_chunk.specs.Tasks.{IsTask}
 use Rattle.chunk_run.specs.declared.run.ChunkEnd.{ChunkEnd}
 use Rattle.chunk_run.specs.declared.run.ChunkEnd.TheVariants.{RolledBack}
 use Rattle.chunk_run.specs.ChunkEnds.{IsLegalFor}
-use Rattle.profiling.specs.FirstProfiles.{has_turn}
+use Rattle.profile.specs.FirstProfiles.{has_turn}
 use Rattle.journeys.specs.Settings.{Setting, Moment, next_chunk, words_at}
 use Rattle.journeys.specs.Stages as stages
 use Rattle.journeys.specs.Stages.{FollowsIt}

@@ -2,7 +2,7 @@ use Rattle.std.proofs.Common.{◌≡◌, ℕ, ◌≤◌, List, [], ◌∙◌, ap
 use Rattle.nest_lang.specs.Traces.{Observation}
 use Rattle.nest_lang.specs.Turns.{finish_of_turned}
 use Rattle.nest_lang.specs.declared.budget.Ending.{Ending}
-use Rattle.profiling.specs.FirstProfiles.{has_turn}
+use Rattle.profile.specs.FirstProfiles.{has_turn}
 use Rattle.journeys.specs.Settings.{Setting, observed, profile_turns, turns_within}
 use Rattle.controller.specs.declared.stage.Stage.TheVariants.{Profiles, Over}
 use Rattle.controller.specs.Courses.{IsJudged, Led, ending_of}

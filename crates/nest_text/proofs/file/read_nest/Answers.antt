@@ -1,7 +1,7 @@
 use Rattle.std.proofs.Common.{rules, ◌≡◌, ℕ, List, Result, Ok, Err}
 use Rattle.nest_grammar.specs.declared.file.File.{File}
 use Rattle.nest_grammar.specs.Contents.{reading}
-use Rattle.grammar_laws.proofs.ContentLaws.{reading-reads, reads-reading}
+use Rattle.nest_grammar.proofs.ContentLaws.{reading-reads, reads-reading}
 use Rattle.nest_text.specs.declared.refusal.ReadRefusal.{ReadRefusal}
 use Rattle.nest_text.specs.declared.refusal.ReadRefusal.TheVariants.{Text, NoMemory}
 use Rattle.nest_text.specs.Answers.{Answers}

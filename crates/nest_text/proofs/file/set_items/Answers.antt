@@ -1,6 +1,6 @@
 use Rattle.std.proofs.Common.{◌≡◌, ◌∙◌, ◌+◌, ap, sym, subst, length, drop, true, arith}
 use Rattle.nest_grammar.specs.Files.{after_items}
-use Rattle.grammar_laws.specs.Rules.{item_fits}
+use Rattle.nest_grammar.specs.Rules.{item_fits}
 use Rattle.nest_text.proofs.StoredItemLaws.{after_items-next, after_items-all, length-after_item, fits-at}
 use Rattle.nest_text.proofs.file.set_items.Goals as goal
 

@@ -3,8 +3,8 @@ use Rattle.std.proofs.lemmas.List.{nil_from_length}
 use Rattle.core_steps.specs.declared.view.View.{View}
 use Rattle.core_steps.specs.Views.{stored_at, joined_view}
 use Rattle.follow_chunk.specs.Followed.{ClosesSmall}
-use Rattle.phases.specs.Laws.{Gathered}
-use Rattle.phases.proofs.GatheringLaws.{gathered-start}
+use Rattle.verified_turns.specs.Laws.{Gathered}
+use Rattle.verified_turns.proofs.GatheringLaws.{gathered-start}
 use Rattle.verified_turns.specs.Workers.{Status, instances_of, task_state}
 use Rattle.crew.specs.Jobs.{total}
 use Rattle.phase_run.specs.Postings.{PostingState}

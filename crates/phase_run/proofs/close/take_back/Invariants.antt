@@ -1,7 +1,7 @@
 use Rattle.std.proofs.Common.{◌≡◌, ◌+◌, ◌-◌, ◌*◌, ◌≤◌, true, vec_len}
 use Rattle.std.specs.Prelude.{◌^◌, vec_capacity}
 use Rattle.follow_chunk.specs.Followed.{ClosesSmall}
-use Rattle.phases.specs.Laws.{Gathered}
+use Rattle.verified_turns.specs.Laws.{Gathered}
 use Rattle.verified_turns.specs.Workers.{Status, instances_of, task_state}
 use Rattle.crew.specs.Jobs.{total}
 use Rattle.phase_run.specs.Seats.{AreOfPhase, AreDone, OnlyTheirs, OwnsWrites}

@@ -4,7 +4,7 @@ use Rattle.follow.proofs.LawfulLaws.{follow-is-lawful}
 use Rattle.follow_chunk.specs.Predicted.{forecast_of}
 use Rattle.follow_chunk.specs.Items.{item_at, scalars_after}
 use Rattle.follow_chunk.specs.Followed.{ClosesSmall}
-use Rattle.phases.proofs.GatheringLaws.{phase_law}
+use Rattle.verified_turns.proofs.GatheringLaws.{phase_law}
 use Rattle.verified_turns.specs.Machines.{instances}
 use Rattle.verified_turns.proofs.laws.instances_keep_phases.Goals as goal
 

@@ -1,7 +1,7 @@
 use Rattle.std.proofs.Common.{◌≡◌, refl, ap, ◌∙◌, List, [], ◌∷◌, ◌++◌, append_assoc, rules}
 use Rattle.std.specs.Prelude.{unsigned_abs}
-use Rattle.profiling.specs.declared.run.FirstProfile.TheVariants.{Whole}
-use Rattle.profiling.specs.FirstProfiles.{IsFirstProfile}
+use Rattle.profile.specs.declared.first_turns.FirstProfile.TheVariants.{Whole}
+use Rattle.profile.specs.FirstProfiles.{IsFirstProfile}
 use Rattle.report.specs.declared.line.ListingLine.{ListingLine}
 use Rattle.listing.specs.Listings.{profile_line}
 use Rattle.listing.proofs.task.Task.list.Goals as goal

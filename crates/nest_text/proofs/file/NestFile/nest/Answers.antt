@@ -2,7 +2,7 @@ use Rattle.std.proofs.Common.{◌≡◌, ◌∙◌, ap, sym, subst, Some, option
 use Rattle.nest_grammar.specs.declared.file.File.{File}
 use Rattle.std.specs.Option.{option_copied}
 use Rattle.nest_lang.specs.Rules.{NestKeeps}
-use Rattle.grammar_laws.proofs.RuleLaws.{reading-keeps}
+use Rattle.nest_grammar.proofs.RuleLaws.{reading-keeps}
 use Rattle.nest_text.proofs.ScalarNameLaws.{nest-found}
 use Rattle.nest_text.proofs.file.NestFile.nest.Goals as goal
 use Rattle.plain_lemmas.proofs.ListLaws.{All-slice_get}

@@ -1,7 +1,7 @@
 use Rattle.std.proofs.Common.{◌∙◌, ap, sym, Some, option_map}
 use Rattle.std.specs.Option.{option_copied}
-use Rattle.grammar_laws.specs.Rules.{IsSpelled}
-use Rattle.grammar_laws.proofs.RuleLaws.{reading-keeps}
+use Rattle.nest_grammar.specs.Rules.{IsSpelled}
+use Rattle.nest_grammar.proofs.RuleLaws.{reading-keeps}
 use Rattle.nest_tokens.specs.Spellings.{name_text}
 use Rattle.nest_text.proofs.ScalarNameLaws.{name-found}
 use Rattle.nest_text.proofs.file.NestFile.scalar_name.Goals as goal

@@ -1,7 +1,7 @@
 use Rattle.std.proofs.Common.{◌≡◌, ◌∙◌, ◌≤◌, ℤ, List, length, map, ap, arith}
 use Rattle.std.proofs.lemmas.List.{length-map}
 use Rattle.nest_grammar.specs.declared.file.Scalar.{Scalar}
-use Rattle.grammar_laws.proofs.RuleLaws.{reading-keeps}
+use Rattle.nest_grammar.proofs.RuleLaws.{reading-keeps}
 use Rattle.nest_text.proofs.file.NestFile.start.Goals as goal
 
 pub first_memory-requires : goal.first_memory-requires

@@ -1,8 +1,8 @@
 use Rattle.std.proofs.Common.{◌≡◌, ◌∙◌, refl, ap, ◌+◌, ◌-◌, ◌<◌, ◌≤◌, Bool, false, [], length, arith}
 use Rattle.core_steps.specs.declared.view.View.{View}
 use Rattle.core_steps.specs.Views.{holding_view, knowing_view}
-use Rattle.phases.specs.Workers.{looked_view}
-use Rattle.phases.proofs.WorkerStepLaws.{told-of}
+use Rattle.verified_turns.specs.Progress.{looked_view}
+use Rattle.verified_turns.proofs.WorkerStepLaws.{told-of}
 use Rattle.verified_turns.specs.Workers.{Status, task_state, origin_of}
 use Rattle.verified_turns.proofs.TurnLaws.{status, at-work, won-keeps, lost-keeps, end-keeps, stop-keeps, origin-kept, more-left}
 use Rattle.verified_turns.proofs.worker.Worker.look.Goals as goal

@@ -1,6 +1,6 @@
 use Rattle.std.proofs.Common.{◌≡◌, ◌∙◌, refl, ap, ◌+◌, ◌-◌, ◌<◌, arith, rules}
 use Rattle.shared_words.specs.Seats.{SeatState}
-use Rattle.phases.proofs.WorkerStepLaws.{told-of}
+use Rattle.verified_turns.proofs.WorkerStepLaws.{told-of}
 use Rattle.verified_turns.specs.Workers.{Status, task_state}
 use Rattle.verified_turns.proofs.TurnLaws.{status, at-work, due-predicted, due-may, instance-keeps, failure-keeps, more-left}
 use Rattle.verified_turns.proofs.worker.Worker.turn.Goals as goal

@@ -1,2 +1,0 @@
-mod KeepLaws
-mod RestoreLaws

@@ -1,3 +1,0 @@
-pub mod Stripes
-pub mod Backups
-pub mod Examples

@@ -1,6 +1,0 @@
-use Rattle.grammar_laws.proofs.equal.fault_or_file.Goals as goal
-use Rattle.grammar_laws.proofs.GrammarLaws.{fault-or-file}
-
--- src/equal.rt:20:1
-pub returns : goal.returns
-returns c = fault-or-file

@@ -1,3 +1,0 @@
-pub mod WorkerStepLaws
-pub mod WorkersTogetherLaws
-pub mod GatheringLaws

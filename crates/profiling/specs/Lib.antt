@@ -1,2 +1,0 @@
-pub mod FirstProfiles
-pub mod Laws
