@@ -5,6 +5,7 @@ use Rattle.plain_lemmas.proofs.IntegerLaws.{int_lt-true}
 use Rattle.domain.specs.Instances.{Instance, Predicted, opening_at}
 use Rattle.domain.proofs.OriginalLaws.{opening-predicted}
 use Rattle.follow_chunk.proofs.LaunchedInstanceLaws.{can-turn}
+use Rattle.follow_chunk.specs.Tasks.{task_of}
 use Rattle.compare.proofs.PredictedChainLaws.{tasks-are-chunks}
 use Rattle.follow_bench.proofs.ListingLaws.{in-chunk, all-with}
 use Rattle.follow_bench.proofs.instances.predicted.Goals as goal
@@ -32,7 +33,7 @@ pub holds-requires : goal.holds-requires
 holds-requires g c =
     let self = c.args.task.now in
     let task = c.requires.task in
-    let next = tasks-are-chunks g.row.D self.scalars self.nest.now.loops self.pred.now self.outer self.chunk task.0 task.1 in
+    let next = tasks-are-chunks g.row.D (task_of self) task.0 task.1 in
     let from = next.from in
     let turns = next.some in
     let soon = task.1.soon in
