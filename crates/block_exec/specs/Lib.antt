@@ -5,3 +5,6 @@ pub mod Moments
 pub mod Halts
 pub mod Runs
 pub mod Laws
+pub mod Codes
+pub mod Coded
+pub mod NestCodes

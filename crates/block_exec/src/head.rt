@@ -117,7 +117,7 @@ impl<P: Port, W: Watch> Run<'_, P, W> {
 
     /// Shows a lower bound and a number of turns.
     #[tactic(auto, using(crate::proofs::ExpressionLaws::yields))]
-    fn show_bounds(&mut self, site: &Site<'_>, lower: i64, trip: u64)
+    pub(crate) fn show_bounds(&mut self, site: &Site<'_>, lower: i64, trip: u64)
         ensures shown { Chain W.may self.old.watch.now (observed site.now.block site.now.counters.now Lower lower ∷ observed site.now.block site.now.counters.now Trip (pos trip) ∷ []) self.new.watch.now }
         ensures rest { OnlyShown self.old self.new }
     {
@@ -127,14 +127,14 @@ impl<P: Port, W: Watch> Run<'_, P, W> {
 }
 
 /// A condition holds where its value is not 0.
-fn is_not_zero(value: i64) -> bool
+pub(crate) fn is_not_zero(value: i64) -> bool
     ensures { result ≡ not (same value (pos 0)) }
 {
     value != 0
 }
 
 /// A condition as it is shown.
-fn number_of(holds: bool) -> i64
+pub(crate) fn number_of(holds: bool) -> i64
     ensures { result ≡ as_number holds }
 {
     i64::from(holds)

@@ -13,21 +13,28 @@
 //! has what the layers that verify addresses rest on.
 #![tactic(auto)]
 
+mod code;
+mod coded;
+mod compile;
 mod context;
 mod expression;
 mod halt;
 mod head;
 pub mod laws;
 mod memory;
+mod nest_code;
 mod port;
 mod site;
 mod statement;
 mod watch;
 
+pub use code::{BlockCode, BoundsCode, Registers, ValueCode};
+pub use compile::{block_code, value_code};
 pub use context::Run;
 pub use halt::{Cut, Halt, Halted};
 pub use head::Bounds;
 pub use memory::MemoryPort;
+pub use nest_code::{HeadCode, LoopCode, NestCode};
 pub use nest_lang::{Seen, Stop, value_of_turn};
 pub use port::Port;
 pub use site::{Places, Site};

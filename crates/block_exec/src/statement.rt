@@ -88,7 +88,8 @@ impl<P: Port, W: Watch> Run<'_, P, W> {
 
     /// Stores through the port, where the address is shown before.
     #[tactic(auto, using(crate::proofs::QuietLaws::quiet))]
-    fn store(&mut self, site: &Site<'_>, access: u8, address: i64, value: i64) -> Result<(), Halted>
+    #[inline(always)]
+    pub(crate) fn store(&mut self, site: &Site<'_>, access: u8, address: i64, value: i64) -> Result<(), Halted>
         ensures value { let answer = or_stopped access (look_store (P.expects self.old.port.now) (P.memory self.old.port.now) access address) in
             MatchResult result (λ _. IsOk answer) (λ _. answer ≡ Err (halt_by self.new.halt)) }
         ensures watch { W.may self.old.watch.now (observed site.now.block site.now.counters.now (Address access) address) self.new.watch.now }
@@ -119,7 +120,8 @@ fn chosen<'a>(value: i64, first: &'a Items<Stmt>, second: &'a Items<Stmt>) -> &'
 }
 
 /// Sets one place, if there is one of that number.
-fn put(places: &mut [i64], number: u8, value: i64)
+#[inline(always)]
+pub(crate) fn put(places: &mut [i64], number: u8, value: i64)
     ensures { places.new ≡ slice_set places.old number value }
 {
     if (number as usize) < places.len() {

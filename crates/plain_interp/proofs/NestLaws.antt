@@ -10,6 +10,8 @@ use Rattle.nest_lang.specs.Loops.{loops_trace, outside}
 use Rattle.nest_lang.specs.Runs.{run_of, plain_run, nests_trace, nest_trace}
 use Rattle.nest_lang.proofs.CutLaws.{cut-only}
 use Rattle.std.proofs.lemmas.Bool.{and_parts}
+use Rattle.block_exec.specs.declared.nest_code.LoopCode.{LoopCode}
+use Rattle.block_exec.specs.NestCodes.{AreLoopCodes}
 use Rattle.plain_interp.specs.declared.loops.Level.{Level}
 use Rattle.plain_interp.specs.Levels.{IsLevel}
 
@@ -45,13 +47,21 @@ pub words-cut : (m m' scalars scalars' : List ℤ) (e : Finish) (left used : ℕ
 words-cut m m' scalars scalars' e left used whole same-words same_scalars run = rw (same-words, same_scalars) run
 
 -- the outermost level of a nest that keeps the rules
-pub nest-level : (loops : List Loop) (at : Level) → at.depth ≡ 0 → loops ≡ at.first.now ∷ at.rest.now → loops_keep loops ≡ true → IsLevel at
-nest-level loops at outermost is keeps =
+pub nest-level : (loops : List Loop) (at : Level) → at.depth ≡ 0 → loops ≡ at.first.now ∷ at.rest.now → loops_keep loops ≡ true → AreLoopCodes (at.first.now ∷ at.rest.now) at.codes.now → IsLevel at
+nest-level loops at outermost is keeps codes =
     let few = loops_keep-depth loops at.first.now at.rest.now is keeps in
-    record { deep = omega (arith, outermost, few); keeps = loops_keep-inner loops at.first.now at.rest.now is keeps }
+    record { deep = omega (arith, outermost, few); keeps = loops_keep-inner loops at.first.now at.rest.now is keeps; codes = codes }
 
 -- the plain run of a nest, from the cut of its trace
 pub nest-ran : (nest : Nest) (s t : Store) (n left used : ℕ) (e : Finish) → cut_of t left used e ≡ cut (nest_trace (n + 1) nest.loops s) s n 0
     → record { store = t; ending = e; steps = used } ≡ plain_run (nest ∷ []) s n
 unfolding plain_run nests_trace
 nest-ran nest s t n left used e ran = ap run_of (ran ∙ sym (cut-only (nest_trace (n + 1) nest.loops) s n 0))
+
+-- no code is code of any loops
+pub no-codes : (loops : List Loop) → AreLoopCodes loops []
+no-codes [] = tt
+no-codes (l ∷ ls) = tt
+
+pub codes-of : (loops : List Loop) (first : Loop) (rest : List Loop) (codes : List LoopCode) → loops ≡ first ∷ rest → AreLoopCodes loops codes → AreLoopCodes (first ∷ rest) codes
+codes-of loops first rest codes is are = rw is at are

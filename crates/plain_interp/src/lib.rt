@@ -13,4 +13,4 @@ mod outer;
 mod plain;
 
 pub use outer::{Entered, enter, run_turns};
-pub use plain::{run_nest, run_plain};
+pub use plain::{run_nest, run_nest_by, run_plain};

@@ -12,7 +12,7 @@ ghost use Rattle.plain_interp.specs.Levels.{IsLevel, level_turn};
 ghost use Rattle.plain_interp.specs.Entries.{IsEntry};
 
 use crate::loops::{Level, run_turn};
-use block_exec::{Cut, Halt, Places, Port, Run, Watch};
+use block_exec::{Cut, Halt, Places, Port, Registers, Run, Watch};
 use nest_lang::{BlockRef, Head, Nest, Outer, Part, Trap, Turned, value_of_turn};
 
 /// The head of the outermost loop.
@@ -102,9 +102,11 @@ pub fn run_turns<P: Port, W: Watch>(
         first,
         rest,
         depth: 0,
+        codes: &[],
     };
+    let mut registers = Registers::new();
     for _done in 0..turns {
-        match run_next(run, &outermost, outer) {
+        match run_next(run, &outermost, outer, &mut registers) {
             Turned::Went => {}
             end => return end,
         }
@@ -113,7 +115,12 @@ pub fn run_turns<P: Port, W: Watch>(
 }
 
 /// Runs one more turn of the outermost loop.
-fn run_next<P: Port, W: Watch>(run: &mut Run<'_, P, W>, at: &Level<'_>, outer: &mut Outer) -> Turned
+fn run_next<P: Port, W: Watch>(
+    run: &mut Run<'_, P, W>,
+    at: &Level<'_>,
+    outer: &mut Outer,
+    registers: &mut Registers,
+) -> Turned
     requires steps { run.old.steps.left + run.old.steps.used ≤ 2 ^ 32 }
     requires scalars { length run.old.scalars.now ≤ 256 }
     requires level { IsLevel at.now }
@@ -135,13 +142,13 @@ fn run_next<P: Port, W: Watch>(run: &mut Run<'_, P, W>, at: &Level<'_>, outer: &
                 return Turned::Ended;
             }
             let value = value_of_turn(outer.lower, *stride, turn as u64);
-            run_from(run, value, at, outer)
+            run_from(run, value, at, outer, registers)
         }
         Head::While(condition) => {
             let mut places = Places::new();
             places.begin(0, turn as u64, turn);
             match run.condition(&places.site(HEAD, 1), condition) {
-                Ok(true) => run_from(run, turn, at, outer),
+                Ok(true) => run_from(run, turn, at, outer, registers),
                 Ok(false) => Turned::Ended,
                 Err(cut) => turned_of(cut, run.halt),
             }
@@ -155,6 +162,7 @@ fn run_from<P: Port, W: Watch>(
     value: i64,
     at: &Level<'_>,
     outer: &mut Outer,
+    registers: &mut Registers,
 ) -> Turned
     requires steps { run.old.steps.left + run.old.steps.used ≤ 2 ^ 32 }
     requires scalars { length run.old.scalars.now ≤ 256 }
@@ -172,7 +180,7 @@ fn run_from<P: Port, W: Watch>(
 {
     let mut places = Places::new();
     places.begin(0, outer.next as u64, value);
-    match run_turn(run, at, &mut places) {
+    match run_turn(run, at, &mut places, registers) {
         Ok(()) => {
             advance(outer);
             Turned::Went

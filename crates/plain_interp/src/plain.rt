@@ -5,10 +5,11 @@ ghost use Rattle.nest_lang.specs.Rules.{loops_keep};
 ghost use Rattle.nest_lang.specs.Runs.{plain_run, nest_trace, finish_of_ending};
 ghost use Rattle.nest_lang.specs.Traces.{cut, cut_of};
 ghost use Rattle.nest_lang.specs.Stores.{store_of};
+ghost use Rattle.block_exec.specs.NestCodes.{AreLoopCodes, IsNestCode};
 ghost use Rattle.block_exec.specs.Halts.{IsTrap, finish_of};
 
 use crate::loops::{Level, run_loop};
-use block_exec::{Blind, Cut, Halt, MemoryPort, Places, Run};
+use block_exec::{Blind, Cut, Halt, LoopCode, MemoryPort, NestCode, Places, Registers, Run};
 use nest_lang::{Budget, Ending, Nest, State};
 
 /// Runs a nest from a state within so many steps, and gives how it ended and its steps: the *plain run*
@@ -40,11 +41,34 @@ pub fn run_nest(nest: &Nest, state: &mut State, steps: &mut Budget) -> Ending
     ensures scalars { length state.new.scalars ≡ length state.old.scalars }
 {
     let State { memory, scalars } = state;
-    run_words(nest, memory, scalars, steps)
+    run_words(nest, &[], memory, scalars, steps)
 }
 
-/// The same over the words and the scalars.
-fn run_words(nest: &Nest, memory: &mut [i64], scalars: &mut [i64], steps: &mut Budget) -> Ending
+/// The same, by the code of the nest.
+pub fn run_nest_by(nest: &Nest, code: &NestCode, state: &mut State, steps: &mut Budget) -> Ending
+    requires code { IsNestCode nest.now code.now }
+    requires steps { steps.old.left + steps.old.used ≤ 2 ^ 32 }
+    requires scalars { length state.old.scalars ≤ 256 }
+    requires rules { loops_keep nest.now.loops ≡ true }
+    ensures ran { (k : ℕ) → steps.old.left < k → cut_of state.new steps.new.left steps.new.used (finish_of_ending result)
+        ≡ cut (nest_trace k nest.now.loops state.old) state.old steps.old.left steps.old.used }
+    ensures kept { steps.new.left + steps.new.used ≡ steps.old.left + steps.old.used }
+    ensures fewer { steps.new.left ≤ steps.old.left }
+    ensures scalars { length state.new.scalars ≡ length state.old.scalars }
+{
+    let State { memory, scalars } = state;
+    run_words(nest, code.loops(), memory, scalars, steps)
+}
+
+/// The same over the words and the scalars, by the code of its loops, as far as there is code.
+fn run_words(
+    nest: &Nest,
+    codes: &[LoopCode],
+    memory: &mut [i64],
+    scalars: &mut [i64],
+    steps: &mut Budget,
+) -> Ending
+    requires codes { AreLoopCodes nest.now.loops codes.now }
     requires steps { steps.old.left + steps.old.used ≤ 2 ^ 32 }
     requires scalars { length scalars.old ≤ 256 }
     requires rules { loops_keep nest.now.loops ≡ true }
@@ -60,6 +84,7 @@ fn run_words(nest: &Nest, memory: &mut [i64], scalars: &mut [i64], steps: &mut B
         first,
         rest,
         depth: 0,
+        codes,
     };
     let mut port = MemoryPort::new(memory);
     let mut watch = Blind;
@@ -71,7 +96,12 @@ fn run_words(nest: &Nest, memory: &mut [i64], scalars: &mut [i64], steps: &mut B
         watch: &mut watch,
         halt: Halt::NONE,
     };
-    let end = run_loop(&mut run, &outermost, &mut Places::new());
+    let end = run_loop(
+        &mut run,
+        &outermost,
+        &mut Places::new(),
+        &mut Registers::new(),
+    );
     *steps = run.steps;
     ending_of(end, run.halt)
 }

@@ -80,8 +80,8 @@ run_for-returns-clause-ran g t c = λ k more.
     let turns : ℕ → Store → Trace = for_turns (g.P.Port.expects c.args.run.now.port.now) k (at.depth + 1) at.first.now at.rest.now place bounds.stride bounds.lower in
     turns-end g.W.Watch.may turns bounds.trip c.loop-turn.turn (outside g.P.Port.memory c.loop-turn.run) (Ran g.W.Watch.may (turns_from bounds.trip 0 turns) (outside g.P.Port.memory c.args.run.now)) c.loop-turn-test.false (c.loop-turn.invariant.leads k more)
 
-pub run_loop-bounds-requires-clause-stride : goal.run_loop-bounds-requires-clause-stride
-run_loop-bounds-requires-clause-stride g t c = λ zero.
+pub run_loop-bounds_by-requires-clause-stride : goal.run_loop-bounds_by-requires-clause-stride
+run_loop-bounds_by-requires-clause-stride g t c = λ zero.
     let stride : FitsSigned w64 c.in-For.stride = search rules in
     let same : to_z w64 (of_z w64 c.in-For.stride) ≡ c.in-For.stride = to_z-of_z w64 c.in-For.stride stride in
     stride-not-0 _ _ _ _ c.in-For.is (loop_keeps-strides c.args.at.now.first.now c.args.at.now.rest.now c.requires.level.keeps) (sym same ∙ zero)
@@ -93,8 +93,8 @@ run_loop-returns-in_err-bounds-in-For-clause-ran g t c = λ k more.
     let place : Around = around_at at.depth c.args.places.now in
     let stride : FitsSigned w64 c.in-For.stride = search rules in
     let is : c.from_residual.result ≡ Err c.in_err-bounds-in-For.field-0.0 = search rules in
-    let head = head-at g.W.Watch.may c.site-site.result c.block.result x x (at.depth + 1) place place _ at.first.now.head (outside g.P.Port.memory c.args.run.now) (outside g.P.Port.memory c.bounds.new.self) _ c.site-site.ensures c.block.ensures refl refl (sym c.in-For.is) (simp to_z-of_z at c.in_err-bounds-in-For.ensures.evaluated) in
-    rw is (for-cut g.W.Watch.may x k (at.depth + 1) at.first.now at.rest.now place _ _ c.in-For.stride bounds_yield c.in_err-bounds-in-For.field-0.0 c.bounds.new.self.halt (outside g.P.Port.memory c.args.run.now) (outside g.P.Port.memory c.bounds.new.self) c.in-For.is head)
+    let head = head-at g.W.Watch.may c.site-site.result c.block.result x x (at.depth + 1) place place _ at.first.now.head (outside g.P.Port.memory c.args.run.now) (outside g.P.Port.memory c.bounds_by.new.self) _ c.site-site.ensures c.block.ensures refl refl (sym c.in-For.is) (simp to_z-of_z at c.in_err-bounds-in-For.ensures.evaluated) in
+    rw is (for-cut g.W.Watch.may x k (at.depth + 1) at.first.now at.rest.now place _ _ c.in-For.stride bounds_yield c.in_err-bounds-in-For.field-0.0 c.bounds_by.new.self.halt (outside g.P.Port.memory c.args.run.now) (outside g.P.Port.memory c.bounds_by.new.self) c.in-For.is head)
 
 pub run_loop-returns-in_ok-bounds-in-For-clause-ran : goal.run_loop-returns-in_ok-bounds-in-For-clause-ran
 run_loop-returns-in_ok-bounds-in-For-clause-ran g t c = λ k more.
@@ -102,7 +102,7 @@ run_loop-returns-in_ok-bounds-in-For-clause-ran g t c = λ k more.
     let x = g.P.Port.expects c.args.run.now.port.now in
     let place : Around = around_at at.depth c.args.places.now in
     let start : Moment _ = outside g.P.Port.memory c.args.run.now in
-    let here : Moment _ = outside g.P.Port.memory c.bounds.new.self in
+    let here : Moment _ = outside g.P.Port.memory c.bounds_by.new.self in
     let bounds = c.in_ok-bounds-in-For.bounds in
     let stride : FitsSigned w64 c.in-For.stride = search rules in
     let lower : FitsSigned w64 c.in_ok-bounds-in-For.bounds.lower = search rules in
@@ -119,7 +119,7 @@ run_turn-returns-in_err-run_part-clause-ran g t c = λ k more.
     let x = g.P.Port.expects c.args.run.now.port.now in
     let place : Around = around_at (at.depth + 1) c.args.places.now in
     let is : c.from_residual.result ≡ Err c.in_err-run_part.field-0.0 = search rules in
-    let before = rw c.as_slice.ensures at c.in_err-run_part.ensures.ran in
+    let before = rw c.as_slice-pre.ensures at c.in_err-run_part.ensures.ran in
     rw is (turn-ran-before g.W.Watch.may x (at.depth + 1) at.first.now (loops_trace x k (at.depth + 1 + 1) at.rest.now) place (outside g.P.Port.memory c.args.run.now) (outside g.P.Port.memory c.run_part.new.run) _ before (finish-err c.in_err-run_part.field-0.0 c.run_part.new.run.halt))
 
 pub run_turn-returns-in_err-run_loop-clause-ran : goal.run_turn-returns-in_err-run_loop-clause-ran
@@ -132,7 +132,7 @@ run_turn-returns-in_err-run_loop-clause-ran g t c = λ k more.
     let next : Moment _ = outside g.P.Port.memory c.run_loop.new.run in
     let is : c.from_residual-in_err-run_loop.result ≡ Err c.in_err-run_loop.field-0.0 = search rules in
     let loops : c.in-Some.first.now ∷ c.in-Some.rest.now ≡ at.rest.now = search rules in
-    let before = rw c.as_slice.ensures at c.in_ok-run_part.ensures.ran in
+    let before = rw c.as_slice-pre.ensures at c.in_ok-run_part.ensures.ran in
     let inside = inner-moved g.W.Watch.may _ x k (at.depth + 1 + 1) _ at.rest.now place here next _ c.in_ok-run_part.ensures.kept.expects_same loops (c.in_err-run_loop.ensures.ran k (omega (arith, more, c.in_ok-run_part.ensures.kept.fewer))) in
     rw is (turn-ran-inside g.W.Watch.may x (at.depth + 1) at.first.now (loops_trace x k (at.depth + 1 + 1) at.rest.now) place start here next _ before inside (finish-err c.in_err-run_loop.field-0.0 c.run_loop.new.run.halt))
 
@@ -146,7 +146,7 @@ run_turn-returns-clause-ran g t c = λ k more.
     let here : Moment _ = outside g.P.Port.memory c.run_part.new.run in
     let last : Moment _ = outside g.P.Port.memory c.match-split_first.run in
     let end : Moment _ = outside g.P.Port.memory c.run_part-2.new.run in
-    let before = rw c.as_slice.ensures at c.in_ok-run_part.ensures.ran in
+    let before = rw c.as_slice-pre.ensures at c.in_ok-run_part.ensures.ran in
     elim c.match-split_first.branch [
       | run_turn-in-Some+in_ok-run_loop w ↦
           let next : Moment _ = outside g.P.Port.memory w.run_loop.new.run in
@@ -154,12 +154,12 @@ run_turn-returns-clause-ran g t c = λ k more.
           let inside = inner-moved g.W.Watch.may _ x k (at.depth + 1 + 1) _ at.rest.now place here next Done c.in_ok-run_part.ensures.kept.expects_same loops (w.in_ok-run_loop.ensures.ran k (omega (arith, more, c.in_ok-run_part.ensures.kept.fewer))) in
           let expects = ap (λ r. g.P.Port.expects r.port.now) w.run-is ∙ w.in_ok-run_loop.ensures.kept.expects_same ∙ c.in_ok-run_part.ensures.kept.expects_same in
           let around = ap (around_at (at.depth + 1)) w.places-is ∙ w.in_ok-run_loop.ensures.places in
-          turn-ran-behind g.W.Watch.may _ x (at.depth + 1) at.first.now inner _ place c.as_slice-2.result.now start here last next end _ expects around c.as_slice-2.ensures (ap (outside g.P.Port.memory) w.run-is) before inside c.run_part-2.ensures.ran
+          turn-ran-behind g.W.Watch.may _ x (at.depth + 1) at.first.now inner _ place c.as_slice-post.result.now start here last next end _ expects around c.as_slice-post.ensures (ap (outside g.P.Port.memory) w.run-is) before inside c.run_part-2.ensures.ran
       | run_turn-in_default w ↦
           let none : length at.rest.now ≡ 0 = search rules in
           let expects = ap (λ r. g.P.Port.expects r.port.now) w.run-is ∙ c.in_ok-run_part.ensures.kept.expects_same in
           let around = ap (around_at (at.depth + 1)) w.places-is in
-          turn-ran-behind g.W.Watch.may _ x (at.depth + 1) at.first.now inner _ place c.as_slice-2.result.now start here last here end _ expects around c.as_slice-2.ensures (ap (outside g.P.Port.memory) w.run-is) before
+          turn-ran-behind g.W.Watch.may _ x (at.depth + 1) at.first.now inner _ place c.as_slice-post.result.now start here last here end _ expects around c.as_slice-post.ensures (ap (outside g.P.Port.memory) w.run-is) before
           (ran-no-loops g.W.Watch.may x k (at.depth + 1 + 1) at.rest.now place here none) c.run_part-2.ensures.ran
     ]
 
@@ -174,26 +174,26 @@ run_turn-returns-clause-stepped g t c = λ ok.
       | run_turn-in_default w ↦
           let same = ap (λ r. r.steps.left) w.run-is in
           let none : length at.rest.now ≡ 0 = search rules in
-          let body : 0 < length c.as_slice.result.now = subst (λ (n : ℕ). 0 < n) (sym (ap length c.as_slice.ensures)) (loop_keeps-body at.first.now at.rest.now none c.requires.level.keeps) in
-          let stepped = instance-steps g.W.Watch.may _ c.as_slice.result.now (outside g.P.Port.memory c.args.run.now) (outside g.P.Port.memory c.run_part.new.run) Done c.in_ok-run_part.ensures.ran body refl in
+          let body : 0 < length c.as_slice-pre.result.now = subst (λ (n : ℕ). 0 < n) (sym (ap length c.as_slice-pre.ensures)) (loop_keeps-body at.first.now at.rest.now none c.requires.level.keeps) in
+          let stepped = instance-steps g.W.Watch.may _ c.as_slice-pre.result.now (outside g.P.Port.memory c.args.run.now) (outside g.P.Port.memory c.run_part.new.run) Done c.in_ok-run_part.ensures.ran body refl in
           omega (arith, same, stepped, c.run_part-2.ensures.kept.fewer)
     ]
 
-pub run_while-returns-in_err-condition-clause-ran : goal.run_while-returns-in_err-condition-clause-ran
-run_while-returns-in_err-condition-clause-ran g t c = λ k more.
+pub run_while-returns-in_err-condition_by-clause-ran : goal.run_while-returns-in_err-condition_by-clause-ran
+run_while-returns-in_err-condition_by-clause-ran g t c = λ k more.
     let before = c.turns.invariant in
     let at = c.args.at.now in
     let x = g.P.Port.expects c.args.run.now.port.now in
     let place : Around = around_at at.depth c.args.places.now in
     let start : Moment _ = outside g.P.Port.memory c.args.run.now in
     let here : Moment _ = outside g.P.Port.memory c.turns.run in
-    let mid : Moment _ = outside g.P.Port.memory c.condition.new.self in
+    let mid : Moment _ = outside g.P.Port.memory c.condition_by.new.self in
     let number : to_z w64 c.turns.turn ≡ pos c.turns.turn = omega (arith, ints, before.few, c.requires.steps) in
     let inner : around_at (c.args.at.now.depth + 1) c.begin.new.self ≡ inward (around_at c.args.at.now.depth c.turns.places) c.turns.turn (pos c.turns.turn) = rw number at c.begin.ensures.inner in
     let around = inner ∙ inward-same _ place c.turns.turn _ (pos c.turns.turn) before.places refl in
-    let is : c.from_residual.result ≡ Err c.in_err-condition.field-0.0 = search rules in
-    let head = head-at g.W.Watch.may c.site-site.result c.block.result _ x (at.depth + 1) _ (inward place c.turns.turn (pos c.turns.turn)) _ at.first.now.head here mid _ c.site-site.ensures c.block.ensures before.kept.expects_same around (sym c.requires.head) c.in_err-condition.ensures.evaluated in
-    rw is (while-cut g.W.Watch.may (while_frames x (at.depth + 1) place) at.first.now.head (while_turns x k (at.depth + 1) at.first.now at.rest.now place) k c.turns.turn here mid Tested c.in_err-condition.field-0.0 c.condition.new.self.halt (Ran g.W.Watch.may (level_trace x at place k) start) (omega (arith, more, before.few)) head (before.leads k more))
+    let is : c.from_residual.result ≡ Err c.in_err-condition_by.field-0.0 = search rules in
+    let head = head-at g.W.Watch.may c.site-site.result c.block.result _ x (at.depth + 1) _ (inward place c.turns.turn (pos c.turns.turn)) _ at.first.now.head here mid _ c.site-site.ensures c.block.ensures before.kept.expects_same around (sym c.requires.head) c.in_err-condition_by.ensures.evaluated in
+    rw is (while-cut g.W.Watch.may (while_frames x (at.depth + 1) place) at.first.now.head (while_turns x k (at.depth + 1) at.first.now at.rest.now place) k c.turns.turn here mid Tested c.in_err-condition_by.field-0.0 c.condition_by.new.self.halt (Ran g.W.Watch.may (level_trace x at place k) start) (omega (arith, more, before.few)) head (before.leads k more))
 
 pub run_while-returns-then-not-branch-clause-ran : goal.run_while-returns-then-not-branch-clause-ran
 run_while-returns-then-not-branch-clause-ran g t c = λ k more.
@@ -203,12 +203,12 @@ run_while-returns-then-not-branch-clause-ran g t c = λ k more.
     let place : Around = around_at at.depth c.args.places.now in
     let start : Moment _ = outside g.P.Port.memory c.args.run.now in
     let here : Moment _ = outside g.P.Port.memory c.turns.run in
-    let mid : Moment _ = outside g.P.Port.memory c.condition.new.self in
+    let mid : Moment _ = outside g.P.Port.memory c.condition_by.new.self in
     let number : to_z w64 c.turns.turn ≡ pos c.turns.turn = omega (arith, ints, before.few, c.requires.steps) in
     let inner : around_at (c.args.at.now.depth + 1) c.begin.new.self ≡ inward (around_at c.args.at.now.depth c.turns.places) c.turns.turn (pos c.turns.turn) = rw number at c.begin.ensures.inner in
     let around = inner ∙ inward-same _ place c.turns.turn _ (pos c.turns.turn) before.places refl in
-    let holds : c.in_ok-condition.field-0 ≡ false = search rules in
-    let head = head-at g.W.Watch.may c.site-site.result c.block.result _ x (at.depth + 1) _ (inward place c.turns.turn (pos c.turns.turn)) _ at.first.now.head here mid _ c.site-site.ensures c.block.ensures before.kept.expects_same around (sym c.requires.head) (rw holds at c.in_ok-condition.ensures.evaluated) in
+    let holds : c.in_ok-condition_by.field-0 ≡ false = search rules in
+    let head = head-at g.W.Watch.may c.site-site.result c.block.result _ x (at.depth + 1) _ (inward place c.turns.turn (pos c.turns.turn)) _ at.first.now.head here mid _ c.site-site.ensures c.block.ensures before.kept.expects_same around (sym c.requires.head) (rw holds at c.in_ok-condition_by.ensures.evaluated) in
     while-end g.W.Watch.may (while_frames x (at.depth + 1) place) at.first.now.head (while_turns x k (at.depth + 1) at.first.now at.rest.now place) k c.turns.turn here mid (Ran g.W.Watch.may (level_trace x at place k) start) (omega (arith, more, before.few)) head (before.leads k more)
 
 pub run_while-returns-in_err-run_turn-clause-ran : goal.run_while-returns-in_err-run_turn-clause-ran
@@ -219,15 +219,15 @@ run_while-returns-in_err-run_turn-clause-ran g t c = λ k more.
     let place : Around = around_at at.depth c.args.places.now in
     let start : Moment _ = outside g.P.Port.memory c.args.run.now in
     let here : Moment _ = outside g.P.Port.memory c.turns.run in
-    let mid : Moment _ = outside g.P.Port.memory c.condition.new.self in
+    let mid : Moment _ = outside g.P.Port.memory c.condition_by.new.self in
     let next : Moment _ = outside g.P.Port.memory c.run_turn.new.run in
     let number : to_z w64 c.turns.turn ≡ pos c.turns.turn = omega (arith, ints, before.few, c.requires.steps) in
     let inner : around_at (c.args.at.now.depth + 1) c.begin.new.self ≡ inward (around_at c.args.at.now.depth c.turns.places) c.turns.turn (pos c.turns.turn) = rw number at c.begin.ensures.inner in
     let around = inner ∙ inward-same _ place c.turns.turn _ (pos c.turns.turn) before.places refl in
-    let holds : c.in_ok-condition.field-0 ≡ true = search rules in
-    let head = head-at g.W.Watch.may c.site-site.result c.block.result _ x (at.depth + 1) _ (inward place c.turns.turn (pos c.turns.turn)) _ at.first.now.head here mid _ c.site-site.ensures c.block.ensures before.kept.expects_same around (sym c.requires.head) (rw holds at c.in_ok-condition.ensures.evaluated) in
+    let holds : c.in_ok-condition_by.field-0 ≡ true = search rules in
+    let head = head-at g.W.Watch.may c.site-site.result c.block.result _ x (at.depth + 1) _ (inward place c.turns.turn (pos c.turns.turn)) _ at.first.now.head here mid _ c.site-site.ensures c.block.ensures before.kept.expects_same around (sym c.requires.head) (rw holds at c.in_ok-condition_by.ensures.evaluated) in
     let is : c.from_residual-in_err-run_turn.result ≡ Err c.in_err-run_turn.field-0.0 = search rules in
-    let last = turn-moved g.W.Watch.may _ x k (at.depth + 1) at.first.now at.rest.now _ _ mid next _ (c.in_ok-condition.ensures.kept.expects_same ∙ before.kept.expects_same) around (c.in_err-run_turn.ensures.ran k (omega (arith, more, before.few, c.in_ok-condition.ensures.kept.fewer))) in
+    let last = turn-moved g.W.Watch.may _ x k (at.depth + 1) at.first.now at.rest.now _ _ mid next _ (c.in_ok-condition_by.ensures.kept.expects_same ∙ before.kept.expects_same) around (c.in_err-run_turn.ensures.ran k (omega (arith, more, before.few, c.in_ok-condition_by.ensures.kept.fewer))) in
     rw is (while-out g.W.Watch.may (while_frames x (at.depth + 1) place) at.first.now.head (while_turns x k (at.depth + 1) at.first.now at.rest.now place) k c.turns.turn here mid next _ (Ran g.W.Watch.may (level_trace x at place k) start) (omega (arith, more, before.few)) head last (finish-err c.in_err-run_turn.field-0.0 c.run_turn.new.run.halt) (before.leads k more))
 
 pub run_while-returns-in_err-run_turn-clause-places : goal.run_while-returns-in_err-run_turn-clause-places
@@ -242,19 +242,19 @@ run_while-turns-preserved g t c =
     let place : Around = around_at at.depth c.args.places.now in
     let start : Moment _ = outside g.P.Port.memory c.args.run.now in
     let here : Moment _ = outside g.P.Port.memory c.turns.run in
-    let mid : Moment _ = outside g.P.Port.memory c.condition.new.self in
+    let mid : Moment _ = outside g.P.Port.memory c.condition_by.new.self in
     let next : Moment _ = outside g.P.Port.memory c.run_turn.new.run in
     let number : to_z w64 c.turns.turn ≡ pos c.turns.turn = omega (arith, ints, before.few, c.requires.steps) in
     let inner : around_at (c.args.at.now.depth + 1) c.begin.new.self ≡ inward (around_at c.args.at.now.depth c.turns.places) c.turns.turn (pos c.turns.turn) = rw number at c.begin.ensures.inner in
     let around = inner ∙ inward-same _ place c.turns.turn _ (pos c.turns.turn) before.places refl in
-    let holds : c.in_ok-condition.field-0 ≡ true = search rules in
-    let head = head-at g.W.Watch.may c.site-site.result c.block.result _ x (at.depth + 1) _ (inward place c.turns.turn (pos c.turns.turn)) _ at.first.now.head here mid _ c.site-site.ensures c.block.ensures before.kept.expects_same around (sym c.requires.head) (rw holds at c.in_ok-condition.ensures.evaluated) in
+    let holds : c.in_ok-condition_by.field-0 ≡ true = search rules in
+    let head = head-at g.W.Watch.may c.site-site.result c.block.result _ x (at.depth + 1) _ (inward place c.turns.turn (pos c.turns.turn)) _ at.first.now.head here mid _ c.site-site.ensures c.block.ensures before.kept.expects_same around (sym c.requires.head) (rw holds at c.in_ok-condition_by.ensures.evaluated) in
     let stepped = c.in_ok-run_turn.ensures.stepped refl in
     record {
-      few = omega (arith, stepped, before.few, c.in_ok-condition.ensures.kept.fewer);
-      kept = kept-trans _ _ _ _ _ before.kept (kept-trans _ _ _ _ _ c.in_ok-condition.ensures.kept c.in_ok-run_turn.ensures.kept);
+      few = omega (arith, stepped, before.few, c.in_ok-condition_by.ensures.kept.fewer);
+      kept = kept-trans _ _ _ _ _ before.kept (kept-trans _ _ _ _ _ c.in_ok-condition_by.ensures.kept c.in_ok-run_turn.ensures.kept);
       places = around-shallower at.depth c.run_turn.new.places c.begin.new.self c.in_ok-run_turn.ensures.places ∙ c.begin.ensures.outer ∙ before.places;
       leads = λ k more.
-          let first = turn-moved g.W.Watch.may _ x k (at.depth + 1) at.first.now at.rest.now _ _ mid next Done (c.in_ok-condition.ensures.kept.expects_same ∙ before.kept.expects_same) around (c.in_ok-run_turn.ensures.ran k (omega (arith, more, before.few, c.in_ok-condition.ensures.kept.fewer))) in
+          let first = turn-moved g.W.Watch.may _ x k (at.depth + 1) at.first.now at.rest.now _ _ mid next Done (c.in_ok-condition_by.ensures.kept.expects_same ∙ before.kept.expects_same) around (c.in_ok-run_turn.ensures.ran k (omega (arith, more, before.few, c.in_ok-condition_by.ensures.kept.fewer))) in
           while-next g.W.Watch.may (while_frames x (at.depth + 1) place) at.first.now.head (while_turns x k (at.depth + 1) at.first.now at.rest.now place) k c.turns.turn here mid next (Ran g.W.Watch.may (level_trace x at place k) start) (omega (arith, more, before.few)) head first (before.leads k more);
     }

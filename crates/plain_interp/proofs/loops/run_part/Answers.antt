@@ -11,4 +11,4 @@ pub returns-clause-ran : goal.returns-clause-ran
 returns-clause-ran g c =
     let x = g.P.Port.expects c.args.run.now.port.now in
     let place = around_at (c.args.at.now.depth + 1) c.args.places.now in
-    block-at g.W.Watch.may c.site.result c.block.result x x c.args.part (c.args.at.now.depth + 1) place place c.args.block.now c.args.block.now (outside g.P.Port.memory c.args.run.now) (outside g.P.Port.memory c.block-2.new.self) _ c.site.ensures c.block.ensures refl refl refl c.block-2.ensures.ran
+    block-at g.W.Watch.may c.site-site.result c.block.result x x c.args.part (c.args.at.now.depth + 1) place place c.args.block.now c.args.block.now (outside g.P.Port.memory c.args.run.now) (outside g.P.Port.memory c.block_by.new.self) _ c.site-site.ensures c.block.ensures refl refl refl c.block_by.ensures.ran

@@ -18,7 +18,7 @@ unreachable-requires g c =
 pub run_next-requires-clause-level : goal.run_next-requires-clause-level
 run_next-requires-clause-level g c =
     let loops : c.args.nest.now.loops ≡ c.in-Some.first.now ∷ c.in-Some.rest.now = search rules in
-    nest-level c.args.nest.now.loops _ refl loops c.requires.rules
+    nest-level c.args.nest.now.loops _ refl loops c.requires.rules tt
 
 pub run_next-requires-clause-position : goal.run_next-requires-clause-position
 run_next-requires-clause-position g c =

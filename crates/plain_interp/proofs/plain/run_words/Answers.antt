@@ -1,5 +1,5 @@
 use Rattle.std.proofs.Common.{rules, arith, sym, ap, ◌∙◌, ◌≡◌, ◌∷◌, refl, length}
-use Rattle.plain_interp.proofs.NestLaws.{loops_keep-some, nest-level, cut-loops, words-cut}
+use Rattle.plain_interp.proofs.NestLaws.{codes-of, loops_keep-some, nest-level, cut-loops, words-cut}
 use Rattle.plain_interp.proofs.plain.run_words.Goals as goal
 
 pub unreachable-requires : goal.unreachable-requires
@@ -10,7 +10,7 @@ unreachable-requires c =
 pub run_loop-end-requires-clause-level : goal.run_loop-end-requires-clause-level
 run_loop-end-requires-clause-level c =
     let loops : c.args.nest.now.loops ≡ c.in-Some.first.now ∷ c.in-Some.rest.now = search rules in
-    nest-level c.args.nest.now.loops (record { first = c.in-Some.first; rest = c.in-Some.rest; depth = 0 }) refl loops c.requires.rules
+    nest-level c.args.nest.now.loops (record { first = c.in-Some.first; rest = c.in-Some.rest; depth = 0; codes = c.args.codes }) refl loops c.requires.rules (codes-of _ _ _ _ loops c.requires.codes)
 
 pub returns-clause-ran : goal.returns-clause-ran
 returns-clause-ran c = λ k more.
