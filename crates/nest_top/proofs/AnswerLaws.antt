@@ -31,7 +31,7 @@ use Rattle.command_line.specs.Numbers.{IsNumberIn}
 use Rattle.nest_top.specs.declared.status.Status.{Status}
 use Rattle.nest_top.specs.declared.status.Status.TheVariants.{Ended, Trapped, Limited, Refused, Usage, SourceFault, SinkFault, NoMemory}
 use Rattle.nest_top.specs.Texts.{IsTextOf, text_taken}
-use Rattle.nest_top.specs.Answers.{AnswersFile, AnswersReading, AreInRange, Causes, Finishes, IsAnswer, IsListingOf, IsOutcomeOf, IsReportOf, IsSummaryOf, Prepared, finish_of, heading, journey_options, run_of_file, status_of, text_for, text_made}
+use Rattle.nest_top.specs.Answers.{AnswersFile, AnswersReading, AreInRange, Causes, Finishes, IsAnswer, IsListingOf, IsOutcomeOf, IsReportOf, IsSummaryOf, finish_of, heading, journey_options, run_of_file, status_of, text_for, text_made}
 use Rattle.nest_top.specs.Answers.IsAnswer.{usage, invoked}
 use Rattle.nest_text.specs.Files.{IsOfText, scalar_names}
 use Rattle.report.specs.Lines.{line_text, listing_text}
@@ -362,30 +362,20 @@ pub text-of : (left : Option (List ℕ)) → (text : List ℕ) × IsTextOf left 
 text-of None = ([], tt)
 text-of (Some bytes) = (text_taken bytes, refl)
 
--- arguments that are no invocation have their answer at once
-pub usage-prepared : (words : List (List ℕ)) (left : Option (List ℕ)) (bytes : List ℕ) (status : Status) → IsNoInvocation words → (bytes ≡ usage_line) × (status ≡ Usage) → Prepared words left bytes status
-usage-prepared words left bytes status none is =
-    let t = text-of left in
-    let at : IsAnswer words t.0 usage_line Usage = usage none in
-    record {
-      text = t.0;
-      taken = t.1;
-      answer = subst (λ (b : List ℕ). IsAnswer words t.0 b status) (sym is.0) (subst (λ (s : Status). IsAnswer words t.0 usage_line s) (sym is.1) at);
-    }
+-- arguments that are no invocation have their answer at once, whatever the text
+pub usage-answered : (words : List (List ℕ)) (text bytes : List ℕ) (status : Status) → IsNoInvocation words → (bytes ≡ usage_line) × (status ≡ Usage) → IsAnswer words text bytes status
+usage-answered words text bytes status none is =
+    let at : IsAnswer words text usage_line Usage = usage none in
+    subst (λ (b : List ℕ). IsAnswer words text b status) (sym is.0) (subst (λ (s : Status). IsAnswer words text usage_line s) (sym is.1) at)
 
 -- a result's value is also so
 pub ok-map : {A E : Type 0} (P Q : A → Type 0) → ((a : A) → P a → Q a) → (r : Result A E) → IfOk r P → IfOk r Q
 ok-map P Q go (Ok a) p = go a p
 ok-map P Q go (Err e) p = tt
 
--- an invocation has its answer to its text
-pub invocation-prepared : (words : List (List ℕ)) (left : Option (List ℕ)) (c : Invocation) (text bytes : List ℕ) (status : Status) → IsInvocation words c → IsTextOf left text → AnswersReading c.mode c.options (reading (text_for c.mode text)) bytes status → Prepared words left bytes status
-invocation-prepared words left c text bytes status is taken answers = record { text = text; taken = taken; answer = invoked c is bytes status answers }
-
--- so has one that makes its text itself
-pub generated-prepared : (words : List (List ℕ)) (left : Option (List ℕ)) (c : Invocation) (recipe : Recipe) (bytes : List ℕ) (status : Status) → IsInvocation words c → c.mode ≡ Gen recipe
-    → (file : File) → reading (text_made recipe) ≡ Ok file → IsSummaryOf recipe c.options file bytes status → Prepared words left bytes status
-generated-prepared words left c recipe bytes status is gen file reads summed =
-    let t = text-of left in
+-- so has an invocation that makes its text itself
+pub generated-answered : (words : List (List ℕ)) (c : Invocation) (recipe : Recipe) (text bytes : List ℕ) (status : Status) → IsInvocation words c → c.mode ≡ Gen recipe
+    → (file : File) → reading (text_made recipe) ≡ Ok file → IsSummaryOf recipe c.options file bytes status → IsAnswer words text bytes status
+generated-answered words c recipe text bytes status is gen file reads summed =
     let here : AnswersReading (Gen recipe) c.options (reading (text_made recipe)) bytes status = subst (λ (r : Result File TextFault). AnswersReading (Gen recipe) c.options r bytes status) (sym reads) summed in
-    record { text = t.0; taken = t.1; answer = invoked c is bytes status (subst (λ (m : Mode). AnswersReading m c.options (reading (text_for m t.0)) bytes status) (sym gen) here) }
+    invoked c is bytes status (subst (λ (m : Mode). AnswersReading m c.options (reading (text_for m text)) bytes status) (sym gen) here)

@@ -22,13 +22,12 @@ use Rattle.nest_top.specs.declared.status.Status.{Status}
 use Rattle.nest_top.specs.declared.status.Status.TheVariants.{Ended, Trapped, Limited, Refused, Usage, SourceFault, SinkFault, NoMemory}
 use Rattle.nest_top.specs.declared.unanswered.Unanswered.{Unanswered}
 use Rattle.nest_top.specs.declared.unanswered.Unanswered.TheVariants as unanswered
-use Rattle.nest_top.specs.Texts.{IsTextOf}
 use Rattle.nest_top.specs.Answers.{AsksForJourney, IsAnswer, has_journey, journey_options, text_for, unanswered_by}
 use Rattle.nest_top.specs.HandedOver.{AsksFor, FileHanded, Gains, GainsBegun, GainsJourney, HandsOver, HandsSome, IsHanded, IsHandedMade, ReadingHanded}
 use Rattle.nest_top.specs.HandedOver.HandsOver.{nothing, journey}
 use Rattle.nest_top.specs.HandedOver.HandsSome.{nothing as none_yet, begun, whole}
 use Rattle.nest_top.specs.Runs.{IsAnswerMade, IsPut, Over}
-use Rattle.nest_top.proofs.AnswerLaws.{answer-no_memory, answer-no-source-fault, text-of}
+use Rattle.nest_top.proofs.AnswerLaws.{answer-no_memory, answer-no-source-fault}
 
 unchanged : (old new : List Handed) → new ≡ old → new ≡ old ++ []
 unchanged old new same = same ∙ sym (append-nil old)
@@ -73,17 +72,17 @@ fault-handed options h read fault is r = subst (λ (x : Result File TextFault). 
 -- ---- of a call
 
 -- nothing was handed over
-pub nothing-handed : (words : List (List ℕ)) (left : Option (List ℕ)) (why : Unanswered) (h : List Handed) → IsHanded words left (Rattle.nest_top.specs.Answers.status_of_unanswered why) h h
-nothing-handed words left unanswered.SourceFault h = refl
-nothing-handed words left unanswered.NoMemory h = let t = text-of left in record { text = t.0; taken = t.1; list = []; gained = unchanged h h refl; is = none_yet }
+pub nothing-handed : (words : List (List ℕ)) (text : List ℕ) (why : Unanswered) (h : List Handed) → IsHanded words text (Rattle.nest_top.specs.Answers.status_of_unanswered why) h h
+nothing-handed words text unanswered.SourceFault h = refl
+nothing-handed words text unanswered.NoMemory h = record { list = []; gained = unchanged h h refl; is = none_yet }
 
-module _ (words : List (List ℕ)) (left : Option (List ℕ)) (old new : List Handed) where
+module _ (words : List (List ℕ)) (text : List ℕ) (old new : List Handed) where
   -- a result that says why
-  pub none-handed : (r : Result Answer Unanswered) (why : Unanswered) → IsErrAnd r (λ e. e ≡ why) → IsHanded words left (Rattle.nest_top.specs.Answers.status_of_unanswered why) old new → IsHandedMade words left old new r
+  pub none-handed : (r : Result Answer Unanswered) (why : Unanswered) → IsErrAnd r (λ e. e ≡ why) → IsHanded words text (Rattle.nest_top.specs.Answers.status_of_unanswered why) old new → IsHandedMade words text old new r
   none-handed (Ok answer) why bad handed = absurd bad
-  none-handed (Err e) why same handed = subst (λ (w : Unanswered). IsHandedMade words left old new (Err w)) (sym same) handed
+  none-handed (Err e) why same handed = subst (λ (w : Unanswered). IsHandedMade words text old new (Err w)) (sym same) handed
 
-  module _ (c : Invocation) (is : IsInvocation words c) (has : has_journey c.mode ≡ true) (text : List ℕ) (taken : IsTextOf left text) where
+  module _ (c : Invocation) (is : IsInvocation words c) (has : has_journey c.mode ≡ true) where
     -- a text with a fault has no journey
     no-journey : (fault : TextFault) → reading (text_for c.mode text) ≡ Err fault → (i : Invocation) (file : File) → AsksFor words text i file → ⊥
     no-journey fault reads i file asks =
@@ -91,23 +90,23 @@ module _ (words : List (List ℕ)) (left : Option (List ℕ)) (old new : List Ha
         let bad : Ok file ≡ Err fault = sym asks.reads ∙ (same ∙ reads) in
         cc
 
-    whole-handed : (file : File) → reading (text_for c.mode text) ≡ Ok file → GainsJourney c.options file old new → Gains left (HandsOver words) old new
+    whole-handed : (file : File) → reading (text_for c.mode text) ≡ Ok file → GainsJourney c.options file old new → Gains (HandsOver words text) old new
     whole-handed file reads g =
-        record { text = text; taken = taken; list = g.list; gained = g.gained; is = journey c file (record { is = is; has = has; reads = reads }) g.lines g.end g.list g.hands }
+        record { list = g.list; gained = g.gained; is = journey c file (record { is = is; has = has; reads = reads }) g.lines g.end g.list g.hands }
 
-    pub answer-handed : (r : Result File TextFault) (answer : Answer) → reading (text_for c.mode text) ≡ r → ReadingHanded c.options r old new (Ok answer) → Gains left (HandsOver words) old new
+    pub answer-handed : (r : Result File TextFault) (answer : Answer) → reading (text_for c.mode text) ≡ r → ReadingHanded c.options r old new (Ok answer) → Gains (HandsOver words text) old new
     answer-handed (Ok file) answer reads g = whole-handed file reads g
-    answer-handed (Err fault) answer reads same = record { text = text; taken = taken; list = []; gained = unchanged old new same; is = nothing (no-journey fault reads) }
+    answer-handed (Err fault) answer reads same = record { list = []; gained = unchanged old new same; is = nothing (no-journey fault reads) }
 
-    pub wanting-handed : (r : Result File TextFault) (e : AllocError) → reading (text_for c.mode text) ≡ r → ReadingHanded c.options r old new (Err e) → Gains left (HandsSome words) old new
-    wanting-handed (Ok file) e reads (inl same) = record { text = text; taken = taken; list = []; gained = unchanged old new same; is = none_yet }
-    wanting-handed (Ok file) e reads (inr (inl g)) = let all = whole-handed file reads g in record { text = all.text; taken = all.taken; list = all.list; gained = all.gained; is = whole all.list all.is }
+    pub wanting-handed : (r : Result File TextFault) (e : AllocError) → reading (text_for c.mode text) ≡ r → ReadingHanded c.options r old new (Err e) → Gains (HandsSome words text) old new
+    wanting-handed (Ok file) e reads (inl same) = record { list = []; gained = unchanged old new same; is = none_yet }
+    wanting-handed (Ok file) e reads (inr (inl g)) = let all = whole-handed file reads g in record { list = all.list; gained = all.gained; is = whole all.list all.is }
     wanting-handed (Ok file) e reads (inr (inr g)) =
-        record { text = text; taken = taken; list = g.list; gained = g.gained; is = begun c file (record { is = is; has = has; reads = reads }) g.list g.hands }
-    wanting-handed (Err fault) e reads same = record { text = text; taken = taken; list = []; gained = unchanged old new same; is = none_yet }
+        record { list = g.list; gained = g.gained; is = begun c file (record { is = is; has = has; reads = reads }) g.list g.hands }
+    wanting-handed (Err fault) e reads same = record { list = []; gained = unchanged old new same; is = none_yet }
 
   -- a status that is neither a fault of the source nor want of memory
-  pub status-handed : (status : Status) → (status ≡ SourceFault → ⊥) → (status ≡ NoMemory → ⊥) → Gains left (HandsOver words) old new → IsHanded words left status old new
+  pub status-handed : (status : Status) → (status ≡ SourceFault → ⊥) → (status ≡ NoMemory → ⊥) → Gains (HandsOver words text) old new → IsHanded words text status old new
   status-handed Ended off not g = g
   status-handed Trapped off not g = g
   status-handed Limited off not g = g
@@ -118,18 +117,17 @@ module _ (words : List (List ℕ)) (left : Option (List ℕ)) (old new : List Ha
   status-handed NoMemory off not g = absurd (not refl)
 
   -- an answer that was put
-  pub put-handed : {S K : Type 0} (source : Over S) (sink : Over K) (bytes : List ℕ) (answered status : Status) → IsAnswerMade words source bytes answered → IsPut sink bytes answered status → Gains left (HandsOver words) old new → IsHanded words left status old new
+  pub put-handed : {S K : Type 0} (source : Over S) (sink : Over K) (bytes : List ℕ) (answered status : Status) → IsAnswerMade words text source bytes answered → IsPut sink bytes answered status → Gains (HandsOver words text) old new → IsHanded words text status old new
   put-handed source sink bytes answered status made put g =
-      let a = made.answer in
       elim put.put [
-        | inl is ↦ status-handed status (λ e. answer-no-source-fault words a.text bytes answered a.answer (sym is.0 ∙ e)) (λ e. answer-no_memory words a.text bytes answered a.answer (sym is.0 ∙ e)) g
-        | inr is ↦ subst (λ (s : Status). IsHanded words left s old new) (sym is.0) g
+        | inl is ↦ status-handed status (λ e. answer-no-source-fault words text bytes answered made.answer (sym is.0 ∙ e)) (λ e. answer-no_memory words text bytes answered made.answer (sym is.0 ∙ e)) g
+        | inr is ↦ subst (λ (s : Status). IsHanded words text s old new) (sym is.0) g
       ]
 
 -- a call that runs no journey hands nothing over
-pub alone-handed : (words : List (List ℕ)) (left : Option (List ℕ)) (h : List Handed) (o : Option Status) (status : Status) → o ≡ Some status → (AsksForJourney words → (o ≡ None) ⊎ (o ≡ Some NoMemory))
-    → IsHanded words left status h h
-alone-handed words left h o status some asked = by status refl
+pub alone-handed : (words : List (List ℕ)) (text : List ℕ) (h : List Handed) (o : Option Status) (status : Status) → o ≡ Some status → (AsksForJourney words → (o ≡ None) ⊎ (o ≡ Some NoMemory))
+    → IsHanded words text status h h
+alone-handed words text h o status some asked = by status refl
   where
     never : (s : Status) → status ≡ s → (s ≡ NoMemory → ⊥) → AsksForJourney words → ⊥
     never s is not asks = elim (asked asks) [
@@ -140,12 +138,11 @@ alone-handed words left h o status some asked = by status refl
         only : (a b : Status) → Some a ≡ Some b → a ≡ b
         only a b e = cc
 
-    nothing-over : (s : Status) → status ≡ s → (s ≡ NoMemory → ⊥) → Gains left (HandsOver words) h h
+    nothing-over : (s : Status) → status ≡ s → (s ≡ NoMemory → ⊥) → Gains (HandsOver words text) h h
     nothing-over s is not =
-        let t = text-of left in
-        record { text = t.0; taken = t.1; list = []; gained = unchanged h h refl; is = nothing (λ i file asks. never s is not (record { invocation = i; is = asks.is; has = asks.has })) }
+        record { list = []; gained = unchanged h h refl; is = nothing (λ i file asks. never s is not (record { invocation = i; is = asks.is; has = asks.has })) }
 
-    by : (s : Status) → status ≡ s → IsHanded words left s h h
+    by : (s : Status) → status ≡ s → IsHanded words text s h h
     by Ended is = nothing-over Ended is (λ e. absurd (cc))
     by Trapped is = nothing-over Trapped is (λ e. absurd (cc))
     by Limited is = nothing-over Limited is (λ e. absurd (cc))
@@ -153,4 +150,4 @@ alone-handed words left h o status some asked = by status refl
     by Usage is = nothing-over Usage is (λ e. absurd (cc))
     by SinkFault is = nothing-over SinkFault is (λ e. absurd (cc))
     by SourceFault is = refl
-    by NoMemory is = nothing-handed words left unanswered.NoMemory h
+    by NoMemory is = nothing-handed words text unanswered.NoMemory h

@@ -4,3 +4,4 @@ pub mod AnswerLaws
 pub mod PlainLaws
 pub mod RunLaws
 pub mod HandedLaws
+pub mod CallLaws

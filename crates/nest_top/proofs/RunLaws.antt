@@ -16,10 +16,10 @@ use Rattle.nest_top.specs.declared.status.Status.{Status}
 use Rattle.nest_top.specs.declared.status.Status.TheVariants.{SinkFault, Usage}
 use Rattle.nest_top.specs.declared.unanswered.Unanswered.{Unanswered}
 use Rattle.nest_top.specs.declared.unanswered.Unanswered.TheVariants as unanswered
-use Rattle.nest_top.specs.Texts.{IsRead}
-use Rattle.nest_top.specs.Answers.{AsksForJourney, Prepared, TakesText, has_journey, status_of_unanswered, text_for, unanswered_by}
-use Rattle.nest_top.specs.Runs.{IsAnswerMade, IsMade, IsMadeAlone, IsNoneMade, IsPut, IsRun, Over}
-use Rattle.nest_top.proofs.AnswerLaws.{causes, answer-no_memory, answer-no-sink-fault, answer-no-source-fault, usage-prepared}
+use Rattle.nest_top.specs.Texts.{IsRead, IsTextOf}
+use Rattle.nest_top.specs.Answers.{AsksForJourney, IsAnswer, TakesText, has_journey, status_of_unanswered, text_for, unanswered_by}
+use Rattle.nest_top.specs.Runs.{IsAlone, IsAnswerMade, IsMade, IsMadeAlone, IsNoneMade, IsPut, IsRun, Over}
+use Rattle.nest_top.proofs.AnswerLaws.{causes, answer-no_memory, answer-no-sink-fault, answer-no-source-fault, text-of, usage-answered}
 
 -- ---- modes
 
@@ -50,22 +50,27 @@ text-taken (Gen recipe) text takes = absurd takes
 module _ {S : Type 0} (words : List (List ℕ)) (source : Over S) where
   -- arguments that are no invocation have the usage line
   pub usage-made : IsNoInvocation words → source.after ≡ source.before → (bytes : List ℕ) (status : Status) → (bytes ≡ usage_line) × (status ≡ Usage)
-      → IsAnswerMade words source bytes status × (AsksForJourney words → ⊥)
-  usage-made none same bytes status is = (
-    record {
-      answer = usage-prepared words (source.bytes source.before) bytes status none is;
-      unread = λ nothing. same;
-      read = λ invocation is'. absurd (none invocation is');
-      counts = subst (λ (x : S). source.faults source.before ≤ source.faults x) (sym same) (omega arith);
-    },
-    λ asks. none asks.invocation asks.is,
-  )
+      → ((text : List ℕ) × IsTextOf (source.bytes source.before) text × IsAnswerMade words text source bytes status) × (AsksForJourney words → ⊥)
+  usage-made none same bytes status is =
+      let t = text-of (source.bytes source.before) in (
+        (
+          t.0,
+          t.1,
+          record {
+            answer = usage-answered words t.0 bytes status none is;
+            unread = λ nothing. same;
+            read = λ invocation is'. absurd (none invocation is');
+            counts = subst (λ (x : S). source.faults source.before ≤ source.faults x) (sym same) (omega arith);
+          },
+        ),
+        λ asks. none asks.invocation asks.is,
+      )
 
   module _ (c : Invocation) (is : IsInvocation words c) (takes : TakesText c.mode) where
     -- an invocation that takes the text of the source has its answer
-    pub text-made : (bytes : List ℕ) (status : Status) → Prepared words (source.bytes source.before) bytes status → IsRead (source.bytes source.before) (source.bytes source.after) → source.faults source.before ≤ source.faults source.after
-        → IsAnswerMade words source bytes status
-    text-made bytes status prepared read counts = record { answer = prepared; unread = λ nothing. absurd (nothing c is takes); read = λ invocation is' takes'. read; counts = counts }
+    pub text-made : (text bytes : List ℕ) (status : Status) → IsAnswer words text bytes status → IsRead (source.bytes source.before) (source.bytes source.after) → source.faults source.before ≤ source.faults source.after
+        → IsAnswerMade words text source bytes status
+    text-made text bytes status answer read counts = record { answer = answer; unread = λ nothing. absurd (nothing c is takes); read = λ invocation is' takes'. read; counts = counts }
 
     -- the source failed, or memory was wanting
     pub unread-made : (e : ReadEnd) → (e ≡ end.Fault → Rose (source.faults source.before) (source.faults source.after)) → source.faults source.before ≤ source.faults source.after → IsNoneMade words source (unanswered_by e)
@@ -76,30 +81,39 @@ module _ {S : Type 0} (words : List (List ℕ)) (source : Over S) where
     wanting-made counts = record { fault = λ w. absurd (cc); unread = λ nothing. absurd (nothing c is takes); counts = counts }
 
   -- one that makes its text itself takes nothing
-  pub nothing-taken : (c : Invocation) (recipe : Recipe) → IsInvocation words c → c.mode ≡ Gen recipe → source.after ≡ source.before → (bytes : List ℕ) (status : Status) → Prepared words (source.bytes source.before) bytes status
-      → IsAnswerMade words source bytes status
-  nothing-taken c recipe is gen same bytes status prepared = record {
-    answer = prepared;
+  pub nothing-taken : (c : Invocation) (recipe : Recipe) → IsInvocation words c → c.mode ≡ Gen recipe → source.after ≡ source.before → (text bytes : List ℕ) (status : Status) → IsAnswer words text bytes status
+      → IsAnswerMade words text source bytes status
+  nothing-taken c recipe is gen same text bytes status answer = record {
+    answer = answer;
     unread = λ nothing. same;
     read = λ d is' takes. absurd (subst TakesText (ap (λ (x : Invocation). x.mode) (one_invocation words d c is' is) ∙ gen) takes);
     counts = subst (λ (x : S). source.faults source.before ≤ source.faults x) (sym same) (omega arith);
   }
 
+  -- memory was wanting before the source was read
+  pub wanting-first : source.after ≡ source.before → IsNoneMade words source unanswered.NoMemory
+  wanting-first same = record { fault = λ w. absurd (cc); unread = λ nothing. same; counts = subst (λ (x : S). source.faults source.before ≤ source.faults x) (sym same) (omega arith) }
+
   -- a result that is an answer
-  pub answer-made : (r : Result Answer Unanswered) (a : Answer) → r ≡ Ok a → IsMade words source r → IsAnswerMade words source a.bytes.items a.status
-  answer-made r a is made = subst (λ (x : Result Answer Unanswered). IsMade words source x) is made
+  pub answer-made : (text : List ℕ) (r : Result Answer Unanswered) (a : Answer) → r ≡ Ok a → IsMade words text source r → IsAnswerMade words text source a.bytes.items a.status
+  answer-made text r a is made = subst (λ (x : Result Answer Unanswered). IsMade words text source x) is made
 
-  pub reason-made : (r : Result Answer Unanswered) (why : Unanswered) → r ≡ Err why → IsMade words source r → IsNoneMade words source why
-  reason-made r why is made = subst (λ (x : Result Answer Unanswered). IsMade words source x) is made
+  pub reason-made : (text : List ℕ) (r : Result Answer Unanswered) (why : Unanswered) → r ≡ Err why → IsMade words text source r → IsNoneMade words source why
+  reason-made text r why is made = subst (λ (x : Result Answer Unanswered). IsMade words text source x) is made
 
-  pub answer-alone : (r : Result (Option Answer) Unanswered) (o : Option Answer) (a : Answer) → r ≡ Ok o → o ≡ Some a → IsMadeAlone words source r → IsAnswerMade words source a.bytes.items a.status × (AsksForJourney words → ⊥)
+  pub answer-alone : (r : Result (Option Answer) Unanswered) (o : Option Answer) (a : Answer) → r ≡ Ok o → o ≡ Some a → IsMadeAlone words source r
+      → ((text : List ℕ) × IsTextOf (source.bytes source.before) text × IsAnswerMade words text source a.bytes.items a.status) × (AsksForJourney words → ⊥)
   answer-alone r o a is some made =
       subst (λ (x : Option Answer). IsMadeAlone words source (Ok x)) some (subst (λ (x : Result (Option Answer) Unanswered). IsMadeAlone words source x) is made)
 
+  pub reason-alone : (r : Result (Option Answer) Unanswered) (why : Unanswered) → r ≡ Err why → IsMadeAlone words source r
+      → IsNoneMade words source why × (AsksForJourney words → (why ≡ unanswered.NoMemory) × (source.after ≡ source.before))
+  reason-alone r why is made = subst (λ (x : Result (Option Answer) Unanswered). IsMadeAlone words source x) is made
+
   -- a result that says why
-  pub none-made : (r : Result Answer Unanswered) (why : Unanswered) → IsErrAnd r (λ e. e ≡ why) → IsNoneMade words source why → IsMade words source r
-  none-made (Ok answer) why bad made = absurd bad
-  none-made (Err e) why same made = subst (λ (w : Unanswered). IsNoneMade words source w) (sym same) made
+  pub none-made : (text : List ℕ) (r : Result Answer Unanswered) (why : Unanswered) → IsErrAnd r (λ e. e ≡ why) → IsNoneMade words source why → IsMade words text source r
+  none-made text (Ok answer) why bad made = absurd bad
+  none-made text (Err e) why same made = subst (λ (w : Unanswered). IsNoneMade words source w) (sym same) made
 
   pub none-alone : (r : Result (Option Answer) Unanswered) (why : Unanswered) → IsErrAnd r (λ e. e ≡ why) → IsNoneMade words source why → (AsksForJourney words → ⊥) → IsMadeAlone words source r
   none-alone (Ok answer) why bad made off = absurd bad
@@ -107,16 +121,15 @@ module _ {S : Type 0} (words : List (List ℕ)) (source : Over S) where
 
 -- ---- calls
 
-module _ {S K : Type 0} (words : List (List ℕ)) (source : Over S) (sink : Over K) where
+module _ {S K : Type 0} (words : List (List ℕ)) (text : List ℕ) (source : Over S) (sink : Over K) where
   -- an answer that was put
-  answer-put : (bytes : List ℕ) (status : Status) → IsAnswerMade words source bytes status → Appends (sink.bytes sink.before) (sink.bytes sink.after) bytes → sink.faults sink.before ≤ sink.faults sink.after → IsRun words source sink status
+  answer-put : (bytes : List ℕ) (status : Status) → IsAnswerMade words text source bytes status → Appends (sink.bytes sink.before) (sink.bytes sink.after) bytes → sink.faults sink.before ≤ sink.faults sink.after → IsRun words text source sink status
   answer-put bytes status made put counts =
-      let a = made.answer in
       record {
-        answer = λ answered. (a.text, bytes, a.taken, a.answer, causes words a.text bytes status a.answer, put);
-        source_fault = λ e. absurd (answer-no-source-fault words a.text bytes status a.answer e);
-        sink_fault = λ e. absurd (answer-no-sink-fault words a.text bytes status a.answer e);
-        no_memory = λ e. absurd (answer-no_memory words a.text bytes status a.answer e);
+        answer = λ answered. (bytes, made.answer, causes words text bytes status made.answer, put);
+        source_fault = λ e. absurd (answer-no-source-fault words text bytes status made.answer e);
+        sink_fault = λ e. absurd (answer-no-sink-fault words text bytes status made.answer e);
+        no_memory = λ e. absurd (answer-no_memory words text bytes status made.answer e);
         unread = made.unread;
         read = λ invocation is takes reads. made.read invocation is takes;
         source_counts = made.counts;
@@ -124,13 +137,12 @@ module _ {S K : Type 0} (words : List (List ℕ)) (source : Over S) (sink : Over
       }
 
   -- an answer of which a front was put
-  front-put : (bytes : List ℕ) (status : Status) → IsAnswerMade words source bytes status → Rose (sink.faults sink.before) (sink.faults sink.after) → AppendsFront (sink.bytes sink.before) (sink.bytes sink.after) bytes → sink.faults sink.before ≤ sink.faults sink.after → IsRun words source sink SinkFault
+  front-put : (bytes : List ℕ) (status : Status) → IsAnswerMade words text source bytes status → Rose (sink.faults sink.before) (sink.faults sink.after) → AppendsFront (sink.bytes sink.before) (sink.bytes sink.after) bytes → sink.faults sink.before ≤ sink.faults sink.after → IsRun words text source sink SinkFault
   front-put bytes status made rose front counts =
-      let a = made.answer in
       record {
         answer = λ answered. absurd answered;
         source_fault = λ e. absurd (cc);
-        sink_fault = λ e. (rose, (a.text, bytes, status, a.taken, a.answer, front));
+        sink_fault = λ e. (rose, (bytes, status, made.answer, front));
         no_memory = λ e. absurd (cc);
         unread = made.unread;
         read = λ invocation is takes reads. made.read invocation is takes;
@@ -138,21 +150,21 @@ module _ {S K : Type 0} (words : List (List ℕ)) (source : Over S) (sink : Over
         sink_counts = counts;
       }
 
-  pub run-put : (bytes : List ℕ) (answered status : Status) → IsAnswerMade words source bytes answered → IsPut sink bytes answered status → IsRun words source sink status
+  pub run-put : (bytes : List ℕ) (answered status : Status) → IsAnswerMade words text source bytes answered → IsPut sink bytes answered status → IsRun words text source sink status
   run-put bytes answered status made put = elim put.put [
-    | inl whole ↦ subst (λ (s : Status). IsRun words source sink s) (sym whole.0) (answer-put bytes answered made whole.1 put.counts)
-    | inr front ↦ subst (λ (s : Status). IsRun words source sink s) (sym front.0) (front-put bytes answered made front.1 front.2 put.counts)
+    | inl whole ↦ subst (λ (s : Status). IsRun words text source sink s) (sym whole.0) (answer-put bytes answered made whole.1 put.counts)
+    | inr front ↦ subst (λ (s : Status). IsRun words text source sink s) (sym front.0) (front-put bytes answered made front.1 front.2 put.counts)
   ]
 
   -- no answer
-  pub run-none : (why : Unanswered) → IsNoneMade words source why → sink.after ≡ sink.before → IsRun words source sink (status_of_unanswered why)
+  pub run-none : (why : Unanswered) → IsNoneMade words source why → sink.after ≡ sink.before → IsRun words text source sink (status_of_unanswered why)
   run-none why made same =
       by why refl
     where
       counts : sink.faults sink.before ≤ sink.faults sink.after
       counts = subst (λ (k : K). sink.faults sink.before ≤ sink.faults k) (sym same) (omega arith)
 
-      by : (w : Unanswered) → why ≡ w → IsRun words source sink (status_of_unanswered w)
+      by : (w : Unanswered) → why ≡ w → IsRun words text source sink (status_of_unanswered w)
       by unanswered.SourceFault is = record {
         answer = λ answered. absurd answered;
         source_fault = λ e. (made.fault is, same);
@@ -172,4 +184,16 @@ module _ {S K : Type 0} (words : List (List ℕ)) (source : Over S) (sink : Over
         read = λ invocation is takes reads. absurd reads;
         source_counts = made.counts;
         sink_counts = counts;
+      }
+
+-- a call without a journey to which no answer was made
+module _ {S K : Type 0} (words : List (List ℕ)) (source : Over S) (sink : Over K) where
+  pub alone-none : (why : Unanswered) (status : Status) → status ≡ status_of_unanswered why
+      → IsNoneMade words source why × (AsksForJourney words → (why ≡ unanswered.NoMemory) × (source.after ≡ source.before)) → sink.after ≡ sink.before → IsAlone words source sink (Some status)
+  alone-none why status is made same =
+      let t = text-of (source.bytes source.before) in
+      record {
+        run = (t.0, t.1, subst (λ (s : Status). IsRun words t.0 source sink s) (sym is) (run-none words t.0 source sink why made.0 same));
+        none = λ e. absurd (cc);
+        journey = λ asks. let wanting = made.1 asks in (inr (ap Some (is ∙ ap status_of_unanswered wanting.0)), wanting.1, same);
       }

@@ -41,7 +41,6 @@ use Rattle.nest_io.specs.declared.refusals.ReadEnd.{ReadEnd}
 use Rattle.nest_io.specs.declared.refusals.ReadEnd.TheVariants as end
 use Rattle.nest_top.specs.declared.unanswered.Unanswered.{Unanswered}
 use Rattle.nest_top.specs.declared.unanswered.Unanswered.TheVariants as unanswered
-use Rattle.nest_top.specs.Texts.{IsTextOf}
 
 -- the status of a run that ended so
 abbrev pub status_of : Ending → Status
@@ -216,9 +215,3 @@ unanswered_by end.NoMemory = unanswered.NoMemory
 abbrev pub status_of_unanswered : Unanswered → Status
 status_of_unanswered unanswered.SourceFault = SourceFault
 status_of_unanswered unanswered.NoMemory = NoMemory
-
--- an answer that was made, and not yet written
-pub record Prepared (words : List (List ℕ)) (left : Option (List ℕ)) (bytes : List ℕ) (status : Status) : Type 0 where
-  pub text : List ℕ
-  pub taken : IsTextOf left text
-  pub answer : IsAnswer words text bytes status

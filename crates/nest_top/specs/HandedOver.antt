@@ -15,7 +15,6 @@ use Rattle.nest_top.specs.declared.answer.Answer.{Answer}
 use Rattle.nest_top.specs.declared.status.Status.{Status}
 use Rattle.nest_top.specs.declared.status.Status.TheVariants.{SourceFault, NoMemory}
 use Rattle.nest_top.specs.declared.unanswered.Unanswered.{Unanswered}
-use Rattle.nest_top.specs.Texts.{IsTextOf}
 use Rattle.nest_top.specs.Answers.{has_journey, journey_options, status_of_unanswered, text_for}
 
 -- ---- of a file
@@ -69,23 +68,20 @@ pub data HandsSome (words : List (List ℕ)) (text : List ℕ) : List Handed →
       → BegunJourneyHands (journey_options invocation.options) file list → HandsSome words text list
   whole : (list : List Handed) → HandsOver words text list → HandsSome words text list
 
--- a crew's list grew by a list, of a text of the source, that is so
-pub record Gains (left : Option (List ℕ)) (Is : List ℕ → List Handed → Type 0) (old new : List Handed) : Type 0 where
-  pub text : List ℕ
-  pub taken : IsTextOf left text
+-- a crew's list grew by a list that is so
+pub record Gains (Is : List Handed → Type 0) (old new : List Handed) : Type 0 where
   pub list : List Handed
   pub gained : new ≡ old ++ list
-  pub is : Is text list
+  pub is : Is list
 
--- `IsHanded words left status old new`: a call with these arguments that went so did this to its crew's list, where the
--- source had these bytes left. After a fault of the source it is as it was; after one of the sink it grew as after an
--- answer.
-abbrev pub IsHanded : List (List ℕ) → Option (List ℕ) → Status → List Handed → List Handed → Type 0
-IsHanded words left SourceFault old new = new ≡ old
-IsHanded words left NoMemory old new = Gains left (HandsSome words) old new
-IsHanded words left status old new = Gains left (HandsOver words) old new
+-- `IsHanded words text status old new`: a call with these arguments and this text that went so did this to its crew's
+-- list. After a fault of the source it is as it was; after one of the sink it grew as after an answer.
+abbrev pub IsHanded : List (List ℕ) → List ℕ → Status → List Handed → List Handed → Type 0
+IsHanded words text SourceFault old new = new ≡ old
+IsHanded words text NoMemory old new = Gains (HandsSome words text) old new
+IsHanded words text status old new = Gains (HandsOver words text) old new
 
 -- the same where an answer was made, or none was
-abbrev pub IsHandedMade : List (List ℕ) → Option (List ℕ) → List Handed → List Handed → Result Answer Unanswered → Type 0
-IsHandedMade words left old new (Ok answer) = Gains left (HandsOver words) old new
-IsHandedMade words left old new (Err why) = IsHanded words left (status_of_unanswered why) old new
+abbrev pub IsHandedMade : List (List ℕ) → List ℕ → List Handed → List Handed → Result Answer Unanswered → Type 0
+IsHandedMade words text old new (Ok answer) = Gains (HandsOver words text) old new
+IsHandedMade words text old new (Err why) = IsHanded words text (status_of_unanswered why) old new

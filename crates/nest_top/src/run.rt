@@ -2,9 +2,8 @@
 
 ghost use Rattle.std.specs.Prelude.{◌≡◌, map, string_bytes};
 ghost use Rattle.nest_top.specs.Answers.{AsksForJourney};
+ghost use Rattle.nest_top.specs.Calls.{IsCall, IsCallMade};
 ghost use Rattle.nest_top.specs.Exits.{exit_code};
-ghost use Rattle.nest_top.specs.HandedOver.{IsHanded, IsHandedMade};
-ghost use Rattle.nest_top.specs.Runs.{IsMade, IsRun};
 
 use crate::alone::nest_alone;
 use crate::answer::Answer;
@@ -26,10 +25,10 @@ pub fn nest_exit<S: Source, K: Sink, C: Crew>(
     sink: &mut K,
     crew: &mut C,
 ) -> u8
-    ensures { (status : Status) × (result ≡ exit_code status) × IsRun (map string_bytes words.now)
+    ensures { (status : Status) × (result ≡ exit_code status) × IsCall (map string_bytes words.now)
         (record { bytes = S.left; faults = S.faults; before = source.old; after = source.new })
-        (record { bytes = K.held; faults = K.faults; before = sink.old; after = sink.new }) status
-        × IsHanded (map string_bytes words.now) (S.left source.old) status (C.handed crew.old) (C.handed crew.new) }
+        (record { bytes = K.held; faults = K.faults; before = sink.old; after = sink.new })
+        (C.handed crew.old) (C.handed crew.new) status }
 {
     nest_run(alloc, words, source, sink, crew).exit()
 }
@@ -50,10 +49,10 @@ pub fn nest_run<S: Source, K: Sink, C: Crew>(
     sink: &mut K,
     crew: &mut C,
 ) -> Status
-    ensures run { IsRun (map string_bytes words.now)
+    ensures { IsCall (map string_bytes words.now)
         (record { bytes = S.left; faults = S.faults; before = source.old; after = source.new })
-        (record { bytes = K.held; faults = K.faults; before = sink.old; after = sink.new }) result }
-    ensures handed { IsHanded (map string_bytes words.now) (S.left source.old) result (C.handed crew.old) (C.handed crew.new) }
+        (record { bytes = K.held; faults = K.faults; before = sink.old; after = sink.new })
+        (C.handed crew.old) (C.handed crew.new) result }
 {
     if let Some(status) = nest_alone(alloc, words, source, sink) {
         return status;
@@ -72,9 +71,9 @@ fn prepare<S: Source, C: Crew>(
     crew: &mut C,
 ) -> Result<Answer, Unanswered>
     requires { AsksForJourney (map string_bytes words.now) }
-    ensures made { IsMade (map string_bytes words.now)
-        (record { bytes = S.left; faults = S.faults; before = source.old; after = source.new }) result }
-    ensures handed { IsHandedMade (map string_bytes words.now) (S.left source.old) (C.handed crew.old) (C.handed crew.new) result }
+    ensures { IsCallMade (map string_bytes words.now)
+        (record { bytes = S.left; faults = S.faults; before = source.old; after = source.new })
+        (C.handed crew.old) (C.handed crew.new) result }
 {
     let Some(invocation) = invocation_of(alloc, words)? else {
         unreachable!()

@@ -8,10 +8,10 @@ use Rattle.command_line.specs.Invocations.{Finds, IsInvocation, IsNoInvocation}
 use Rattle.nest_top.specs.declared.unanswered.Unanswered.TheVariants.{NoMemory}
 use Rattle.nest_top.specs.Texts.{IsRead, IsTextOf}
 use Rattle.nest_top.specs.Answers.{AnswersReading, TakesText, has_journey, text_for, text_made, unanswered_by}
-use Rattle.nest_top.proofs.AnswerLaws.{generated-prepared, invocation-prepared}
-use Rattle.nest_top.proofs.RunLaws.{nothing-taken, none-made, text-made, unread-made, wanting-made}
+use Rattle.nest_top.specs.Answers.IsAnswer.{invoked}
+use Rattle.nest_top.proofs.AnswerLaws.{generated-answered, text-of}
+use Rattle.nest_top.proofs.RunLaws.{nothing-taken, none-made, text-made, unread-made, wanting-first, wanting-made}
 use Rattle.nest_top.specs.HandedOver.{ReadingHanded}
-use Rattle.nest_top.proofs.AnswerLaws.{text-of}
 use Rattle.nest_top.proofs.HandedLaws.{answer-handed, none-handed, nothing-handed, wanting-handed}
 use Rattle.nest_top.proofs.run.prepare.Goals as goal
 
@@ -21,126 +21,122 @@ unreachable-requires g c =
     let none : IsNoInvocation words = subst (λ (o : Option Invocation). Finds o (IsInvocation words)) c.in_default.is c.in_ok-invocation.ensures in
     none c.requires.invocation c.requires.is
 
-pub returns-in_err-taken-in-Run-clause-made : goal.returns-in_err-taken-in-Run-clause-made
-returns-in_err-taken-in-Run-clause-made g c =
+pub returns-in_err-invocation : goal.returns-in_err-invocation
+returns-in_err-invocation g c =
+    let words = map string_bytes c.args.words.now in
+    let t = text-of (g.S.Source.left c.args.source.now) in
+    let why = c.from_residual.ensures.1 in
+    let h = g.C.Crew.handed c.args.crew.now in
+    record {
+      text = t.0;
+      taken = t.1;
+      made = none-made words _ t.0 c.from_residual.result NoMemory why (wanting-first words _ refl);
+      handed = none-handed words t.0 h h c.from_residual.result NoMemory why (nothing-handed words t.0 NoMemory h);
+    }
+
+pub returns-in_err-taken-in-Run : goal.returns-in_err-taken-in-Run
+returns-in_err-taken-in-Run g c =
     let words = map string_bytes c.args.words.now in
     let i = c.in-Some.invocation in
     let is : IsInvocation words i = subst (λ (o : Option Invocation). Finds o (IsInvocation words)) c.in-Some.is c.in_ok-invocation.ensures in
     let takes : TakesText i.mode = subst TakesText (sym c.in-Run.is) tt in
-    none-made words _ c.from_residual-in_err-taken-in-Run.result _ c.from_residual-in_err-taken-in-Run.ensures.1
-    (unread-made words _ i is takes c.in_err-taken-in-Run.field-0.0 (search rules) c.read_all.ensures.never_falls)
+    let t = text-of (g.S.Source.left c.args.source.now) in
+    let why = c.from_residual-in_err-taken-in-Run.ensures.1 in
+    let e = c.in_err-taken-in-Run.field-0.0 in
+    let h = g.C.Crew.handed c.args.crew.now in
+    record {
+      text = t.0;
+      taken = t.1;
+      made = none-made words _ t.0 c.from_residual-in_err-taken-in-Run.result _ why (unread-made words _ i is takes e (search rules) c.read_all.ensures.never_falls);
+      handed = none-handed words t.0 h h c.from_residual-in_err-taken-in-Run.result _ why (nothing-handed words t.0 (unanswered_by e) h);
+    }
 
-pub returns-in_err-speculative-in-Run-clause-made : goal.returns-in_err-speculative-in-Run-clause-made
-returns-in_err-speculative-in-Run-clause-made g c =
+pub returns-in_err-speculative-in-Run : goal.returns-in_err-speculative-in-Run
+returns-in_err-speculative-in-Run g c =
     let words = map string_bytes c.args.words.now in
-    let i = c.in-Some.invocation in
-    let is : IsInvocation words i = subst (λ (o : Option Invocation). Finds o (IsInvocation words)) c.in-Some.is c.in_ok-invocation.ensures in
-    let takes : TakesText i.mode = subst TakesText (sym c.in-Run.is) tt in
-    none-made words _ c.from_residual-in_err-speculative-in-Run.result NoMemory c.from_residual-in_err-speculative-in-Run.ensures.1
-    (wanting-made words _ i is takes c.read_all.ensures.never_falls)
-
-pub returns-in_ok-speculative-in-Run-clause-made : goal.returns-in_ok-speculative-in-Run-clause-made
-returns-in_ok-speculative-in-Run-clause-made g c =
-    let words = map string_bytes c.args.words.now in
-    let i = c.in-Some.invocation in
-    let text = c.as_slice-text.result.now in
-    let bytes = c.in_ok-speculative-in-Run.field-0.bytes.items in
-    let status = c.in_ok-speculative-in-Run.field-0.status in
-    let is : IsInvocation words i = subst (λ (o : Option Invocation). Finds o (IsInvocation words)) c.in-Some.is c.in_ok-invocation.ensures in
-    let takes : TakesText i.mode = subst TakesText (sym c.in-Run.is) tt in
-    let taken : IsTextOf (g.S.Source.left c.args.source.now) text = search rules in
-    let gone : IsRead (g.S.Source.left c.args.source.now) (g.S.Source.left c.read_all.new.source) = search rules in
-    let answers : AnswersReading i.mode i.options (reading (text_for i.mode text)) bytes status =
-    subst (λ (m : Mode). AnswersReading m i.options (reading (text_for m text)) bytes status) (sym c.in-Run.is) c.in_ok-speculative-in-Run.ensures.answer in
-    text-made words _ i is takes bytes status (invocation-prepared words (g.S.Source.left c.args.source.now) i text bytes status is taken answers) gone c.read_all.ensures.never_falls
-
-pub returns-in_ok-generated-in-Gen-clause-made : goal.returns-in_ok-generated-in-Gen-clause-made
-returns-in_ok-generated-in-Gen-clause-made g c =
-    let words = map string_bytes c.args.words.now in
-    let i = c.in-Some.invocation in
-    let bytes = c.in_ok-generated-in-Gen.field-0.bytes.items in
-    let status = c.in_ok-generated-in-Gen.field-0.status in
-    let is : IsInvocation words i = subst (λ (o : Option Invocation). Finds o (IsInvocation words)) c.in-Some.is c.in_ok-invocation.ensures in
-    let made = c.in_ok-generated-in-Gen.ensures.answer in
-    nothing-taken words _ i c.in-Gen.recipe is c.in-Gen.is refl bytes status
-    (generated-prepared words (g.S.Source.left c.args.source.now) i c.in-Gen.recipe bytes status is c.in-Gen.is made.0 made.1 made.2)
-
-pub returns-in_err-invocation-clause-handed : goal.returns-in_err-invocation-clause-handed
-returns-in_err-invocation-clause-handed g c =
-    let words = map string_bytes c.args.words.now in
-    let left = g.S.Source.left c.args.source.now in
-    none-handed words left _ _ c.from_residual.result NoMemory c.from_residual.ensures.1 (nothing-handed words left NoMemory (g.C.Crew.handed c.args.crew.now))
-
-pub returns-in_err-taken-in-Run-clause-handed : goal.returns-in_err-taken-in-Run-clause-handed
-returns-in_err-taken-in-Run-clause-handed g c =
-    let words = map string_bytes c.args.words.now in
-    let left = g.S.Source.left c.args.source.now in
-    none-handed words left _ _ c.from_residual-in_err-taken-in-Run.result _ c.from_residual-in_err-taken-in-Run.ensures.1 (nothing-handed words left (unanswered_by c.in_err-taken-in-Run.field-0.0) (g.C.Crew.handed c.args.crew.now))
-
-pub returns-in_err-speculative-in-Run-clause-handed : goal.returns-in_err-speculative-in-Run-clause-handed
-returns-in_err-speculative-in-Run-clause-handed g c =
-    let words = map string_bytes c.args.words.now in
-    let left = g.S.Source.left c.args.source.now in
     let i = c.in-Some.invocation in
     let text = c.as_slice-text.result.now in
     let e = c.in_err-speculative-in-Run.field-0.0 in
     let old = g.C.Crew.handed c.args.crew.now in
     let new = g.C.Crew.handed c.speculative.new.crew in
     let is : IsInvocation words i = subst (λ (o : Option Invocation). Finds o (IsInvocation words)) c.in-Some.is c.in_ok-invocation.ensures in
+    let takes : TakesText i.mode = subst TakesText (sym c.in-Run.is) tt in
     let has : has_journey i.mode ≡ true = ap has_journey c.in-Run.is in
-    let taken : IsTextOf left text = search rules in
+    let why = c.from_residual-in_err-speculative-in-Run.ensures.1 in
+    let taken : IsTextOf (g.S.Source.left c.args.source.now) text = search rules in
     let handed : ReadingHanded i.options (reading (text_for i.mode text)) old new (Err e) =
     subst (λ (m : Mode). ReadingHanded i.options (reading (text_for m text)) old new (Err e)) (sym c.in-Run.is)
     (subst (λ (x : Result Answer AllocError). ReadingHanded i.options (reading text) old new x) c.in_err-speculative-in-Run.was c.speculative.ensures.handed) in
-    none-handed words left old new c.from_residual-in_err-speculative-in-Run.result NoMemory c.from_residual-in_err-speculative-in-Run.ensures.1
-    (wanting-handed words left old new i is has text taken (reading (text_for i.mode text)) e refl handed)
+    record {
+      text = text;
+      taken = taken;
+      made = none-made words _ text c.from_residual-in_err-speculative-in-Run.result NoMemory why (wanting-made words _ i is takes c.read_all.ensures.never_falls);
+      handed = none-handed words text old new c.from_residual-in_err-speculative-in-Run.result NoMemory why (wanting-handed words text old new i is has (reading (text_for i.mode text)) e refl handed);
+    }
 
-pub returns-in_ok-speculative-in-Run-clause-handed : goal.returns-in_ok-speculative-in-Run-clause-handed
-returns-in_ok-speculative-in-Run-clause-handed g c =
+pub returns-in_ok-speculative-in-Run : goal.returns-in_ok-speculative-in-Run
+returns-in_ok-speculative-in-Run g c =
     let words = map string_bytes c.args.words.now in
-    let left = g.S.Source.left c.args.source.now in
     let i = c.in-Some.invocation in
     let text = c.as_slice-text.result.now in
     let a = c.in_ok-speculative-in-Run.field-0 in
     let old = g.C.Crew.handed c.args.crew.now in
     let new = g.C.Crew.handed c.speculative.new.crew in
     let is : IsInvocation words i = subst (λ (o : Option Invocation). Finds o (IsInvocation words)) c.in-Some.is c.in_ok-invocation.ensures in
+    let takes : TakesText i.mode = subst TakesText (sym c.in-Run.is) tt in
     let has : has_journey i.mode ≡ true = ap has_journey c.in-Run.is in
-    let taken : IsTextOf left text = search rules in
+    let taken : IsTextOf (g.S.Source.left c.args.source.now) text = search rules in
+    let gone : IsRead (g.S.Source.left c.args.source.now) (g.S.Source.left c.read_all.new.source) = search rules in
+    let answers : AnswersReading i.mode i.options (reading (text_for i.mode text)) a.bytes.items a.status =
+    subst (λ (m : Mode). AnswersReading m i.options (reading (text_for m text)) a.bytes.items a.status) (sym c.in-Run.is) c.in_ok-speculative-in-Run.ensures.answer in
     let handed : ReadingHanded i.options (reading (text_for i.mode text)) old new (Ok a) =
     subst (λ (m : Mode). ReadingHanded i.options (reading (text_for m text)) old new (Ok a)) (sym c.in-Run.is)
     (subst (λ (x : Result Answer AllocError). ReadingHanded i.options (reading text) old new x) c.in_ok-speculative-in-Run.was c.speculative.ensures.handed) in
-    answer-handed words left old new i is has text taken (reading (text_for i.mode text)) a refl handed
+    record {
+      text = text;
+      taken = taken;
+      made = text-made words _ i is takes text a.bytes.items a.status (invoked i is a.bytes.items a.status answers) gone c.read_all.ensures.never_falls;
+      handed = answer-handed words text old new i is has (reading (text_for i.mode text)) a refl handed;
+    }
 
-pub returns-in_err-generated-in-Gen-clause-handed : goal.returns-in_err-generated-in-Gen-clause-handed
-returns-in_err-generated-in-Gen-clause-handed g c =
+pub returns-in_err-generated-in-Gen : goal.returns-in_err-generated-in-Gen
+returns-in_err-generated-in-Gen g c =
     let words = map string_bytes c.args.words.now in
-    let left = g.S.Source.left c.args.source.now in
     let i = c.in-Some.invocation in
-    let t = text-of left in
+    let t = text-of (g.S.Source.left c.args.source.now) in
     let e = c.in_err-generated-in-Gen.field-0.0 in
     let old = g.C.Crew.handed c.args.crew.now in
     let new = g.C.Crew.handed c.generated.new.crew in
     let is : IsInvocation words i = subst (λ (o : Option Invocation). Finds o (IsInvocation words)) c.in-Some.is c.in_ok-invocation.ensures in
     let has : has_journey i.mode ≡ true = ap has_journey c.in-Gen.is in
+    let why = c.from_residual-in_err-generated-in-Gen.ensures.1 in
     let handed : ReadingHanded i.options (reading (text_for i.mode t.0)) old new (Err e) =
     subst (λ (m : Mode). ReadingHanded i.options (reading (text_for m t.0)) old new (Err e)) (sym c.in-Gen.is)
     (subst (λ (x : Result Answer AllocError). ReadingHanded i.options (reading (text_made c.in-Gen.recipe)) old new x) c.in_err-generated-in-Gen.was c.generated.ensures.handed) in
-    none-handed words left old new c.from_residual-in_err-generated-in-Gen.result NoMemory c.from_residual-in_err-generated-in-Gen.ensures.1
-    (wanting-handed words left old new i is has t.0 t.1 (reading (text_for i.mode t.0)) e refl handed)
+    record {
+      text = t.0;
+      taken = t.1;
+      made = none-made words _ t.0 c.from_residual-in_err-generated-in-Gen.result NoMemory why (wanting-first words _ refl);
+      handed = none-handed words t.0 old new c.from_residual-in_err-generated-in-Gen.result NoMemory why (wanting-handed words t.0 old new i is has (reading (text_for i.mode t.0)) e refl handed);
+    }
 
-pub returns-in_ok-generated-in-Gen-clause-handed : goal.returns-in_ok-generated-in-Gen-clause-handed
-returns-in_ok-generated-in-Gen-clause-handed g c =
+pub returns-in_ok-generated-in-Gen : goal.returns-in_ok-generated-in-Gen
+returns-in_ok-generated-in-Gen g c =
     let words = map string_bytes c.args.words.now in
-    let left = g.S.Source.left c.args.source.now in
     let i = c.in-Some.invocation in
-    let t = text-of left in
+    let t = text-of (g.S.Source.left c.args.source.now) in
     let a = c.in_ok-generated-in-Gen.field-0 in
     let old = g.C.Crew.handed c.args.crew.now in
     let new = g.C.Crew.handed c.generated.new.crew in
     let is : IsInvocation words i = subst (λ (o : Option Invocation). Finds o (IsInvocation words)) c.in-Some.is c.in_ok-invocation.ensures in
     let has : has_journey i.mode ≡ true = ap has_journey c.in-Gen.is in
+    let made = c.in_ok-generated-in-Gen.ensures.answer in
     let handed : ReadingHanded i.options (reading (text_for i.mode t.0)) old new (Ok a) =
     subst (λ (m : Mode). ReadingHanded i.options (reading (text_for m t.0)) old new (Ok a)) (sym c.in-Gen.is)
     (subst (λ (x : Result Answer AllocError). ReadingHanded i.options (reading (text_made c.in-Gen.recipe)) old new x) c.in_ok-generated-in-Gen.was c.generated.ensures.handed) in
-    answer-handed words left old new i is has t.0 t.1 (reading (text_for i.mode t.0)) a refl handed
+    record {
+      text = t.0;
+      taken = t.1;
+      made = nothing-taken words _ i c.in-Gen.recipe is c.in-Gen.is refl t.0 a.bytes.items a.status (generated-answered words i c.in-Gen.recipe t.0 a.bytes.items a.status is c.in-Gen.is made.0 made.1 made.2);
+      handed = answer-handed words t.0 old new i is has (reading (text_for i.mode t.0)) a refl handed;
+    }
