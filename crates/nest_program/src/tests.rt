@@ -39,7 +39,13 @@ fn the_exit_and_the_bytes_are_those_of_the_answer(rt: HostRuntime) -> Result<(),
 
 #[test]
 fn arguments_that_cannot_be_had(rt: HostRuntime) -> Result<(), Fail> {
-    assert_eq!(rt; exit_without_arguments(&io::ErrorKind::OutOfMemory.into()), 5);
-    assert_eq!(rt; exit_without_arguments(&io::ErrorKind::InvalidData.into()), 65);
+    assert_eq!(rt;
+        exit_without_arguments(&io::ErrorKind::OutOfMemory.into()),
+        5
+    );
+    assert_eq!(rt;
+        exit_without_arguments(&io::ErrorKind::InvalidData.into()),
+        65
+    );
     Ok(())
 }
