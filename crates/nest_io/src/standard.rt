@@ -1,5 +1,6 @@
 //! The edge to std: its readers and writers as a source and a sink.
-ghost use Rattle.std.specs.Prelude.{◌≡◌, ◌<◌, ◌≤◌, ℕ, List, Option, None, length, take, IfOk, OnOk, OnErr};
+ghost use Rattle.std.specs.Prelude.{◌≡◌, ◌<◌, ◌≤◌, ◌↔◌, ℕ, List, [], Option, length, take, IfOk, IfSome, OnOk, OnErr};
+ghost use Rattle.nest_io.specs.Bytes.{Takes, Appends};
 ghost use Rattle.std.specs.Io.KnownBytes.{ReadConsumes, WriteAppends};
 ghost use Rattle.nest_io.specs.Faults.{Rose, next_count};
 
@@ -7,7 +8,8 @@ use crate::{Failed, Sink, Source};
 use std::io::{Read, Write};
 use std::marker::Model;
 
-/// A reader of std as a source. It tells no bytes, and counts each `Err` of the reader as a fault.
+/// A reader of std as a source. It tells the bytes that std says are left of the reader, and counts each `Err` of the
+/// reader as a fault.
 #[derive(Drop)]
 pub struct StdSource<R: Read> {
     reader: R,
@@ -30,7 +32,7 @@ impl<R: Read> StdSource<R> {
 }
 
 impl<R: Read> Source for StdSource<R> {
-    ghost left = { λ _. None };
+    ghost left = { λ s. R.remaining s.0 };
 
     ghost faults = { λ s. s.1 };
 
@@ -42,6 +44,9 @@ impl<R: Read> Source for StdSource<R> {
 
         // What every source ensures.
         ensures room { IfOk result (λ count. count ≤ length into.new) }
+        ensures taken { IfOk result (λ count. Takes (R.remaining self.old.0) (R.remaining self.new.0) (take count into.new)) }
+        ensures end { IfOk result (λ count. 0 < length into.new → IfSome (R.remaining self.old.0) (λ bytes. (count ≡ 0) ↔ (bytes ≡ []))) }
+        ensures nothing { OnErr result (Takes (R.remaining self.old.0) (R.remaining self.new.0) []) }
         ensures cause { OnErr result (Rose self.old.1 self.new.1) }
         ensures never_falls { self.old.1 ≤ self.new.1 }
     {
@@ -55,8 +60,8 @@ impl<R: Read> Source for StdSource<R> {
     }
 }
 
-/// A writer of std as a sink. It tells no bytes, and counts as a fault each `Err` of the writer and each
-/// write that takes nothing of a piece that isn't empty.
+/// A writer of std as a sink. It tells the bytes that std says the writer holds, and counts as a fault each `Err` of the
+/// writer and each write that takes nothing of a piece that isn't empty.
 #[derive(Drop)]
 pub struct StdSink<W: Write> {
     writer: W,
@@ -79,7 +84,7 @@ impl<W: Write> StdSink<W> {
 }
 
 impl<W: Write> Sink for StdSink<W> {
-    ghost held = { λ _. None };
+    ghost held = { λ s. W.contents s.0 };
 
     ghost faults = { λ s. s.1 };
 
@@ -92,6 +97,8 @@ impl<W: Write> Sink for StdSink<W> {
         // What every sink ensures.
         ensures most { IfOk result (λ count. count ≤ length piece.now) }
         ensures least { IfOk result (λ count. 0 < length piece.now → 1 ≤ count) }
+        ensures put { IfOk result (λ count. Appends (W.contents self.old.0) (W.contents self.new.0) (take count piece.now)) }
+        ensures nothing { OnErr result (Appends (W.contents self.old.0) (W.contents self.new.0) []) }
         ensures cause { OnErr result (Rose self.old.1 self.new.1) }
         ensures never_falls { self.old.1 ≤ self.new.1 }
     {
