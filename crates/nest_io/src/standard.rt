@@ -8,7 +8,8 @@ use crate::{Failed, Sink, Source};
 use std::io::{Read, Write};
 use std::marker::Model;
 
-/// A reader of std as a source. It tells no bytes, and counts each `Err` of the reader as a fault.
+/// A reader of std as a source. It tells the bytes that std says are left of the reader, and counts each `Err` of the
+/// reader as a fault.
 #[derive(Drop)]
 pub struct StdSource<R: Read> {
     reader: R,
@@ -59,8 +60,8 @@ impl<R: Read> Source for StdSource<R> {
     }
 }
 
-/// A writer of std as a sink. It tells no bytes, and counts as a fault each `Err` of the writer and each
-/// write that takes nothing of a piece that isn't empty.
+/// A writer of std as a sink. It tells the bytes that std says the writer holds, and counts as a fault each `Err` of the
+/// writer and each write that takes nothing of a piece that isn't empty.
 #[derive(Drop)]
 pub struct StdSink<W: Write> {
     writer: W,
