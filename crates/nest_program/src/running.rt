@@ -1,6 +1,7 @@
 //! A run over a reader and a writer, by a crew of threads.
 
-ghost use Rattle.std.specs.Prelude.{◌≡◌, ◌≢◌, [], map, string_bytes, error_kind};
+ghost use Rattle.std.specs.Prelude.{◌≡◌, ◌≢◌, [], map, string_bytes};
+ghost use Rattle.std.specs.IoError.{error_kind};
 ghost use Rattle.nest_top.specs.Calls.{IsCall};
 ghost use Rattle.nest_top.specs.Exits.{exit_code};
 ghost use Rattle.nest_top.specs.declared.status.Status.{Status};
