@@ -16,83 +16,48 @@ ghost use Rattle.orders.specs.Orders.{SwapLaw, PermutationLaw, PlacesLaw, Sorted
 ghost use Rattle.orders.specs.Tiles.{SideBySideLaw, ScheduleLaw, SharedLaw, SharedNoneLaw, named, lists};
 ghost use Rattle.std.specs.Prelude.{◌≡◌, ℕ, ℤ, true, List};
 
-/// Instances that run on words, by what they read and write.
-pub trait Instances {
-    ghost machine: { Machine Self };
-
-    fn lawful()
-        ensures { Lawful machine };
-}
-
 /// Two neighbours that do not conflict may be exchanged.
-pub fn swap_law<I: Instances>()
-    ensures { SwapLaw I.machine }
-{
-    I::lawful();
-}
+pub fn swap_law<I>()
+    ensures { (machine : Machine I) → Lawful machine → SwapLaw machine }
+{}
 
 /// A list may be run in each order that keeps the order of what conflicts.
-pub fn permutation_law<I: Instances>()
-    ensures { PermutationLaw I.machine }
-{
-    I::lawful();
-}
+pub fn permutation_law<I>()
+    ensures { (machine : Machine I) → Lawful machine → PermutationLaw machine }
+{}
 
 /// The same, for permutations of places, where an instance may stand twice.
-pub fn places_law<I: Instances>()
-    ensures { PlacesLaw I.machine }
-{
-    I::lawful();
-}
+pub fn places_law<I>()
+    ensures { (machine : Machine I) → Lawful machine → PlacesLaw machine }
+{}
 
 /// A list in the order of one key may be run in that of another one.
-pub fn sorted_law<I: Instances>()
-    ensures { SortedLaw I.machine }
-{
-    I::lawful();
-}
+pub fn sorted_law<I>()
+    ensures { (machine : Machine I) → Lawful machine → SortedLaw machine }
+{}
 
 /// What runs side by side from one base gives what one after another gives.
-pub fn side_by_side_law<I: Instances>()
-    ensures { SideBySideLaw I.machine }
-{
-    I::lawful();
-}
+pub fn side_by_side_law<I>()
+    ensures { (machine : Machine I) → Lawful machine → SideBySideLaw machine }
+{}
 
 /// Phases of tiles give what the original list gives.
-pub fn schedule_law<I: Instances>()
-    ensures { ScheduleLaw I.machine }
-{
-    I::lawful();
-}
+pub fn schedule_law<I>()
+    ensures { (machine : Machine I) → Lawful machine → ScheduleLaw machine }
+{}
 
 /// Tiles that several took, each in its own order, give what all tiles by number give.
-pub fn shared_law<I: Instances>()
-    ensures { (tile : ℕ → List I) → SharedLaw (named tile (lists I.machine)) }
-{
-    I::lawful();
-}
+pub fn shared_law<I>()
+    ensures { (machine : Machine I) → Lawful machine → (tile : ℕ → List I) → SharedLaw (named tile (lists machine)) }
+{}
 
 /// One who fails makes the whole fail.
-pub fn shared_none_law<I: Instances>()
-    ensures { (tile : ℕ → List I) → SharedNoneLaw (named tile (lists I.machine)) }
-{
-    I::lawful();
-}
+pub fn shared_none_law<I>()
+    ensures { (machine : Machine I) → Lawful machine → (tile : ℕ → List I) → SharedNoneLaw (named tile (lists machine)) }
+{}
 
-/// Instances that hand scalars on.
-pub trait Handing {
-    ghost machine: { Machine Self };
-
-    ghost turns: { Turns Self };
-
-    fn exact()
-        ensures { (a b : List ℤ) → turns.same a b ≡ true → a ≡ b };
-}
-
-/// A plain run has no deviation exactly where the compared runs are not None and the steps suffice.
-pub fn chain_law<I: Handing>()
-    ensures { ChainLaw I.turns I.machine }
-{
-    I::exact();
-}
+/// A plain run of instances that hand scalars on has no deviation exactly where the compared runs are not None and the
+/// steps suffice; where scalars that are called the same are equal.
+pub fn chain_law<I>()
+    ensures { (turns : Turns I) (machine : Machine I) → ((a b : List ℤ) → turns.same a b ≡ true → a ≡ b) → ChainLaw turns machine }
+{}

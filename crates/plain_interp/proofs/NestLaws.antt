@@ -7,8 +7,7 @@ use Rattle.nest_lang.specs.Stores.{Store, store_of}
 use Rattle.nest_lang.specs.Lookups.{plain}
 use Rattle.nest_lang.specs.Traces.{Finish, Cut, cut_of, cut}
 use Rattle.nest_lang.specs.Loops.{loops_trace, outside}
-use Rattle.nest_lang.specs.Runs.{run_of, plain_run, nests_trace, nest_trace}
-use Rattle.nest_lang.proofs.CutLaws.{cut-only}
+use Rattle.nest_lang.specs.Runs.{nest_trace}
 use Rattle.std.proofs.lemmas.Bool.{and_parts}
 use Rattle.block_exec.specs.declared.nest_code.LoopCode.{LoopCode}
 use Rattle.block_exec.specs.NestCodes.{AreLoopCodes}
@@ -51,12 +50,6 @@ pub nest-level : (loops : List Loop) (at : Level) → at.depth ≡ 0 → loops �
 nest-level loops at outermost is keeps codes =
     let few = loops_keep-depth loops at.first.now at.rest.now is keeps in
     record { deep = omega (arith, outermost, few); keeps = loops_keep-inner loops at.first.now at.rest.now is keeps; codes = codes }
-
--- the plain run of a nest, from the cut of its trace
-pub nest-ran : (nest : Nest) (s t : Store) (n left used : ℕ) (e : Finish) → cut_of t left used e ≡ cut (nest_trace (n + 1) nest.loops s) s n 0
-    → record { store = t; ending = e; steps = used } ≡ plain_run (nest ∷ []) s n
-unfolding plain_run nests_trace
-nest-ran nest s t n left used e ran = ap run_of (ran ∙ sym (cut-only (nest_trace (n + 1) nest.loops) s n 0))
 
 -- no code is code of any loops
 pub no-codes : (loops : List Loop) → AreLoopCodes loops []

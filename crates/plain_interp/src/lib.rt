@@ -3,8 +3,8 @@
 //! It runs the loops of a nest over a port, under a budget of steps and a watch, and gives the *plain
 //! run* that `nest_lang` defines: the store, how it finished, the steps, and what the watch was shown,
 //! in order. It stands on `block_exec`, which runs one block or one head. The layers above run whole
-//! nests by `run_plain`, several over one budget by `run_nest`, and some turns of the outermost loop by
-//! `enter` and `run_turns`, as profiles and plain chunks do. Nothing here takes memory, and the time is
+//! nests over one budget by `run_nest`, and some turns of the outermost loop by `enter` and `run_turns`,
+//! as profiles and plain chunks do. Nothing here takes memory, and the time is
 //! linear in the steps.
 #![tactic(auto)]
 
@@ -13,4 +13,4 @@ mod outer;
 mod plain;
 
 pub use outer::{Entered, enter, run_turns};
-pub use plain::{run_nest, run_nest_by, run_plain};
+pub use plain::{run_nest, run_nest_by};

@@ -1,8 +1,8 @@
 //! Whole plain runs.
 
-ghost use Rattle.std.specs.Prelude.{◌≡◌, ◌+◌, ◌<◌, ◌≤◌, ◌^◌, ℕ, ◌∷◌, [], length, true};
+ghost use Rattle.std.specs.Prelude.{◌≡◌, ◌+◌, ◌<◌, ◌≤◌, ◌^◌, ℕ, [], length, true};
 ghost use Rattle.nest_lang.specs.Rules.{loops_keep};
-ghost use Rattle.nest_lang.specs.Runs.{plain_run, nest_trace, finish_of_ending};
+ghost use Rattle.nest_lang.specs.Runs.{nest_trace, finish_of_ending};
 ghost use Rattle.nest_lang.specs.Traces.{cut, cut_of};
 ghost use Rattle.nest_lang.specs.Stores.{store_of};
 ghost use Rattle.block_exec.specs.NestCodes.{AreLoopCodes, IsNestCode};
@@ -11,22 +11,6 @@ ghost use Rattle.block_exec.specs.Halts.{IsTrap, finish_of};
 use crate::loops::{Level, run_loop};
 use block_exec::{Blind, Cut, Halt, LoopCode, MemoryPort, NestCode, Places, Registers, Run};
 use nest_lang::{Budget, Ending, Nest, State};
-
-/// Runs a nest from a state within so many steps, and gives how it ended and its steps: the *plain run*
-/// (docs/DEFINITIONS.md, Plain runs). The limit is at most 2^32, and the state has at most 256 scalars.
-pub fn run_plain(nest: &Nest, state: &mut State, limit: u64) -> (Ending, u64)
-    requires limit { limit ≤ 2 ^ 32 }
-    requires scalars { length state.old.scalars ≤ 256 }
-    requires rules { loops_keep nest.now.loops ≡ true }
-    ensures { record { store = state.new; ending = finish_of_ending result.0; steps = result.1 } ≡ plain_run (nest.now ∷ []) state.old limit }
-{
-    let mut steps = Budget {
-        left: limit,
-        used: 0,
-    };
-    let ending = run_nest(nest, state, &mut steps);
-    (ending, steps.used)
-}
 
 /// Runs a nest from a state with the steps of a budget, and says how it ended. What is left of the steps
 /// is there for the nest after it. The steps are at most 2^32, and the state has at most 256 scalars.

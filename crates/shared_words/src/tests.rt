@@ -1,6 +1,6 @@
 //! What the seats do when they run: a phase of one worker, a claim that loses, a seat that isn't taken back, and
 //! claims from two threads at once.
-ghost use Rattle.std.specs.Prelude.{◌≡◌, ◌<◌, ◌≤◌, ◌^◌, true, false, [], ◌∷◌, length, IsTrue, IfOk};
+ghost use Rattle.std.specs.Prelude.{◌≡◌, ℕ, ◌<◌, ◌≤◌, ◌^◌, true, false, [], ◌∷◌, length, IfOk};
 ghost use Rattle.core_steps.specs.Examples.{one_tile};
 ghost use Rattle.core_steps.specs.Plans.{IsSeparate, IsInside};
 ghost use Rattle.core_steps.specs.Views.{first_view};
@@ -62,12 +62,16 @@ fn a_phase_stores_into_the_memory(rt: HostRuntime) -> Result<(), Fail> {
     phase(&rt, rt.alloc(), words, main)
 }
 
-/// Tile k writes word k.
-fn plan_of_words(alloc: Global, tiles: u32) -> Result<Plan, AllocError> {
+/// So many tiles without addresses, which may be posted over any words.
+#[tactic(auto, using(crate::proofs::EmptyTileLaws::empty_tiles))]
+fn empty_tiles(alloc: Global, count: u32) -> Result<Plan, AllocError>
+    ensures counted { IfOk result (λ plan. length plan.tiles ≡ count) }
+    ensures separate { IfOk result (λ plan. IsSeparate plan) }
+    ensures inside { IfOk result (λ plan. (words : ℕ) → IsInside words plan) }
+{
     let mut all = Vec::new(alloc);
-    for tile in 0..tiles {
-        let writes = vec![in alloc; u64::from(tile)]?;
-        all.push(Tile::new(Vec::new(alloc), writes))?;
+    for _tile in 0..count {
+        all.push(Tile::new(Vec::new(alloc), Vec::new(alloc)))?;
     }
     Ok(Plan::new(all))
 }
@@ -82,15 +86,6 @@ fn claim_all(words: &SharedWords, seat: &mut WorkSeat, tiles: u32, won: &mut Vec
             let _ = won.push(tile);
         }
     }
-}
-
-/// Whether the plan may be posted over so many words.
-fn is_plan(plan: &Plan, count: usize) -> bool
-    ensures separate { IsTrue result → IsSeparate plan.now }
-    ensures inside { IsTrue result → IsInside count plan.now }
-    ensures few { IsTrue result → length plan.now.tiles ≤ 65536 }
-{
-    plan.tiles.len() <= 65_536 && plan.is_inside(count) && plan.separate()
 }
 
 /// Two workers claim all tiles, each in a thread. Neither seat is taken back.
@@ -132,11 +127,8 @@ fn claims_beside<R: Threads + Sync + Abort>(
 #[test]
 fn two_threads_claim_a_thousand_tiles_once_each(rt: HostRuntime) -> Result<(), Fail> {
     let alloc = rt.alloc();
-    let plan = plan_of_words(alloc, 1_000)?;
+    let plan = empty_tiles(alloc, 1_000)?;
     let (words, main) = SharedWords::new(alloc, &[0; 1_000])?;
-    if !is_plan(&plan, 1_000) {
-        return Err("no plan".into());
-    }
     claims_beside(&rt, alloc, words, main, &plan)
 }
 
