@@ -190,12 +190,7 @@ impl<P: Port, W: Watch> Run<'_, P, W> {
     /// Ends a step: the number of acts that it skips.
     #[inline(always)]
     #[tactic(auto, using(crate::proofs::ActLaws::finishes))]
-    fn finish(
-        &mut self,
-        site: &Site<'_>,
-        end: End,
-        registers: &Registers,
-    ) -> Result<u32, Halted>
+    fn finish(&mut self, site: &Site<'_>, end: End, registers: &Registers) -> Result<u32, Halted>
         ensures done { IsDone (done_by (frame_at site.now (P.expects self.old.port.now)) end registers.now.values (within P.memory self.old).store) result self.new.halt (within P.memory self.old).store (within P.memory self.new).store }
         ensures watch { Chain W.may self.old.watch.now (shown_by (frame_at site.now (P.expects self.old.port.now)) end registers.now.values) self.new.watch.now }
         ensures steps { self.new.steps ≡ self.old.steps }
@@ -247,12 +242,7 @@ impl<P: Port, W: Watch> Run<'_, P, W> {
     }
 
     /// Runs acts to their end.
-    fn acts(
-        &mut self,
-        site: &Site<'_>,
-        acts: &[Act],
-        registers: &mut Registers,
-    ) -> Result<(), Cut>
+    fn acts(&mut self, site: &Site<'_>, acts: &[Act], registers: &mut Registers) -> Result<(), Cut>
         requires steps { self.old.steps.left + self.old.steps.used ≤ 2 ^ 32 }
         ensures ran { Ran W.may (acts_trace (frame_at site.now (P.expects self.old.port.now)) acts.now 0 registers.old.values) (within P.memory self.old) (within P.memory self.new) (finish_of result self.new.halt) }
         ensures kept { Kept P.expects P.basis self.old self.new }

@@ -8,6 +8,9 @@
 //! under every watch they give the trace that `nest_lang` defines, cut where the steps that are left end.
 //! Where one is cut short the run keeps why, so that a result is one word.
 //!
+//! `NestCode::new` compiles a nest to register code, and `Run::block_by`, `Run::bounds_by` and `Run::condition_by`
+//! run by it where there is some, with the same clauses.
+//!
 //! The crate stands on `nest_lang` and `plain_lemmas`. The layers above run loops and whole nests, each over a
 //! port of its own; `MemoryPort` and `Blind` are the plain port and the watch that keeps nothing. `laws`
 //! has what the layers that verify addresses rest on.

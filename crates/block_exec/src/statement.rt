@@ -89,7 +89,13 @@ impl<P: Port, W: Watch> Run<'_, P, W> {
     /// Stores through the port, where the address is shown before.
     #[tactic(auto, using(crate::proofs::QuietLaws::quiet))]
     #[inline(always)]
-    pub(crate) fn store(&mut self, site: &Site<'_>, access: u8, address: i64, value: i64) -> Result<(), Halted>
+    pub(crate) fn store(
+        &mut self,
+        site: &Site<'_>,
+        access: u8,
+        address: i64,
+        value: i64,
+    ) -> Result<(), Halted>
         ensures value { let answer = or_stopped access (look_store (P.expects self.old.port.now) (P.memory self.old.port.now) access address) in
             MatchResult result (λ _. IsOk answer) (λ _. answer ≡ Err (halt_by self.new.halt)) }
         ensures watch { W.may self.old.watch.now (observed site.now.block site.now.counters.now (Address access) address) self.new.watch.now }

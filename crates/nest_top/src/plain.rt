@@ -1,6 +1,6 @@
 //! Mode `plain`: the outcome of the plain run of a file.
 
-ghost use Rattle.std.specs.Prelude.{◌≡◌, ◌+◌, ◌<◌, ◌≤◌, ◌^◌, ℕ, IfOk, length};
+ghost use Rattle.std.specs.Prelude.{◌≡◌, ◌+◌, ◌<◌, ◌≤◌, ◌^◌, ℕ, IfOk, OnOk, length};
 ghost use Rattle.nest_lang.specs.Runs.{nests_trace, finish_of_ending};
 ghost use Rattle.nest_lang.specs.Traces.{cut, cut_of};
 ghost use Rattle.nest_grammar.specs.Files.{nests_of};
@@ -9,9 +9,10 @@ ghost use Rattle.nest_top.specs.Answers.{IsOutcomeOf};
 
 use crate::answer::Answer;
 use crate::status::Status;
+use block_exec::NestCode;
 use nest_lang::{Budget, Ending, State};
 use nest_text::NestFile;
-use plain_interp::run_nest;
+use plain_interp::run_nest_by;
 use report::outcome_text;
 use std::alloc::{AllocError, Global};
 
@@ -25,7 +26,7 @@ pub(crate) fn plain(alloc: Global, file: &NestFile, steps: u64) -> Result<Answer
         left: steps,
         used: 0,
     };
-    let ending = run_nests(file, &mut state, &mut budget);
+    let ending = run_nests(alloc, file, &mut state, &mut budget)?;
     let bytes = outcome_text(alloc, file, &state, &ending, budget.used)?;
     Ok(Answer {
         bytes,
@@ -33,24 +34,30 @@ pub(crate) fn plain(alloc: Global, file: &NestFile, steps: u64) -> Result<Answer
     })
 }
 
-/// Runs the nests of a file, one after another, with the steps of a budget.
-fn run_nests(file: &NestFile, state: &mut State, steps: &mut Budget) -> Ending
+/// Runs the nests of a file, one after another, each by its code, with the steps of a budget.
+fn run_nests(
+    alloc: Global,
+    file: &NestFile,
+    state: &mut State,
+    steps: &mut Budget,
+) -> Result<Ending, AllocError>
     requires steps { steps.old.left + steps.old.used ≤ 2 ^ 32 }
     requires scalars { length state.old.scalars ≤ 256 }
-    ensures ran { (k : ℕ) → steps.old.left < k → cut_of state.new steps.new.left steps.new.used (finish_of_ending result)
-        ≡ cut (nests_trace k (nests_of file.now) state.old) state.old steps.old.left steps.old.used }
-    ensures scalars { length state.new.scalars ≡ length state.old.scalars }
+    ensures ran { IfOk result (λ ending. (k : ℕ) → steps.old.left < k → cut_of state.new steps.new.left steps.new.used (finish_of_ending ending)
+        ≡ cut (nests_trace k (nests_of file.now) state.old) state.old steps.old.left steps.old.used) }
+    ensures scalars { OnOk result (length state.new.scalars ≡ length state.old.scalars) }
 {
     'nests: for number in 0..file.nests() {
         let Some(nest) = file.nest(number) else {
             unreachable!()
         };
-        match run_nest(nest, state, steps) {
+        let code = NestCode::new(alloc, nest)?;
+        match run_nest_by(nest, &code, state, steps) {
             Ending::Ended => {}
-            ending => return ending,
+            ending => return Ok(ending),
         }
     }
-    Ending::Ended
+    Ok(Ending::Ended)
 }
 
 /// The status of a run that ended so.

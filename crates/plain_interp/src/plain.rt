@@ -28,7 +28,7 @@ pub fn run_nest(nest: &Nest, state: &mut State, steps: &mut Budget) -> Ending
     run_words(nest, &[], memory, scalars, steps)
 }
 
-/// The same, by the code of the nest.
+/// The same, by the code of the nest, as far as it has some.
 pub fn run_nest_by(nest: &Nest, code: &NestCode, state: &mut State, steps: &mut Budget) -> Ending
     requires code { IsNestCode nest.now code.now }
     requires steps { steps.old.left + steps.old.used ≤ 2 ^ 32 }

@@ -10,12 +10,12 @@ use Rattle.nest_top.proofs.plain.plain.Goals as goal
 pub returns : goal.returns
 returns c =
     let nests = nests_of c.args.file.now in
-    let ending = c.run_nests-ending.result in
-    let store = c.run_nests-ending.new.state in
-    let used = c.run_nests-ending.new.steps.used in
+    let ending = c.in_ok-ending.ending in
+    let store = c.run_nests.new.state in
+    let used = c.run_nests.new.steps.used in
     let bytes = c.in_ok-bytes.bytes.items in
     let run : record { store = store; ending = finish_of_ending ending; steps = used } ≡ run_of_file c.args.file.now c.args.steps =
-    nests-ran nests c.in_ok-state.state store c.args.steps _ used _ (c.run_nests-ending.ensures.ran (c.args.steps + 1) (omega arith))
+    nests-ran nests c.in_ok-state.state store c.args.steps _ used _ (c.in_ok-ending.ensures.ran (c.args.steps + 1) (omega arith))
     ∙ ap (λ s. plain_run nests s c.args.steps) c.in_ok-state.ensures.store in
     record {
       ending = ending;
