@@ -40,14 +40,15 @@ REFUSED_TEXT = "nest 1 memory 4 while 1 { [0]=total }"
 
 
 class Tally:
-    def __init__(self):
+    def __init__(self, name):
+        self.name = name
         self.passed = self.failed = 0
 
     def holds(self, is_so, said):
         self.passed += is_so
         self.failed += not is_so
         if not is_so:
-            print(f"front: {said}")
+            print(f"{self.name}: {said}")
 
 
 def cases():
@@ -165,7 +166,7 @@ def check_wrapper(tally):
 
 
 def main():
-    tally = Tally()
+    tally = Tally("front")
     check_cases(tally)
     check_papers(tally)
     check_forecast(tally)
