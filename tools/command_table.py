@@ -167,7 +167,7 @@ def command_of(words):
         raise Misuse(at, "there is no such mode", near(name, modes) or f"MODE is {', '.join(modes[:-1])} or {modes[-1]}")
     if len(alone) > len(mode.arguments):
         at = alone[len(mode.arguments)][0]
-        raise Misuse(at, f"mode {name} takes {len(mode.arguments) or 'no'} arguments, and this is one more" if mode.arguments else f"mode {name} takes no argument, and this is no file")
+        raise Misuse(at, f"mode {name} takes {len(mode.arguments) or 'no'} arguments, and this is one more" if mode.arguments else f"mode {name} takes no argument; a FILE may stand last")
     if len(alone) < len(mode.arguments):
         missing = " ".join(it.name for it in mode.arguments[len(alone) :])
         raise Misuse(0, f"mode {name} takes {' '.join(it.name for it in mode.arguments)}, and {missing} {'is' if len(alone) + 1 == len(mode.arguments) else 'are'} missing")

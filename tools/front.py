@@ -45,7 +45,7 @@ def with_file(words):
     command = judged(words)
     if isinstance(command, command_table.Misuse) and len(words) > 1:
         shorter = judged(words[:-1])
-        if isinstance(shorter, command_table.Command) and shorter.mode.reads and words[-1] not in ("", "--"):
+        if isinstance(shorter, command_table.Command) and shorter.mode.reads and words[-1][:1] not in ("", "-"):
             return words[:-1], shorter, words[-1]
     return words, command, None
 

@@ -40,14 +40,15 @@ REFUSED_TEXT = "nest 1 memory 4 while 1 { [0]=total }"
 
 
 class Tally:
-    def __init__(self):
+    def __init__(self, name):
+        self.name = name
         self.passed = self.failed = 0
 
     def holds(self, is_so, said):
         self.passed += is_so
         self.failed += not is_so
         if not is_so:
-            print(f"front: {said}")
+            print(f"{self.name}: {said}")
 
 
 def cases():
@@ -160,12 +161,13 @@ def check_wrapper(tally):
         tally.holds(call(["--quiet", "run", "x.nest"]) == (2, "refused 30 Unknown\n", ""), "--quiet isn't quiet")
         status, out, said = call(["run", "y.nest"])
         tally.holds((status, out) == (64, "usage\n") and "argument 2, y.nest" in said, f"a file that isn't there: {status} {out!r} {said!r}")
+        tally.holds("a number from 1 to 1,024 is missing behind --chunk" in call(["run", "--chunk"])[2], "an option with no number behind it")
         tally.holds(call(["--quiet", "rnu"]) == (64, "usage\n", ""), "--quiet isn't quiet at a misuse")
         tally.holds(call(["--help"]) == (0, command_papers.help_text(), ""), "--help")
 
 
 def main():
-    tally = Tally()
+    tally = Tally("front")
     check_cases(tally)
     check_papers(tally)
     check_forecast(tally)
