@@ -12,6 +12,8 @@ mod adding;
 mod checking;
 pub mod laws;
 mod proofs_by_adding;
+#[cfg(test)]
+mod tests;
 mod tidying;
 
 pub use checking::check_rows;
