@@ -1,0 +1,4 @@
+pub mod Refutations
+pub mod Checks
+pub mod Examples
+pub mod Laws
