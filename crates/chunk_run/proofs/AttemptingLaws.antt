@@ -10,9 +10,9 @@ use Rattle.domain.specs.Instances.{opening_at}
 use Rattle.skeletons.specs.Cells.{Extent}
 use Rattle.follow_chunk.specs.Predicted.{scalars_at}
 use Rattle.follow_chunk.proofs.ListingLaws.{split-at}
+use Rattle.follow_chunk.specs.Tasks.{TaskState}
 use Rattle.tiles.specs.Plans.{ChunkPlan, Phase, cells_of}
 use Rattle.crew.specs.declared.handed.Handed.{Handed}
-use Rattle.verified_turns.specs.Workers.{TaskState}
 use Rattle.phase_run.specs.Phases.{next_view}
 use Rattle.chunk_run.specs.Parts.{HasSteps, IsPartOf, ChangesChunk, IsAttempt, Fails, phase_at}
 use Rattle.chunk_run.specs.Ready.{IsReady}
@@ -90,7 +90,7 @@ module _ (D workers : ℕ) (k : TaskState) (e : Extent) (plan : ChunkPlan) (begi
       → IsAttempt k.pred k.loops k.outer k.chunk (signed v.base) begins from (Some left) (signed w.base) × AttemptGains e workers from (Some left) old new × RunsOn v w old new
   attempt-whole number left w new all stands =
       let some : 0 < number = (let s = some-phase D (length v.base) workers k e plan ready in omega (arith, s, all)) in (
-        attempted D k.scalars (length v.base) k.loops k.pred k.outer k.chunk ready.task e ready.same_table ready.same_chunk ready.schedule ready.legal (cells_of plan.phases) ready.planned.cells (signed v.base) words-long from (Some left) (signed w.base)
+        attempted D k (length v.base) ready.task e ready.same_table ready.same_chunk ready.schedule ready.legal (cells_of plan.phases) ready.planned.cells (signed v.base) words-long from (Some left) (signed w.base)
             (all-phases e k.loops k.outer plan.phases number (signed v.base) (signed w.base) from (Some left) all stands.part) begins (stands.first some),
         gains-whole number left w new all stands,
         record {
@@ -166,7 +166,7 @@ module _ (D workers : ℕ) (k : TaskState) (e : Extent) (plan : ChunkPlan) (begi
 
       fails-within : IsPartOf e k.loops k.outer (phase_at plan.phases number).cells (signed w.base) left None (signed x.base) → Fails k.pred k.loops k.outer k.chunk (signed v.base) begins from
       fails-within part =
-          fails D k.scalars (length v.base) k.loops k.pred k.outer k.chunk ready.task e ready.same_table ready.same_chunk ready.schedule ready.legal (cells_of plan.phases) ready.planned.cells (signed v.base) words-long from None (signed x.base)
+          fails D k (length v.base) ready.task e ready.same_table ready.same_chunk ready.schedule ready.legal (cells_of plan.phases) ready.planned.cells (signed v.base) words-long from None (signed x.base)
           (last-phase e k.loops k.outer plan.phases number inside (signed v.base) (signed w.base) from left stands.part (signed x.base) part) begins refl
 
       abbrev Ends : Type 0
@@ -183,7 +183,7 @@ module _ (D workers : ℕ) (k : TaskState) (e : Extent) (plan : ChunkPlan) (begi
 
       -- the chunk begins with other scalars
       pub ends-apart : (begins ≡ scalars_at k.pred (opening_at k.pred k.chunk.first) → ⊥) → Ends
-      ends-apart apart = (fails-at-once D k.scalars (length v.base) k.loops k.pred k.outer k.chunk ready.task (signed v.base) begins from apart, changes-here, gains-begun, runs-on)
+      ends-apart apart = (fails-at-once D k (length v.base) ready.task (signed v.base) begins from apart, changes-here, gains-begun, runs-on)
 
       module _ (steps : ℕ) (some : result ≡ Some steps) where
         followed-here : HasSteps e k.loops k.outer (phase_at plan.phases number).cells (signed w.base) (Some steps) (signed x.base)

@@ -19,7 +19,7 @@ use Rattle.follow.specs.Plans.{Item}
 use Rattle.follow.proofs.TurnInstanceLaws.{planned-some}
 use Rattle.follow_chunk.specs.Predicted.{scalars_at, forecast_of}
 use Rattle.follow_chunk.specs.Followed.{ClosesSmall}
-use Rattle.follow_chunk.specs.Tasks.{IsTask}
+use Rattle.follow_chunk.specs.Tasks.{TaskState, IsTask}
 use Rattle.compare.specs.ChainLaw.{behind}
 use Rattle.compare.proofs.PredictedChainLaws.{planned-are-predicted, tasks-are-chunks}
 use Rattle.chunk_run.specs.Parts.{ClosingFits}
@@ -40,27 +40,27 @@ some-turns : (z : ℤ) → pos 1 ≤ℤ z → 0 < unsigned_abs z
 some-turns (pos m) h = omega (arith, ints)
 some-turns (negsuc m) h = absurd (omega (arith, ints))
 
-module _ (D scalars words : ℕ) (loops : List Loop) (t : Table) (o : Outer) (chunk : Chunk) (task : IsTask D scalars loops t o chunk (pos words)) where
+module _ (D : ℕ) (job : TaskState) (words : ℕ) (task : IsTask D job (pos words)) where
   -- the last instance's successor
-  last-next : (x : Instance) (xs : List Instance) → IsOriginal t chunk (x ∷ xs) → next t (last x xs) ≡ behind t chunk
+  last-next : (x : Instance) (xs : List Instance) → IsOriginal job.pred job.chunk (x ∷ xs) → next job.pred (last x xs) ≡ behind job.pred job.chunk
   last-next x xs original =
-      let s = successor-law D t task.shape chunk (last x xs) ((original.has (last x xs)).0 (contains-from-has (x ∷ xs) (last x xs) (has-last x xs))) in
-      ⊎_elim (λ p. absurd (too-late s.after (last-after (Precedes t) x xs (next t (last x xs)) (in-order (Precedes t) (x ∷ xs) original.ordered) (has-from-contains (x ∷ xs) (next t (last x xs)) ((original.has (next t (last x xs))).1 p))))) (λ e. e) s.is
+      let s = successor-law D job.pred task.shape job.chunk (last x xs) ((original.has (last x xs)).0 (contains-from-has (x ∷ xs) (last x xs) (has-last x xs))) in
+      ⊎_elim (λ p. absurd (too-late s.after (last-after (Precedes job.pred) x xs (next job.pred (last x xs)) (in-order (Precedes job.pred) (x ∷ xs) original.ordered) (has-from-contains (x ∷ xs) (next job.pred (last x xs)) ((original.has (next job.pred (last x xs))).1 p))))) (λ e. e) s.is
     where
-      too-late : Precedes t (last x xs) (next t (last x xs)) → (next t (last x xs) ≡ last x xs) ⊎ Precedes t (next t (last x xs)) (last x xs) → ⊥
-      too-late h (inl e) = never-itself (slice_cmp int_cmp) (lists_total int_cmp_total) (original_key t) (last x xs) (subst (Precedes t (last x xs)) e h)
-      too-late h (inr k) = never-both (slice_cmp int_cmp) (lists_total int_cmp_total) (original_key t) (last x xs) (next t (last x xs)) h k
+      too-late : Precedes job.pred (last x xs) (next job.pred (last x xs)) → (next job.pred (last x xs) ≡ last x xs) ⊎ Precedes job.pred (next job.pred (last x xs)) (last x xs) → ⊥
+      too-late h (inl e) = never-itself (slice_cmp int_cmp) (lists_total int_cmp_total) (original_key job.pred) (last x xs) (subst (Precedes job.pred (last x xs)) e h)
+      too-late h (inr k) = never-both (slice_cmp int_cmp) (lists_total int_cmp_total) (original_key job.pred) (last x xs) (next job.pred (last x xs)) h k
 
   -- a chunk has an instance
-  pub not-empty : IsOriginal t chunk [] → ⊥
+  pub not-empty : IsOriginal job.pred job.chunk [] → ⊥
   not-empty original =
-      let is = tasks-are-chunks D scalars loops t o chunk (pos words) task in
-      let (x, xs, e) = planned-some (forecast_of t) loops o (unsigned_abs chunk.turns) is.keeps (some-turns chunk.turns is.some) in
-      no x xs (sym e ∙ planned-are-predicted D scalars loops t o chunk task.shape is [] original)
+      let is = tasks-are-chunks D job (pos words) task in
+      let (x, xs, e) = planned-some (forecast_of job.pred) job.loops job.outer (unsigned_abs job.chunk.turns) is.keeps (some-turns job.chunk.turns is.some) in
+      no x xs (sym e ∙ planned-are-predicted D job.scalars job.loops job.pred job.outer job.chunk task.shape is [] original)
     where
       no : (x : Item) (xs : List Item) → ◌≡◌ {A = List Item} (x ∷ xs) [] → ⊥
       no x xs e = cc
 
-  pub closing-fits : (xs : List Instance) → IsOriginal t chunk xs → ((x : Instance) → Has xs x → ClosesSmall t x) → ClosingFits t chunk
+  pub closing-fits : (xs : List Instance) → IsOriginal job.pred job.chunk xs → ((x : Instance) → Has xs x → ClosesSmall job.pred x) → ClosingFits job.pred job.chunk
   closing-fits [] original each = absurd (not-empty original)
-  closing-fits (x ∷ xs) original each = subst (λ (y : Instance). (number : ℕ) → FitsSigned w64 (get_or (scalars_at t y) number (pos 0))) (last-next x xs original) (each (last x xs) (has-last x xs))
+  closing-fits (x ∷ xs) original each = subst (λ (y : Instance). (number : ℕ) → FitsSigned w64 (get_or (scalars_at job.pred y) number (pos 0))) (last-next x xs original) (each (last x xs) (has-last x xs))

@@ -12,7 +12,7 @@ use Rattle.domain.specs.Launches.{IsLaunched}
 use Rattle.transform.specs.Schedules.{Schedule}
 use Rattle.skeletons.specs.Cells.{Extent}
 use Rattle.follow_chunk.specs.Predicted.{scalars_at}
-use Rattle.follow_chunk.specs.Tasks.{IsTask}
+use Rattle.follow_chunk.specs.Tasks.{TaskState, IsTask}
 use Rattle.compare.specs.ChainLaw.{behind}
 use Rattle.tiles.specs.Plans.{Phase, ChunkPlan, IsOnePhase, IsPhaseOf, IsPlanOf, cells_of}
 use Rattle.chunk_run.specs.Parts.{Succeeds, Fails}
@@ -24,19 +24,19 @@ use Rattle.chunk_run.proofs.PhasingLaws.{keys-exist}
 pub from-all : {X : Type 0} (P : X → Type 0) (xs : List X) (x : X) → All P xs → Has xs x → P x
 from-all P xs x all h = let (k, l, is) = contains-from-has xs x h in subst P is (all k x l)
 
-module _ (D scalars words : ℕ) (loops : List Loop) (t : Table) (s : Schedule) (o : Outer) (chunk : Chunk) (task : IsTask D scalars loops t o chunk (pos words)) (a : Between) (size : length a.scalars ≡ scalars) (long : length a.words ≡ words) where
+module _ (D : ℕ) (job : TaskState) (words : ℕ) (s : Schedule) (task : IsTask D job (pos words)) (a : Between) (size : length a.scalars ≡ job.scalars) (long : length a.words ≡ words) where
   abbrev e : Extent
-  e = record { table = t; schedule = s; chunk = chunk }
+  e = record { table = job.pred; schedule = s; chunk = job.chunk }
 
-  pub rolled-back : (b : Between) → Fails t loops o chunk a.words a.scalars a.steps.left → b ≡ a → IsRolledBack e loops o a b
-  rolled-back b fails same = record { deviates = deviates D scalars words loops t o chunk task a size fails; same = same }
+  pub rolled-back : (b : Between) → Fails job.pred job.loops job.outer job.chunk a.words a.scalars a.steps.left → b ≡ a → IsRolledBack e job.loops job.outer a b
+  rolled-back b fails same = record { deviates = deviates D job words task a size fails; same = same }
 
   module _ (plan : ChunkPlan) (planned : IsPlanOf e words plan) where
     numbers : HasNumbers e (pos (length a.words)) plan.instances (length plan.phases) plan.tiles
     numbers =
         let (keys, are, many) = keys-exist e plan.phases planned.cells (all-from IsOnePhase plan.phases (λ phase h. (from-all (IsPhaseOf e words) plan.phases phase planned.phases h).one)) planned.rise in
         record {
-          launched = subst (λ (n : ℕ). IsLaunched t (pos n) chunk plan.instances) (sym long) planned.instances;
+          launched = subst (λ (n : ℕ). IsLaunched job.pred (pos n) job.chunk plan.instances) (sym long) planned.instances;
           keys = keys;
           are_keys = are;
           count_keys = many;
@@ -45,14 +45,14 @@ module _ (D scalars words : ℕ) (loops : List Loop) (t : Table) (s : Schedule) 
           count_cells = sym planned.tiles;
         }
 
-    pub committed : (after closing : List ℤ) (rest used taken : ℕ) → Succeeds t loops o chunk a.words a.scalars a.steps.left after rest → closing ≡ scalars_at t (behind t chunk) → taken ≡ a.steps.left - rest → used ≡ a.steps.used + taken
-        → IsCommitted e loops o a (between after closing (record { left = rest; used = used })) plan.instances (length plan.phases) plan.tiles taken
+    pub committed : (after closing : List ℤ) (rest used taken : ℕ) → Succeeds job.pred job.loops job.outer job.chunk a.words a.scalars a.steps.left after rest → closing ≡ scalars_at job.pred (behind job.pred job.chunk) → taken ≡ a.steps.left - rest → used ≡ a.steps.used + taken
+        → IsCommitted e job.loops job.outer a (between after closing (record { left = rest; used = used })) plan.instances (length plan.phases) plan.tiles taken
     committed after closing rest used taken done close took all =
         let few = done.suffice in
         let same : taken ≡ done.steps = omega (arith, few, took) in
-        subst (λ (us : List ℤ). IsCommitted e loops o a (between after us (record { left = rest; used = used })) plan.instances (length plan.phases) plan.tiles taken) (sym close) (record {
-          follows = follows D scalars words loops t o chunk task a size after rest done;
-          plain = leads-to D scalars words loops t o chunk task a size after rest done used (let n : used ≡ a.steps.used + done.steps = omega (arith, all, same) in n);
+        subst (λ (us : List ℤ). IsCommitted e job.loops job.outer a (between after us (record { left = rest; used = used })) plan.instances (length plan.phases) plan.tiles taken) (sym close) (record {
+          follows = follows D job words task a size after rest done;
+          plain = leads-to D job words task a size after rest done used (let n : used ≡ a.steps.used + done.steps = omega (arith, all, same) in n);
           taken = record { left = omega (arith, few, same); used = all };
           numbers = numbers;
         })

@@ -18,7 +18,7 @@ use Rattle.follow.specs.Deviations.{FollowsPrediction}
 use Rattle.follow.specs.ChainLaw.{Ends}
 use Rattle.follow.proofs.DeviatingLaws.{deviates-or-follows}
 use Rattle.follow_chunk.specs.Predicted.{scalars_at, forecast_of}
-use Rattle.follow_chunk.specs.Tasks.{IsTask}
+use Rattle.follow_chunk.specs.Tasks.{TaskState, IsTask}
 use Rattle.compare.specs.ChainLaw.{behind, Chained}
 use Rattle.compare.proofs.PredictedChainLaws.{tasks-are-chunks, chain-at-predictions}
 use Rattle.chunk_run.specs.ScheduleLaw.{followed}
@@ -31,11 +31,11 @@ use Rattle.chunk_run.proofs.ClosingLaws.{closing-fits}
 
 -- ---- a chunk that was followed phase by phase and tile by tile
 
-module _ (D scalars words : ℕ) (loops : List Loop) (t : Table) (o : Outer) (chunk : Chunk) (task : IsTask D scalars loops t o chunk (pos words)) where
-  module _ (e : Extent) (table : e.table ≡ t) (same : e.chunk ≡ chunk) (sched : IsSchedule D e.schedule) (legal : IsLegalFor t e.schedule chunk) (cells : List Cell) (are : AreCellsOf e cells)
-      (m : List ℤ) (long : length m ≡ words) (left : ℕ) (result : Option ℕ) (after : List ℤ) (part : IsPartOf e loops o cells m left result after) where
+module _ (D : ℕ) (job : TaskState) (words : ℕ) (task : IsTask D job (pos words)) where
+  module _ (e : Extent) (table : e.table ≡ job.pred) (same : e.chunk ≡ job.chunk) (sched : IsSchedule D e.schedule) (legal : IsLegalFor job.pred e.schedule job.chunk) (cells : List Cell) (are : AreCellsOf e cells)
+      (m : List ℤ) (long : length m ≡ words) (left : ℕ) (result : Option ℕ) (after : List ℤ) (part : IsPartOf e job.loops job.outer cells m left result after) where
     abbrev f : Extent
-    f = record { table = t; schedule = e.schedule; chunk = chunk }
+    f = record { table = job.pred; schedule = e.schedule; chunk = job.chunk }
 
     e-is : e ≡ f
     e-is = ap₂ (λ (u : Table) (c : Chunk). record { table = u; schedule = e.schedule; chunk = c }) table same
@@ -43,28 +43,28 @@ module _ (D scalars words : ℕ) (loops : List Loop) (t : Table) (o : Outer) (ch
     f-are : AreCellsOf f cells
     f-are = subst (λ (x : Extent). AreCellsOf x cells) e-is are
 
-    f-part : IsPartOf f loops o cells m left result after
-    f-part = subst (λ (x : Extent). IsPartOf x loops o cells m left result after) e-is part
+    f-part : IsPartOf f job.loops job.outer cells m left result after
+    f-part = subst (λ (x : Extent). IsPartOf x job.loops job.outer cells m left result after) e-is part
 
     -- the scheduled list of the chunk has the follow run of the original one
     record Scheduled (xs : List Instance) : Type 0 where
       ys : List Instance
-      part-of : (r : Option ℕ) → result ≡ r → IsPart t loops o ys m left r after
-      keeps : followed t loops o ys m ≡ followed t loops o xs m
+      part-of : (r : Option ℕ) → result ≡ r → IsPart job.pred job.loops job.outer ys m left r after
+      keeps : followed job.pred job.loops job.outer ys m ≡ followed job.pred job.loops job.outer xs m
       all : (x : Instance) → Has xs x → Has ys x
 
-    scheduled : (xs : List Instance) → IsOriginal t chunk xs → Scheduled xs
+    scheduled : (xs : List Instance) → IsOriginal job.pred job.chunk xs → Scheduled xs
     scheduled xs original =
         let (lists, are_lists) = lists-exist D f task.shape sched xs original cells in
         let is = lists-scheduled f xs cells lists original f-are are_lists in
         record {
           ys = flat lists;
-          part-of = λ r e. subst (λ (q : Option ℕ). IsPart t loops o (flat lists) m left q after) e (f-part lists are_lists);
-          keeps = scheduled-keeps D scalars loops t o chunk legal.length e.schedule xs (flat lists) m (subst (λ (n : ℕ). IsTask D scalars loops t o chunk (pos n)) (sym long) task) sched legal.legal legal.turns original is;
+          part-of = λ r e. subst (λ (q : Option ℕ). IsPart job.pred job.loops job.outer (flat lists) m left q after) e (f-part lists are_lists);
+          keeps = scheduled-keeps D job legal.length e.schedule xs (flat lists) m (subst (λ (n : ℕ). IsTask D job (pos n)) (sym long) task) sched legal.legal legal.turns original is;
           all = is.same.there;
         }
 
-    succeeds : (begins : List ℤ) (rest : ℕ) → begins ≡ scalars_at t (opening_at t chunk.first) → result ≡ Some rest → Succeeds t loops o chunk m begins left after rest
+    succeeds : (begins : List ℤ) (rest : ℕ) → begins ≡ scalars_at job.pred (opening_at job.pred job.chunk.first) → result ≡ Some rest → Succeeds job.pred job.loops job.outer job.chunk m begins left after rest
     succeeds begins rest first e =
         let launched = (task.launched).1 in
         let here = scheduled launched.list launched.original in
@@ -81,25 +81,25 @@ module _ (D scalars words : ℕ) (loops : List Loop) (t : Table) (o : Outer) (ch
                 follows = sym there.keeps ∙ h.run ∙ (let q = h.suffice in let r = g.suffice in let n : h.steps ≡ g.steps = omega (arith, q, r) in ap (λ (k : ℕ). Some (record { memory = after; steps = k })) n);
                 suffice = let r = g.suffice in omega (arith, r);
               };
-          closes = closing-fits D scalars words loops t o chunk task launched.list launched.original (λ x h. g.closes x (here.all x h));
+          closes = closing-fits D job words task launched.list launched.original (λ x h. g.closes x (here.all x h));
         }
 
-    pub fails : (begins : List ℤ) → result ≡ None → Fails t loops o chunk m begins left
+    pub fails : (begins : List ℤ) → result ≡ None → Fails job.pred job.loops job.outer job.chunk m begins left
     fails begins e xs r original chained =
         let here = scheduled xs original in
         let l = here.part-of None e r (here.keeps ∙ chained.follows) in
         let few = chained.suffice in
         omega (arith, l, few)
 
-    pub attempted : (begins : List ℤ) → begins ≡ scalars_at t (opening_at t chunk.first) → IsAttempt t loops o chunk m begins left result after
+    pub attempted : (begins : List ℤ) → begins ≡ scalars_at job.pred (opening_at job.pred job.chunk.first) → IsAttempt job.pred job.loops job.outer job.chunk m begins left result after
     attempted begins first = by result refl
       where
-        by : (r : Option ℕ) → result ≡ r → IsAttempt t loops o chunk m begins left r after
+        by : (r : Option ℕ) → result ≡ r → IsAttempt job.pred job.loops job.outer job.chunk m begins left r after
         by None e = fails begins e
         by (Some rest) e = succeeds begins rest first e
 
   -- a chunk that begins with other scalars
-  pub fails-at-once : (m begins : List ℤ) (left : ℕ) → (begins ≡ scalars_at t (opening_at t chunk.first) → ⊥) → Fails t loops o chunk m begins left
+  pub fails-at-once : (m begins : List ℤ) (left : ℕ) → (begins ≡ scalars_at job.pred (opening_at job.pred job.chunk.first) → ⊥) → Fails job.pred job.loops job.outer job.chunk m begins left
   fails-at-once m begins left apart xs r original chained = apart chained.begins
 
 -- ---- where the plain run of a chunk ends, with the steps that were used before
@@ -146,29 +146,29 @@ ends-cut t s left used closing r bare few ends = by (nat_le (length t.entries) l
 
 -- ---- the plain run of a chunk
 
-module _ (D scalars words : ℕ) (loops : List Loop) (t : Table) (o : Outer) (chunk : Chunk) (task : IsTask D scalars loops t o chunk (pos words)) (a : Between) (size : length a.scalars ≡ scalars) where
-  law : (xs : List Instance) → IsOriginal t chunk xs → (k : ℕ) → a.steps.left < k
-      → (FollowsPrediction (forecast_of t) (run_from t loops o chunk a k) ↔ ((r : Outcome) × Chained t loops o chunk xs (store_in a) a.steps.left r))
-      × ((r : Outcome) → Chained t loops o chunk xs (store_in a) a.steps.left r → Ends (turns_from loops o chunk a k) (store_in a) a.steps.left (scalars_at t (behind t chunk)) r)
+module _ (D : ℕ) (job : TaskState) (words : ℕ) (task : IsTask D job (pos words)) (a : Between) (size : length a.scalars ≡ job.scalars) where
+  law : (xs : List Instance) → IsOriginal job.pred job.chunk xs → (k : ℕ) → a.steps.left < k
+      → (FollowsPrediction (forecast_of job.pred) (run_from job.pred job.loops job.outer job.chunk a k) ↔ ((r : Outcome) × Chained job.pred job.loops job.outer job.chunk xs (store_in a) a.steps.left r))
+      × ((r : Outcome) → Chained job.pred job.loops job.outer job.chunk xs (store_in a) a.steps.left r → Ends (turns_from job.loops job.outer job.chunk a k) (store_in a) a.steps.left (scalars_at job.pred (behind job.pred job.chunk)) r)
   law xs original k less =
-      chain-at-predictions D scalars loops t o chunk xs k (store_in a) a.steps.left task.shape (tasks-are-chunks D scalars loops t o chunk (pos words) task) original size refl less
+      chain-at-predictions D job.scalars job.loops job.pred job.outer job.chunk xs k (store_in a) a.steps.left task.shape (tasks-are-chunks D job (pos words) task) original size refl less
 
-  pub deviates : Fails t loops o chunk a.words a.scalars a.steps.left → Deviates t loops o chunk a
+  pub deviates : Fails job.pred job.loops job.outer job.chunk a.words a.scalars a.steps.left → Deviates job.pred job.loops job.outer job.chunk a
   deviates fails k less =
       let launched = (task.launched).1 in
-      ⊎_elim (λ d. d) (λ f. let r = (law launched.list launched.original k less).0.0 f in absurd (fails launched.list r.0 launched.original r.1)) (deviates-or-follows (forecast_of t) (run_from t loops o chunk a k))
+      ⊎_elim (λ d. d) (λ f. let r = (law launched.list launched.original k less).0.0 f in absurd (fails launched.list r.0 launched.original r.1)) (deviates-or-follows (forecast_of job.pred) (run_from job.pred job.loops job.outer job.chunk a k))
 
-  module _ (after : List ℤ) (rest : ℕ) (s : Succeeds t loops o chunk a.words a.scalars a.steps.left after rest) where
+  module _ (after : List ℤ) (rest : ℕ) (s : Succeeds job.pred job.loops job.outer job.chunk a.words a.scalars a.steps.left after rest) where
     abbrev outcome : Outcome
     outcome = record { memory = after; steps = s.steps }
 
-    pub follows : Follows t loops o chunk a
+    pub follows : Follows job.pred job.loops job.outer job.chunk a
     follows k less = let launched = (task.launched).1 in (law launched.list launched.original k less).0.1 (outcome, s.chained launched.list launched.original)
 
-    pub leads-to : (used : ℕ) → used ≡ a.steps.used + s.steps → LeadsTo loops o chunk a (between after (scalars_at t (behind t chunk)) (record { left = rest; used = used }))
+    pub leads-to : (used : ℕ) → used ≡ a.steps.used + s.steps → LeadsTo job.loops job.outer job.chunk a (between after (scalars_at job.pred (behind job.pred job.chunk)) (record { left = rest; used = used }))
     leads-to used is k less =
         let launched = (task.launched).1 in
         let chained = s.chained launched.list launched.original in
         let few = s.suffice in
-        ends-cut (turns_from loops o chunk a k) (store_in a) a.steps.left a.steps.used (scalars_at t (behind t chunk)) outcome refl chained.suffice ((law launched.list launched.original k less).1 outcome chained)
-        ∙ ap₂ (λ (l u : ℕ). cut_of (store_of after (scalars_at t (behind t chunk)) []) l u Done) (let e : a.steps.left - s.steps ≡ rest = omega (arith, few) in e) (sym is)
+        ends-cut (turns_from job.loops job.outer job.chunk a k) (store_in a) a.steps.left a.steps.used (scalars_at job.pred (behind job.pred job.chunk)) outcome refl chained.suffice ((law launched.list launched.original k less).1 outcome chained)
+        ∙ ap₂ (λ (l u : ℕ). cut_of (store_of after (scalars_at job.pred (behind job.pred job.chunk)) []) l u Done) (let e : a.steps.left - s.steps ≡ rest = omega (arith, few) in e) (sym is)

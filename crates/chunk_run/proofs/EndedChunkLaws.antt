@@ -3,8 +3,8 @@ use Rattle.std.proofs.Common.{◌≡◌, ap, subst, ℕ, ◌≤◌, ◌+◌, ◌
 use Rattle.std.proofs.lemmas.List.{length-map}
 use Rattle.core_steps.specs.declared.view.View.{View}
 use Rattle.skeletons.specs.Cells.{Extent}
+use Rattle.follow_chunk.specs.Tasks.{TaskState}
 use Rattle.crew.specs.declared.handed.Handed.{Handed}
-use Rattle.verified_turns.specs.Workers.{TaskState}
 use Rattle.tiles.specs.Plans.{ChunkPlan}
 use Rattle.chunk_run.specs.Ready.{IsReady}
 use Rattle.chunk_run.specs.Groups.{GainsBegun, GainsWhole, AttemptGains, RunsOn}

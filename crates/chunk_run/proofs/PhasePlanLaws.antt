@@ -12,8 +12,9 @@ use Rattle.domain.specs.Tables.{Table}
 use Rattle.domain.specs.Instances.{Instance, Predicted}
 use Rattle.domain.specs.Footprints.{Reads, Writes}
 use Rattle.skeletons.specs.Cells.{Cell, Extent, AreListsOf}
+use Rattle.follow_chunk.specs.Tasks.{TaskState}
 use Rattle.tiles.specs.Plans.{AreTilesOf}
-use Rattle.verified_turns.specs.Workers.{TaskState, StaysWithin}
+use Rattle.verified_turns.specs.Workers.{StaysWithin}
 use Rattle.chunk_run.proofs.RestoringLaws.{has-contained}
 
 contained-has : (a : ℕ) (xs : List ℕ) → has a xs ≡ true → Contains xs a

@@ -5,9 +5,9 @@ use Rattle.atomic_table.specs.Seated.{TableId}
 use Rattle.shared_words.specs.Memories.{signed}
 use Rattle.domain.specs.Instances.{Instance}
 use Rattle.skeletons.specs.Cells.{Extent, AreListsOf}
+use Rattle.follow_chunk.specs.Tasks.{TaskState}
 use Rattle.tiles.specs.Plans.{ChunkPlan, Phase}
 use Rattle.crew.specs.declared.handed.Handed.{Handed}
-use Rattle.verified_turns.specs.Workers.{TaskState}
 use Rattle.phase_run.specs.Postings.{PostingState, IsPostable}
 use Rattle.phase_run.specs.Phases.{PhaseRan, OthersKeep, GainsEntry}
 use Rattle.chunk_run.specs.Parts.{HasSteps, ChangesChunk, phase_at}

@@ -14,9 +14,9 @@ use Rattle.domain.specs.Tables.{Table}
 use Rattle.domain.specs.Instances.{Instance, Predicted, IsOriginal, padded}
 use Rattle.skeletons.specs.Cells.{Cell, CellComes, Extent, AreListsOf, cell_of}
 use Rattle.follow_chunk.proofs.ListingLaws.{split-at}
+use Rattle.follow_chunk.specs.Tasks.{TaskState}
 use Rattle.tiles.specs.Plans.{ChunkPlan, Phase, IsOnePhase, IsPhaseOf, cells_of}
 use Rattle.tiles.proofs.PlanLaws.{launched-few}
-use Rattle.verified_turns.specs.Workers.{TaskState}
 use Rattle.phase_run.specs.Postings.{IsPostable}
 use Rattle.chunk_run.specs.Parts.{phase_at}
 use Rattle.chunk_run.specs.Ready.{IsReady}
@@ -43,7 +43,7 @@ module _ (D words workers : ℕ) (k : TaskState) (e : Extent) (plan : ChunkPlan)
           in-phases (p ∷ phases) cell h = omega arith
 
       by : (chunk : Chunk) → chunk ≡ k.chunk → (xs : List Instance) → IsOriginal k.pred k.chunk xs → 0 < length plan.phases
-      by chunk is [] original = absurd (not-empty D k.scalars words k.loops k.pred k.outer k.chunk ready.task original)
+      by chunk is [] original = absurd (not-empty D k words ready.task original)
       by chunk is (x ∷ xs) original = here x (subst (λ (t : Table). Predicted t e.chunk x) (sym ready.same_table) (subst (λ (c : Chunk). Predicted k.pred c x) (sym ready.same_chunk) ((original.has x).0 (0, omega arith, refl))))
 
   pub all-one : AllByRecursion IsOnePhase plan.phases

@@ -16,8 +16,8 @@ use Rattle.domain.specs.Instances.{Instance, Predicted}
 use Rattle.domain.specs.Footprints.{Writes}
 use Rattle.shared_words.specs.Memories.{signed}
 use Rattle.skeletons.specs.Cells.{Cell, Extent, AreListsOf}
+use Rattle.follow_chunk.specs.Tasks.{TaskState}
 use Rattle.tiles.specs.Plans.{AreTilesOf}
-use Rattle.verified_turns.specs.Workers.{TaskState}
 use Rattle.verified_turns.proofs.FollowingLaws.{runs-are-follow-runs}
 use Rattle.phase_run.specs.Phases.{PhaseRan, OthersKeep}
 use Rattle.chunk_run.specs.Parts.{Takes, HasSteps, IsPartOf, ChangesChunk}

@@ -39,34 +39,34 @@ from-position [] o at = absurd at
 from-position (l ∷ ls) o at = from-head l.head o at
 
 pub scheduled-keeps : ScheduledKeeps
-scheduled-keeps D scalars loops t o chunk L s xs ys words task sched legal most original scheduled =
-    sym (permutation-keeps (forecast_of t) (scalars_after t) (items_at t loops o xs) (items_at t loops o ys) words (differ-map Run xs (apart xs (λ x h. h)) xs-differ) (differ-map Run ys (apart ys scheduled.same.back) ys-differ) (same-map Run xs ys scheduled.same) keeps)
+scheduled-keeps D job L s xs ys words task sched legal most original scheduled =
+    sym (permutation-keeps (forecast_of job.pred) (scalars_after job.pred) (items_at job.pred job.loops job.outer xs) (items_at job.pred job.loops job.outer ys) words (differ-map Run xs (apart xs (λ x h. h)) xs-differ) (differ-map Run ys (apart ys scheduled.same.back) ys-differ) (same-map Run xs ys scheduled.same) keeps)
   where
     Run : Instance → Item
-    Run x = item_at t loops o x
+    Run x = item_at job.pred job.loops job.outer x
 
-    launch : IsShortLaunch t L (pos (length words)) chunk
-    launch = record { first = subst (λ (z : ℤ). pos 0 ≤ℤ z) (sym task.first) (from-position loops o task.position); turns = most; instances = (task.launched).0; launched = (task.launched).1 }
+    launch : IsShortLaunch job.pred L (pos (length words)) job.chunk
+    launch = record { first = subst (λ (z : ℤ). pos 0 ≤ℤ z) (sym task.first) (from-position job.loops job.outer task.position); turns = most; instances = (task.launched).0; launched = (task.launched).1 }
 
-    kept : KeepsConflicts t (pos (length words)) s xs ys
-    kept = conflict_law D t L (pos (length words)) s chunk xs ys task.shape sched legal launch original scheduled
+    kept : KeepsConflicts job.pred (pos (length words)) s xs ys
+    kept = conflict_law D job.pred L (pos (length words)) s job.chunk xs ys task.shape sched legal launch original scheduled
 
-    predicted : (x : Instance) → Has xs x → Predicted t chunk x
+    predicted : (x : Instance) → Has xs x → Predicted job.pred job.chunk x
     predicted x h = (original.has x).0 (contains-from-has xs x h)
 
-    back-to : (x : Instance) → Predicted t chunk x → instance_of t (Run x).at ≡ x
-    back-to x p = ap (instance_of t) (instances-have-items D scalars (length words) loops t o chunk x task p).1 ∙ instances-return D t x task.shape p.is
+    back-to : (x : Instance) → Predicted job.pred job.chunk x → instance_of job.pred (Run x).at ≡ x
+    back-to x p = ap (instance_of job.pred) (instances-have-items D job (length words) x task p).1 ∙ instances-return D job.pred x task.shape p.is
 
     apart : (zs : List Instance) → ((x : Instance) → Has zs x → Has xs x) → (x y : Instance) → Has zs x → Has zs y → Run x ≡ Run y → x ≡ y
-    apart zs there x y h k e = sym (back-to x (predicted x (there x h))) ∙ ap (λ (i : Item). instance_of t i.at) e ∙ back-to y (predicted y (there y k))
+    apart zs there x y h k e = sym (back-to x (predicted x (there x h))) ∙ ap (λ (i : Item). instance_of job.pred i.at) e ∙ back-to y (predicted y (there y k))
 
     xs-differ : Ordered Differ xs
-    xs-differ = ordered-weaker (Precedes t) Differ (λ x y r e. never-itself (slice_cmp int_cmp) (lists_total int_cmp_total) (original_key t) x (subst (Precedes t x) (sym e) r)) xs (in-order (Precedes t) xs original.ordered)
+    xs-differ = ordered-weaker (Precedes job.pred) Differ (λ x y r e. never-itself (slice_cmp int_cmp) (lists_total int_cmp_total) (original_key job.pred) x (subst (Precedes job.pred x) (sym e) r)) xs (in-order (Precedes job.pred) xs original.ordered)
 
     ys-differ : Ordered Differ ys
-    ys-differ = ordered-weaker (ByKey (slice_cmp int_cmp) (key_at t s)) Differ (λ x y r e. never-itself (slice_cmp int_cmp) (lists_total int_cmp_total) (key_at t s) x (subst (ByKey (slice_cmp int_cmp) (key_at t s) x) (sym e) r)) ys scheduled.ordered
+    ys-differ = ordered-weaker (ByKey (slice_cmp int_cmp) (key_at job.pred s)) Differ (λ x y r e. never-itself (slice_cmp int_cmp) (lists_total int_cmp_total) (key_at job.pred s) x (subst (ByKey (slice_cmp int_cmp) (key_at job.pred s) x) (sym e) r)) ys scheduled.ordered
 
-    keeps : (i j : Item) → list.Conflict (forecast_of t) (length words) i j → Before (items_at t loops o xs) i j → Before (items_at t loops o ys) i j
+    keeps : (i j : Item) → list.Conflict (forecast_of job.pred) (length words) i j → Before (items_at job.pred job.loops job.outer xs) i j → Before (items_at job.pred job.loops job.outer ys) i j
     keeps i j conflict h =
         let found = before-unmap Run xs i j h in
         let x = found.0 in
@@ -74,7 +74,7 @@ scheduled-keeps D scalars loops t o chunk L s xs ys words task sched legal most 
         let before = found.2 in
         let first = before-first Run xs x y before in
         let second = before-second Run xs x y before in
-        let real : table.Conflict t (pos (length words)) x y =
-        (conflicts-agree D scalars (length words) loops t o chunk x y task (predicted x first) (predicted y second)).0
-        (subst (λ w. list.Conflict (forecast_of t) (length words) w (Run y)) found.3 (subst (λ w. list.Conflict (forecast_of t) (length words) i w) found.4 conflict)) in
-        subst (λ w. Before (items_at t loops o ys) w j) (sym found.3) (subst (λ w. Before (items_at t loops o ys) (Run x) w) (sym found.4) (before-map Run ys x y ((kept.order x y real).0 before)))
+        let real : table.Conflict job.pred (pos (length words)) x y =
+        (conflicts-agree D job (length words) x y task (predicted x first) (predicted y second)).0
+        (subst (λ w. list.Conflict (forecast_of job.pred) (length words) w (Run y)) found.3 (subst (λ w. list.Conflict (forecast_of job.pred) (length words) i w) found.4 conflict)) in
+        subst (λ w. Before (items_at job.pred job.loops job.outer ys) w j) (sym found.3) (subst (λ w. Before (items_at job.pred job.loops job.outer ys) (Run x) w) (sym found.4) (before-map Run ys x y ((kept.order x y real).0 before)))

@@ -12,7 +12,7 @@ use Rattle.orders.specs.Runs.{Outcome}
 use Rattle.follow.specs.FollowRuns.{follow_run}
 use Rattle.follow_chunk.specs.Predicted.{forecast_of}
 use Rattle.follow_chunk.specs.Items.{items_at, scalars_after}
-use Rattle.follow_chunk.specs.Tasks.{IsTask}
+use Rattle.follow_chunk.specs.Tasks.{TaskState, IsTask}
 
 -- the follow run of instances of a nest by what a table predicts of them, over these words: each is expected to leave the
 -- scalars that its successor begins with
@@ -23,6 +23,6 @@ followed t loops o xs words = follow_run (forecast_of t) (scalars_after t) (item
 -- most L turns is that of *Predicted*: the same memory and the same steps, or None for both
 abbrev pub ScheduledKeeps : Type 0
 ScheduledKeeps =
-    (D scalars : ℕ) (loops : List Loop) (t : Table) (o : Outer) (chunk : Chunk) (L : ℤ) (s : Schedule) (xs ys : List Instance) (words : List ℤ)
-    → IsTask D scalars loops t o chunk (pos (length words)) → IsSchedule D s → Legal t s L → chunk.turns ≤ℤ L
-    → IsOriginal t chunk xs → IsScheduled t s xs ys → followed t loops o ys words ≡ followed t loops o xs words
+    (D : ℕ) (k : TaskState) (L : ℤ) (s : Schedule) (xs ys : List Instance) (words : List ℤ)
+    → IsTask D k (pos (length words)) → IsSchedule D s → Legal k.pred s L → k.chunk.turns ≤ℤ L
+    → IsOriginal k.pred k.chunk xs → IsScheduled k.pred s xs ys → followed k.pred k.loops k.outer ys words ≡ followed k.pred k.loops k.outer xs words

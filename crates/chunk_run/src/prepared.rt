@@ -2,7 +2,7 @@
 
 ghost use Rattle.std.specs.Prelude.{◌≡◌, ◌+◌, ◌-◌, ◌^◌, ◌<◌, ◌≤◌, false, length, vec_len, vec_capacity};
 ghost use Rattle.shared_words.specs.Memories.{signed};
-ghost use Rattle.verified_turns.specs.Workers.{task_state};
+ghost use Rattle.follow_chunk.specs.Tasks.{task_of};
 ghost use Rattle.phase_run.specs.Phases.{next_view};
 ghost use Rattle.chunk_run.specs.Parts.{HasSteps, ChangesChunk, phase_at};
 ghost use Rattle.chunk_run.specs.Ready.{IsReady};
@@ -34,7 +34,7 @@ pub fn run_number<'a, C: Crew, const D: usize>(
     workers: &mut Vec<Worker<'a, TileWalk<'a, D>, D>>,
     crew: &mut C,
 ) -> Option<u64>
-    requires ready { let c = chunk.now in let k = c.launch.task.now in IsReady D (length main.old.view.base) c.launch.workers (task_state k.scalars k.nest.now.loops k.pred.now k.outer k.chunk) c.skeleton.now c.plan.now }
+    requires ready { let c = chunk.now in let k = c.launch.task.now in IsReady D (length main.old.view.base) c.launch.workers (task_of k) c.skeleton.now c.plan.now }
     requires number { number < length chunk.now.plan.now.phases }
     requires table { main.old.table ≡ chunk.now.launch.words.now }
     requires unposted { main.old.view.posted ≡ false }

@@ -2,8 +2,7 @@
 
 ghost use Rattle.std.specs.Prelude.{◌≡◌, ◌+◌, ◌<◌, ◌≤◌, ◌^◌, false, length, pos, vec_len, vec_capacity, IfOk, OnErr};
 ghost use Rattle.shared_words.specs.Memories.{signed};
-ghost use Rattle.follow_chunk.specs.Tasks.{IsTask};
-ghost use Rattle.verified_turns.specs.Workers.{task_state};
+ghost use Rattle.follow_chunk.specs.Tasks.{task_of, IsTask};
 ghost use Rattle.chunk_run.specs.Parts.{ChangesChunk, IsAttempt};
 ghost use Rattle.chunk_run.specs.Ready.{IsReady};
 ghost use Rattle.chunk_run.specs.ChunkEnds.{IsLegalFor, HasEnded, between};
@@ -47,7 +46,7 @@ fn run_phases<'a, C: Crew, const D: usize>(
     crew: &mut C,
     left: u64,
 ) -> Option<u64>
-    requires ready { let c = chunk.now in let k = c.launch.task.now in IsReady D (length main.old.view.base) c.launch.workers (task_state k.scalars k.nest.now.loops k.pred.now k.outer k.chunk) c.skeleton.now c.plan.now }
+    requires ready { let c = chunk.now in let k = c.launch.task.now in IsReady D (length main.old.view.base) c.launch.workers (task_of k) c.skeleton.now c.plan.now }
     requires scalars { length scalars.now ≡ chunk.now.launch.task.now.scalars }
     requires table { main.old.table ≡ chunk.now.launch.words.now }
     requires unposted { main.old.view.posted ≡ false }
@@ -85,7 +84,7 @@ fn attempt<'a, C: Crew, const D: usize>(
     crew: &mut C,
     left: u64,
 ) -> Result<Option<u64>, AllocError>
-    requires ready { let c = chunk.now in let k = c.launch.task.now in IsReady D (length main.old.view.base) c.launch.workers (task_state k.scalars k.nest.now.loops k.pred.now k.outer k.chunk) c.skeleton.now c.plan.now }
+    requires ready { let c = chunk.now in let k = c.launch.task.now in IsReady D (length main.old.view.base) c.launch.workers (task_of k) c.skeleton.now c.plan.now }
     requires scalars { length scalars.now ≡ chunk.now.launch.task.now.scalars }
     requires table { main.old.table ≡ chunk.now.launch.words.now }
     requires unposted { main.old.view.posted ≡ false }
@@ -122,7 +121,7 @@ pub fn run_chunk<C: Crew, const D: usize>(
     crew: &mut C,
 ) -> Result<ChunkEnd, AllocError>
     requires few { D < 7 }
-    requires task { let k = launch.now.task.now in IsTask D k.scalars k.nest.now.loops k.pred.now k.outer k.chunk (pos (length main.old.view.base)) }
+    requires task { let k = launch.now.task.now in IsTask D (task_of k) (pos (length main.old.view.base)) }
     requires legal { let l = launch.now in IsLegalFor l.task.now.pred.now l.schedule.now l.task.now.chunk }
     requires workers { (0 < launch.now.workers) × (launch.now.workers ≤ 64) }
     requires table { main.old.table ≡ launch.now.words.now }

@@ -3,7 +3,7 @@
 ghost use Rattle.std.specs.Prelude.{◌≡◌, ◌↔◌, ◌<◌, length, IsTrue};
 ghost use Rattle.domain.specs.Instances.{opening_at};
 ghost use Rattle.follow_chunk.specs.Predicted.{scalars_at};
-ghost use Rattle.follow_chunk.specs.Tasks.{IsSomeTask};
+ghost use Rattle.follow_chunk.specs.Tasks.{task_of, IsSomeTask};
 ghost use Rattle.chunk_run.specs.Parts.{ClosingFits};
 ghost use Rattle.compare.specs.ChainLaw.{behind};
 
@@ -12,7 +12,7 @@ use follow_chunk::{Task, narrowed, scalars_at};
 
 /// The first block at a turn, with inner counters 0.
 fn opening<const D: usize>(task: &Task<'_, D>, turn: i64) -> Instance<D>
-    requires { IsSomeTask D task.now.scalars task.now.nest.now.loops task.now.pred.now task.now.outer task.now.chunk }
+    requires { IsSomeTask D (task_of task.now) }
     ensures { result ≡ opening_at task.now.pred.now turn }
 {
     let mut at = [0; D];
@@ -36,7 +36,7 @@ fn are_same(scalars: &[i64], expected: &[i128]) -> bool
 /// Whether these are the scalars that are expected of the chunk's first instance.
 pub fn begins<const D: usize>(task: &Task<'_, D>, scalars: &[i64]) -> bool
     requires few { D < 7 }
-    requires task { IsSomeTask D task.now.scalars task.now.nest.now.loops task.now.pred.now task.now.outer task.now.chunk }
+    requires task { IsSomeTask D (task_of task.now) }
     requires count { length scalars.now ≡ task.now.scalars }
     ensures { IsTrue result ↔ (scalars.now ≡ scalars_at task.now.pred.now (opening_at task.now.pred.now task.now.chunk.first)) }
 {
@@ -48,7 +48,7 @@ pub fn begins<const D: usize>(task: &Task<'_, D>, scalars: &[i64]) -> bool
 /// Sets the scalars to those that are expected after the chunk's last instance, which are i64s.
 pub fn set_closing<const D: usize>(task: &Task<'_, D>, scalars: &mut [i64])
     requires few { D < 7 }
-    requires task { IsSomeTask D task.now.scalars task.now.nest.now.loops task.now.pred.now task.now.outer task.now.chunk }
+    requires task { IsSomeTask D (task_of task.now) }
     requires count { length scalars.old ≡ task.now.scalars }
     requires fits { ClosingFits task.now.pred.now task.now.chunk }
     ensures { scalars.new ≡ scalars_at task.now.pred.now (behind task.now.pred.now task.now.chunk) }

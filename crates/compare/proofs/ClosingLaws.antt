@@ -13,6 +13,7 @@ use Rattle.follow.specs.declared.how.How.TheVariants as how
 use Rattle.follow.specs.Hows.{how_halted}
 use Rattle.follow_chunk.specs.declared.task.Deviation as code
 use Rattle.follow_chunk.specs.Predicted.{occurrence_of, instance_of}
+use Rattle.follow_chunk.specs.Tasks.{TaskState}
 use Rattle.compare.specs.ChainLaw.{behind}
 use Rattle.compare.specs.Chunks.{IsWatchable}
 use Rattle.compare.specs.Differences.{difference, scalars_difference}
@@ -21,15 +22,15 @@ use Rattle.compare.specs.Compared.{IsFirstKept}
 use Rattle.compare.proofs.PredictingLaws.{behind-occurs}
 use Rattle.compare.proofs.WatchLaws.{watched, found-deviates, halt-deviates, limit-deviates, closes-differ, closes-agree}
 
-module _ (D n : ℕ) (t : Table) (loops : List Loop) (o : Outer) (chunk : Chunk) (w : IsWatchable D n loops t o chunk) (at : Instance) (first : Option (code.Deviation D)) where
+module _ (D : ℕ) (job : TaskState) (w : IsWatchable D job) (at : Instance) (first : Option (code.Deviation D)) where
   abbrev self : Comparison
-  self = record { table = t; chunk = chunk; at = at; first = option_map found_of first }
+  self = record { table = job.pred; chunk = job.chunk; at = at; first = option_map found_of first }
 
   abbrev next : Occurrence
-  next = occurrence_of t (behind t chunk)
+  next = occurrence_of job.pred (behind job.pred job.chunk)
 
-  next-is : instance_of t (occurrence_of t (behind t chunk)) ≡ behind t chunk
-  next-is = behind-occurs D n t loops w.shape w.next.table o chunk w.next
+  next-is : instance_of job.pred (occurrence_of job.pred (behind job.pred job.chunk)) ≡ behind job.pred job.chunk
+  next-is = behind-occurs D job.scalars job.pred job.loops w.shape w.next.table job.outer job.chunk w.next
 
   no-first : is_some first ≡ false → option_map found_of first ≡ None
   no-first e = by first e
@@ -46,10 +47,10 @@ module _ (D n : ℕ) (t : Table) (loops : List Loop) (o : Outer) (chunk : Chunk)
     where
       by : (f : Option (code.Deviation D)) → first ≡ f → is_some f ≡ true → Right finish scalars f
       by None is e = absurd (cc)
-      by (Some d) is e = watched D self finish scalars (Some d) (λ os shown. found-deviates t chunk next next-is D os scalars self shown finish d (ap (option_map found_of) is))
+      by (Some d) is e = watched D self finish scalars (Some d) (λ os shown. found-deviates job.pred job.chunk next next-is D os scalars self shown finish d (ap (option_map found_of) is))
 
   halt-closes : (halt : Halt) (scalars : List ℤ) (d : code.Deviation D) → is_some first ≡ false → d.at ≡ at → d.how ≡ how_halted halt → Right (Halted halt) scalars (Some d)
-  halt-closes halt scalars d e here how = watched D self (Halted halt) scalars (Some d) (λ os shown. halt-deviates t chunk next next-is D os scalars self shown halt d (no-first e) here how)
+  halt-closes halt scalars d e here how = watched D self (Halted halt) scalars (Some d) (λ os shown. halt-deviates job.pred job.chunk next next-is D os scalars self shown halt d (no-first e) here how)
 
   pub ended-closes : (finish : Finish) (scalars : List ℤ) → is_some first ≡ false → finish ≡ Halted Over → Right finish scalars (Some (record { at = at; how = how.Ended }))
   ended-closes finish scalars e is = subst (λ (f : Finish). Right f scalars (Some (record { at = at; how = how.Ended }))) (sym is) (halt-closes Over scalars (record { at = at; how = how.Ended }) e refl refl)
@@ -61,27 +62,27 @@ module _ (D n : ℕ) (t : Table) (loops : List Loop) (o : Outer) (chunk : Chunk)
   pub limited-closes : (finish : Finish) (scalars : List ℤ) → is_some first ≡ false → finish ≡ Limited → Right finish scalars (Some (record { at = at; how = how.Limit }))
   limited-closes finish scalars e is =
       let d : code.Deviation D = record { at = at; how = how.Limit } in
-      subst (λ (f : Finish). Right f scalars (Some d)) (sym is) (watched D self Limited scalars (Some d) (λ os shown. limit-deviates t chunk next next-is D os scalars self shown d (no-first e) refl refl))
+      subst (λ (f : Finish). Right f scalars (Some d)) (sym is) (watched D self Limited scalars (Some d) (λ os shown. limit-deviates job.pred job.chunk next next-is D os scalars self shown d (no-first e) refl refl))
 
   pub went-closes : (finish : Finish) (scalars : List ℤ) (result : Option (code.Deviation D)) → is_some first ≡ false → finish ≡ Done
-      → option_map found_of result ≡ option_map (found_at (behind t chunk)) (scalars_difference t (behind t chunk) 0 scalars) → Right finish scalars result
-  went-closes finish scalars result e is same = subst (λ (f : Finish). Right f scalars result) (sym is) (by result (scalars_difference t (behind t chunk) 0 scalars) refl same)
+      → option_map found_of result ≡ option_map (found_at (behind job.pred job.chunk)) (scalars_difference job.pred (behind job.pred job.chunk) 0 scalars) → Right finish scalars result
+  went-closes finish scalars result e is same = subst (λ (f : Finish). Right f scalars result) (sym is) (by result (scalars_difference job.pred (behind job.pred job.chunk) 0 scalars) refl same)
     where
-      by : (r : Option (code.Deviation D)) (h : Option How) → scalars_difference t (behind t chunk) 0 scalars ≡ h → option_map found_of r ≡ option_map (found_at (behind t chunk)) h → Right Done scalars r
-      by None None f g = watched D self Done scalars None (λ os shown. closes-agree t chunk next next-is D os scalars self shown (no-first e) f)
+      by : (r : Option (code.Deviation D)) (h : Option How) → scalars_difference job.pred (behind job.pred job.chunk) 0 scalars ≡ h → option_map found_of r ≡ option_map (found_at (behind job.pred job.chunk)) h → Right Done scalars r
+      by None None f g = watched D self Done scalars None (λ os shown. closes-agree job.pred job.chunk next next-is D os scalars self shown (no-first e) f)
       by None (Some h) f g = absurd (cc)
       by (Some d) None f g = absurd (cc)
       by (Some d) (Some h) f g =
-          let k : ◌≡◌ {A = Found} (found_of d) (found_at (behind t chunk) h) = cc in
-          watched D self Done scalars (Some d) (λ os shown. closes-differ t chunk next next-is D os scalars self shown h d (no-first e) f (ap (λ (z : Found). z.at) k) (ap (λ (z : Found). z.how) k))
+          let k : ◌≡◌ {A = Found} (found_of d) (found_at (behind job.pred job.chunk) h) = cc in
+          watched D self Done scalars (Some d) (λ os shown. closes-differ job.pred job.chunk next next-is D os scalars self shown h d (no-first e) f (ap (λ (z : Found). z.at) k) (ap (λ (z : Found). z.how) k))
 
   -- what it keeps once it was shown one more thing
-  pub now-looked : (shown : Observation) (x : Instance) (h : Option How) (f : Option (code.Deviation D)) → is_some first ≡ false → x ≡ instance_of t shown.at → h ≡ difference t shown → option_map found_of f ≡ option_map (found_at x) h
-      → ◌≡◌ {A = Comparison} (record { table = t; chunk = chunk; at = x; first = option_map found_of f }) (looked self shown)
+  pub now-looked : (shown : Observation) (x : Instance) (h : Option How) (f : Option (code.Deviation D)) → is_some first ≡ false → x ≡ instance_of job.pred shown.at → h ≡ difference job.pred shown → option_map found_of f ≡ option_map (found_at x) h
+      → ◌≡◌ {A = Comparison} (record { table = job.pred; chunk = job.chunk; at = x; first = option_map found_of f }) (looked self shown)
   now-looked shown x h f e here how is = by first e
     where
-      by : (g : Option (code.Deviation D)) → is_some g ≡ false → ◌≡◌ {A = Comparison} (record { table = t; chunk = chunk; at = x; first = option_map found_of f }) (looked (record { table = t; chunk = chunk; at = at; first = option_map found_of g }) shown)
+      by : (g : Option (code.Deviation D)) → is_some g ≡ false → ◌≡◌ {A = Comparison} (record { table = job.pred; chunk = job.chunk; at = x; first = option_map found_of f }) (looked (record { table = job.pred; chunk = job.chunk; at = at; first = option_map found_of g }) shown)
       by None e =
-          ap₂ (λ (y : Instance) (q : Option Found). let c : Comparison = record { table = t; chunk = chunk; at = y; first = q } in c) here
+          ap₂ (λ (y : Instance) (q : Option Found). let c : Comparison = record { table = job.pred; chunk = job.chunk; at = y; first = q } in c) here
           (is ∙ ap₂ (λ (y : Instance) (q : Option How). option_map (found_at y) q) here how)
       by (Some d) e = absurd (cc)

@@ -19,4 +19,4 @@ pub turns-show-inner-trips : TurnsShowInnerTrips
 turns-show-inner-trips x k loops o c s left = turns-tell x k loops o c s left
 
 pub tasks-are-watchable : TasksAreWatchable
-tasks-are-watchable D n loops t o chunk words h = record { shape = h.shape; next = tasks-are-chunks D n loops t o chunk words h; soon = h.soon; most = h.most }
+tasks-are-watchable D k words h = record { shape = h.shape; next = tasks-are-chunks D k words h; soon = h.soon; most = h.most }

@@ -58,11 +58,11 @@ position-from (l ∷ ls) o h = at l.head h
     at (While condition) p = let e : o.next ≡ pos p.0 = p.1 in omega (arith, ints)
 
 pub tasks-are-chunks : TasksAreChunks
-tasks-are-chunks D n loops t o chunk words h = record {
+tasks-are-chunks D job words h = record {
   keeps = h.keeps.loops_keep;
   table = h.table;
   first = h.first;
-  from = subst (λ (z : ℤ). pos 0 ≤ℤ z) (sym h.first) (position-from loops o h.position);
+  from = subst (λ (z : ℤ). pos 0 ≤ℤ z) (sym h.first) (position-from job.loops job.outer h.position);
   some = h.some;
   turns = h.turns;
 }

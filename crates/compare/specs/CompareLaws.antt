@@ -15,7 +15,7 @@ use Rattle.follow.specs.Forecasts.{all_agree}
 use Rattle.follow.specs.Deviations.{IsFirst}
 use Rattle.follow.specs.Hows.{how_seen}
 use Rattle.follow_chunk.specs.Predicted.{instance_of, forecast_of}
-use Rattle.follow_chunk.specs.Tasks.{IsTask}
+use Rattle.follow_chunk.specs.Tasks.{TaskState, IsTask}
 use Rattle.compare.specs.Kept.{kept}
 use Rattle.compare.specs.Comparisons.{Comparison, fresh, IsOfTurns, MayCompare}
 use Rattle.compare.specs.Compared.{due_after}
@@ -49,4 +49,4 @@ TurnsShowInnerTrips = (x : Expectation) (k : ℕ) (loops : List Loop) (o : Outer
 
 -- the chunk of a task can be watched
 abbrev pub TasksAreWatchable : Type 0
-TasksAreWatchable = (D scalars : ℕ) (loops : List Loop) (t : Table) (o : Outer) (chunk : Chunk) (words : ℤ) → IsTask D scalars loops t o chunk words → IsWatchable D scalars loops t o chunk
+TasksAreWatchable = (D : ℕ) (k : TaskState) (words : ℤ) → IsTask D k words → IsWatchable D k

@@ -10,7 +10,7 @@ use Rattle.follow.specs.Plans.{planned, Item}
 use Rattle.follow.specs.Successors.{successor_scalars}
 use Rattle.follow_chunk.specs.Predicted.{occurrence_of, instance_of, scalars_at, forecast_of}
 use Rattle.follow_chunk.specs.Items.{item_at, items_at}
-use Rattle.follow_chunk.specs.Tasks.{IsTask}
+use Rattle.follow_chunk.specs.Tasks.{TaskState, IsTask}
 use Rattle.compare.specs.Chunks.{IsNextChunk}
 
 -- the planned instances of a chunk: those that the loops of the nest have by the expected trips
@@ -46,4 +46,4 @@ NextTurnOpens =
 
 -- the chunk of a task is one
 abbrev pub TasksAreChunks : Type 0
-TasksAreChunks = (D scalars : ℕ) (loops : List Loop) (t : Table) (o : Outer) (chunk : Chunk) (words : ℤ) → IsTask D scalars loops t o chunk words → IsNextChunk scalars loops t o chunk
+TasksAreChunks = (D : ℕ) (k : TaskState) (words : ℤ) → IsTask D k words → IsNextChunk k.scalars k.loops k.pred k.outer k.chunk

@@ -22,4 +22,5 @@ expected = record {
 
 -- turns 4 to 35 of it are a chunk that can be watched
 abbrev pub PremisesCanHold : Type 0
-PremisesCanHold = IsWatchable 1 1 nest expected (record { lower = pos 0; next = pos 4; left = Some 32 }) (record { first = pos 4; turns = pos 32 })
+PremisesCanHold =
+    IsWatchable 1 (record { scalars = 1; loops = nest; pred = expected; outer = record { lower = pos 0; next = pos 4; left = Some 32 }; chunk = record { first = pos 4; turns = pos 32 } })

@@ -2,6 +2,7 @@
 
 ghost use Rattle.std.specs.Prelude.{◌≡◌, ◌≤◌, length, option_map};
 ghost use Rattle.nest_lang.specs.Turns.{finish_of_turned};
+ghost use Rattle.follow_chunk.specs.Tasks.{task_of};
 ghost use Rattle.compare.specs.ChainLaw.{behind};
 ghost use Rattle.compare.specs.Chunks.{IsWatchable};
 ghost use Rattle.compare.specs.Comparisons.{Comparison, fresh, found_at, found_of, MayCompare};
@@ -31,13 +32,13 @@ impl<'a, const D: usize> Model for Compare<'a, D> {
 
     ghost view = { λ c. record { table = c.task.pred.now; chunk = c.task.chunk; at = c.at; first = option_map found_of c.first } };
 
-    ghost invariant = { λ c. IsWatchable D c.task.scalars c.task.nest.now.loops c.task.pred.now c.task.outer c.task.chunk };
+    ghost invariant = { λ c. IsWatchable D (task_of c.task) };
 }
 
 impl<'a, const D: usize> Compare<'a, D> {
     /// A watch of the task's chunk that was shown nothing.
     pub fn new(task: Task<'a, D>) -> Compare<'a, D>
-        requires { IsWatchable D task.scalars task.nest.now.loops task.pred.now task.outer task.chunk }
+        requires { IsWatchable D (task_of task) }
         ensures { result ≡ fresh task.entry.pred.now task.entry.chunk }
     {
         let at = opening(task.pred, task.chunk.first);
@@ -102,7 +103,7 @@ fn deviation<const D: usize>(at: Instance<D>, how: Option<How>) -> Option<Deviat
 
 /// The first closing scalar that differs from what the instance behind the chunk is expected to begin with.
 fn closing<const D: usize>(task: &Task<'_, D>, scalars: &[i64]) -> Option<Deviation<D>>
-    requires task { IsWatchable D task.now.scalars task.now.nest.now.loops task.now.pred.now task.now.outer task.now.chunk }
+    requires task { IsWatchable D (task_of task.now) }
     requires count { length scalars.now ≤ 256 }
     ensures { let last = behind task.now.pred.now task.now.chunk in option_map found_of result ≡ option_map (found_at last) (scalars_difference task.now.pred.now last 0 scalars.now) }
 {

@@ -6,6 +6,7 @@ ghost use Rattle.nest_lang.specs.Lookups.{lies_in};
 ghost use Rattle.follow.specs.Intervals.{interval_by};
 ghost use Rattle.nest_lang.specs.Traces.{Observation};
 ghost use Rattle.follow_chunk.specs.Predicted.{lower_at, instance_of};
+ghost use Rattle.follow_chunk.specs.Tasks.{task_of};
 ghost use Rattle.compare.specs.Chunks.{IsWatchable};
 ghost use Rattle.compare.specs.Comparisons.{IsOfTurns};
 ghost use Rattle.compare.specs.Occurrences.{occurrence_at};
@@ -171,7 +172,7 @@ pub(crate) fn difference<const D: usize>(
     what: Seen,
     value: i128,
 ) -> Option<How>
-    requires task { IsWatchable D task.now.scalars task.now.nest.now.loops task.now.pred.now task.now.outer task.now.chunk }
+    requires task { IsWatchable D (task_of task.now) }
     requires at { inst.now ≡ instance_of task.now.pred.now (occurrence_at occurrence.now) }
     ensures { let shown : Observation = record { at = occurrence_at occurrence.now; what = what; value = value } in IsOfTurns shown → result ≡ difference task.now.pred.now shown }
 {

@@ -6,6 +6,7 @@ ghost use Rattle.domain.specs.Tables.{IsTable, depth, trip};
 ghost use Rattle.domain.specs.Instances.{opening_at};
 ghost use Rattle.follow.specs.Forecasts.{expects_turn};
 ghost use Rattle.follow_chunk.specs.Predicted.{padded_to, instance_of, forecast_of};
+ghost use Rattle.follow_chunk.specs.Tasks.{task_of};
 ghost use Rattle.compare.specs.Chunks.{IsWatchable};
 ghost use Rattle.compare.specs.Occurrences.{occurrence_at};
 
@@ -52,7 +53,7 @@ fn padded<const D: usize>(counters: &[i64]) -> [i64; D]
 
 /// The rank of a block, and past the last one where the nest hasn't got it.
 fn rank<const D: usize>(task: &Task<'_, D>, block: BlockRef) -> u8
-    requires { IsWatchable D task.now.scalars task.now.nest.now.loops task.now.pred.now task.now.outer task.now.chunk }
+    requires { IsWatchable D (task_of task.now) }
     ensures { (x : traces.Occurrence) → x.block ≡ block → result ≡ (instance_of task.now.pred.now x).block }
 {
     match task.nest.rank(block) {
@@ -64,7 +65,7 @@ fn rank<const D: usize>(task: &Task<'_, D>, block: BlockRef) -> u8
 impl Occurrence<'_> {
     /// The instance that it is.
     pub(crate) fn instance<const D: usize>(&self, task: &Task<'_, D>) -> Instance<D>
-        requires { IsWatchable D task.now.scalars task.now.nest.now.loops task.now.pred.now task.now.outer task.now.chunk }
+        requires { IsWatchable D (task_of task.now) }
         ensures { result ≡ instance_of task.now.pred.now (occurrence_at self.now) }
     {
         Instance {
@@ -75,7 +76,7 @@ impl Occurrence<'_> {
 
     /// The expected trip of the loop with this head, of which these are the turn numbers around it.
     pub(crate) fn trip<const D: usize>(&self, task: &Task<'_, D>) -> i128
-        requires { IsWatchable D task.now.scalars task.now.nest.now.loops task.now.pred.now task.now.outer task.now.chunk }
+        requires { IsWatchable D (task_of task.now) }
         ensures { 2 ≤ self.now.block.level → result ≡ (forecast_of task.now.pred.now).trip self.now.block self.now.counters.now }
     {
         let loops = self.block.level.saturating_sub(1) as usize;
@@ -91,7 +92,7 @@ impl Occurrence<'_> {
 
     /// Whether the condition of a `while` is expected to hold.
     pub(crate) fn expects_turn<const D: usize>(&self, task: &Task<'_, D>) -> bool
-        requires { IsWatchable D task.now.scalars task.now.nest.now.loops task.now.pred.now task.now.outer task.now.chunk }
+        requires { IsWatchable D (task_of task.now) }
         ensures { result ≡ expects_turn (forecast_of task.now.pred.now) (occurrence_at self.now) }
     {
         if self.block.level <= 1 {

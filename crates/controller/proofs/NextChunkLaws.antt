@@ -13,7 +13,7 @@ use Rattle.domain.specs.declared.chunk.Chunk.{Chunk}
 use Rattle.domain.specs.Tables.{Table, IsTable}
 use Rattle.domain.specs.Launches.{IsLaunched}
 use Rattle.follow.specs.ChunkRuns.{HasTurns, HasTurnsIn}
-use Rattle.follow_chunk.specs.Tasks.{IsTask}
+use Rattle.follow_chunk.specs.Tasks.{TaskState, IsTask}
 use Rattle.chunk_run.specs.ChunkEnds.{IsLegalFor}
 use Rattle.profiling.specs.FirstProfiles.{has_turn}
 use Rattle.journeys.specs.Settings.{Setting, Moment, turns_within, chunk_turns, next_chunk, words_at}
@@ -42,6 +42,10 @@ has-turns (l ∷ ls) o c p = has-turns-at l.head o c p
 pub turns-are : (g : Setting) (m : Moment) (chunk : Chunk) → pos 1 ≤ℤ chunk.turns → chunk.turns ≤ℤ pos 1024 → chunk ≡ next_chunk g m → unsigned_abs (to_z w64 (of_z w64 chunk.turns)) ≡ chunk_turns g m
 turns-are g m chunk some most is =
     let fits : FitsSigned w64 chunk.turns = omega (arith, ints, some, most) in simp to_z-of_z (ap (λ (k : Chunk). unsigned_abs k.turns) is)
+
+-- the task of a chunk of a setting's nest
+abbrev pub job : Setting → Table → Outer → Chunk → TaskState
+job g t o chunk = record { scalars = g.scalars; loops = g.loops; pred = t; outer = o; chunk = chunk }
 
 module _ {D : ℕ} (g : Setting) (m : Moment) (set : IsSetting D g) (p : IsPlaced g m) (on : has_turn m.outer.left ≡ true) where
   pub chunk-some : 1 ≤ chunk_turns g m
@@ -80,7 +84,7 @@ module _ {D : ℕ} (g : Setting) (m : Moment) (set : IsSetting D g) (p : IsPlace
       let most = chunk-most in
       let fits : FitsSigned w64 (pos (chunk_turns g m)) = omega (arith, ints, most) in subst (λ (k : Chunk). FitsSigned w64 k.turns) (sym is) fits
 
-  next-task : (t : Table) (number : ℕ) → IsChosen g t number → (instances : ℕ) × IsLaunched t (words_at m) (next_chunk g m) instances → IsTask D g.scalars g.loops t m.outer (next_chunk g m) (words_at m)
+  next-task : (t : Table) (number : ℕ) → IsChosen g t number → (instances : ℕ) × IsLaunched t (words_at m) (next_chunk g m) instances → IsTask D (job g t m.outer (next_chunk g m)) (words_at m)
   next-task t number chosen launched = record {
     keeps = p.keeps;
     shape = subst (λ (n : ℕ). IsTable n t) set.depth chosen.shape;
@@ -105,11 +109,11 @@ module _ {D : ℕ} (g : Setting) (m : Moment) (set : IsSetting D g) (p : IsPlace
 
   -- the same of a setting, a position and a chunk that are these
   module _ (x : Setting) (o : Outer) (k : Chunk) (here : x ≡ g) (at : o ≡ m.outer) (next : k ≡ next_chunk g m) (t : Table) (number : ℕ) (chosen : IsChosen g t number) where
-    pub made-task : (instances : ℕ) × IsLaunched t (words_at m) k instances → IsTask D x.scalars x.loops t o k (words_at m)
+    pub made-task : (instances : ℕ) × IsLaunched t (words_at m) k instances → IsTask D (job x t o k) (words_at m)
     made-task launched =
         let task = next-task t number chosen (subst (λ (c : Chunk). (instances : ℕ) × IsLaunched t (words_at m) c instances) next launched) in
-        subst (λ (y : Setting). IsTask D y.scalars y.loops t o k (words_at m)) (sym here)
-        (subst (λ (q : Outer). IsTask D g.scalars g.loops t q k (words_at m)) (sym at) (subst (λ (c : Chunk). IsTask D g.scalars g.loops t m.outer c (words_at m)) (sym next) task))
+        subst (λ (y : Setting). IsTask D (job y t o k) (words_at m)) (sym here)
+        (subst (λ (q : Outer). IsTask D (job g t q k) (words_at m)) (sym at) (subst (λ (c : Chunk). IsTask D (job g t m.outer c) (words_at m)) (sym next) task))
 
     pub chosen-candidate : (s : Schedule) → s ≡ get_or x.candidates (number - 1) s → slice_get g.candidates (number - 1) ≡ Some s
     chosen-candidate s is =

@@ -4,7 +4,7 @@ ghost use Rattle.std.specs.Prelude.{◌≡◌, ◌<◌, ◌≤◌, ◌-◌, ◌^
 ghost use Rattle.nest_lang.specs.Blocks.{present_blocks};
 ghost use Rattle.transform.specs.Schedules.{Schedule as Order};
 ghost use Rattle.domain.specs.Launches.{IsLaunched};
-ghost use Rattle.follow_chunk.specs.Tasks.{IsTask};
+ghost use Rattle.follow_chunk.specs.Tasks.{task_of, IsTask};
 ghost use Rattle.profiling.specs.FirstProfiles.{has_turn};
 ghost use Rattle.report.specs.Places.{at_of};
 ghost use Rattle.report.specs.declared.line.Line.TheVariants as said;
@@ -134,7 +134,7 @@ fn rolled_back<const D: usize>(
     requires few { D < 7 }
     requires placed { IsPlaced course.now machine.old.moment }
     requires turn { has_turn machine.old.moment.outer.left ≡ true }
-    requires task { IsTask D task.scalars task.nest.now.loops task.pred.now task.outer task.chunk (words_at machine.old.moment) }
+    requires task { IsTask D (task_of task) (words_at machine.old.moment) }
     requires nest { task.nest.now.loops ≡ course.now.loops }
     requires outer { task.outer ≡ machine.old.moment.outer }
     requires next { task.chunk ≡ next_chunk course.now machine.old.moment }

@@ -14,7 +14,7 @@ ghost use Rattle.shared_words.specs.Memories.{signed};
 ghost use Rattle.journeys.specs.Settings.{Ran, entry, next_turns, turns_within};
 ghost use Rattle.chunk_run.specs.ChunkEnds.{IsLegalFor};
 ghost use Rattle.chunk_run.specs.Groups.{GainsGroup};
-ghost use Rattle.follow_chunk.specs.Tasks.{IsTask};
+ghost use Rattle.follow_chunk.specs.Tasks.{task_of, IsTask};
 ghost use Rattle.worker.specs.Bases.{unstored};
 ghost use Rattle.controller.specs.Machines.{IsPlaced, HasRun, HavePosted, entered_or_ended};
 
@@ -198,7 +198,7 @@ impl<'a> Machine<'a> {
         schedule: &Schedule<D>,
         crew: &mut C,
     ) -> Result<ChunkEnd, AllocError>
-        requires task { IsTask D task.now.scalars task.now.nest.now.loops task.now.pred.now task.now.outer task.now.chunk (pos (length self.old.moment.store.memory)) }
+        requires task { IsTask D (task_of task.now) (pos (length self.old.moment.store.memory)) }
         requires legal { IsLegalFor task.now.pred.now schedule.now task.now.chunk }
         requires outer { task.now.outer ≡ self.old.moment.outer }
         requires count { length self.old.moment.store.scalars ≡ task.now.scalars }

@@ -5,14 +5,15 @@ use Rattle.nest_lang.specs.declared.tree.Loop.{Loop}
 use Rattle.domain.specs.declared.chunk.Chunk.{Chunk}
 use Rattle.domain.specs.Examples.{row}
 use Rattle.domain.specs.Tables.{Table}
-use Rattle.follow_chunk.specs.Laws.{one_row, one_turn}
-use Rattle.follow_chunk.specs.Tasks.{IsTask}
+use Rattle.follow_chunk.specs.Laws.{one_row, one_turn, first_turn}
+use Rattle.follow_chunk.specs.Tasks.{TaskState, IsTask}
 use Rattle.follow_chunk.proofs.PremiseLaws.{premises-can-hold}
 
 abbrev pub begins : Outer
 begins = record { lower = pos 0; next = pos 0; left = Some 40 }
 
-pub task-is : (scalars n : ℕ) (loops : List Loop) (t : Table) (o : Outer) (chunk : Chunk) → scalars ≡ 0 → loops ≡ one_row → t ≡ row → o ≡ begins → chunk ≡ one_turn → n ≡ 40 → IsTask 1 scalars loops t o chunk (pos n)
-task-is scalars n loops t o chunk a b c d e f =
-    subst (λ (z : ℕ). IsTask 1 z loops t o chunk (pos n)) (sym a) (subst (λ (z : List Loop). IsTask 1 0 z t o chunk (pos n)) (sym b) (subst (λ (z : Table). IsTask 1 0 one_row z o chunk (pos n)) (sym c)
-    (subst (λ (z : Outer). IsTask 1 0 one_row row z chunk (pos n)) (sym d) (subst (λ (z : Chunk). IsTask 1 0 one_row row begins z (pos n)) (sym e) (subst (λ (z : ℕ). IsTask 1 0 one_row row begins one_turn (pos z)) (sym f) premises-can-hold)))))
+pub task-is : (job : TaskState) (n : ℕ) → job.scalars ≡ 0 → job.loops ≡ one_row → job.pred ≡ row → job.outer ≡ begins → job.chunk ≡ one_turn → n ≡ 40 → IsTask 1 job (pos n)
+task-is job n a b c d e f = subst (λ (k : TaskState). IsTask 1 k (pos n)) (sym same) (subst (λ (z : ℕ). IsTask 1 first_turn (pos z)) (sym f) premises-can-hold)
+  where
+    same : job ≡ first_turn
+    same = λ i. record { scalars = a i; loops = b i; pred = c i; outer = d i; chunk = e i }

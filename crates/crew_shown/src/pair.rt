@@ -4,7 +4,7 @@ ghost use Rattle.core_steps.specs.Numbers.{has};
 ghost use Rattle.core_steps.specs.Views.{lending_view};
 ghost use Rattle.domain.specs.Examples.{row};
 ghost use Rattle.follow_chunk.specs.Laws.{one_row};
-ghost use Rattle.follow_chunk.specs.Tasks.{IsTask};
+ghost use Rattle.follow_chunk.specs.Tasks.{task_of, IsTask};
 ghost use Rattle.crew_shown.specs.Starts.{IsStart};
 
 use crate::counts::Counted;
@@ -82,7 +82,7 @@ fn run_two_workers<'a, 'e, C: Crew>(
 ) -> Result<(), AllocError>
     requires table { main.old.table ≡ words.now }
     requires start { IsStart main.old.view }
-    requires task { IsTask 1 task.now.scalars task.now.nest.now.loops task.now.pred.now task.now.outer task.now.chunk (pos 40) }
+    requires task { IsTask 1 (task_of task.now) (pos 40) }
 {
     let mut jobs = Vec::with_capacity(alloc, 2)?;
     crew.reserve(1)?;
@@ -123,7 +123,7 @@ fn lend<'a, 'e>(
     requires plan { main.old.view.plan ≡ tiles.now.plan.now }
     requires fresh { has number main.old.view.out ≡ false }
     requires count { length main.old.view.base ≡ 40 }
-    requires task { IsTask 1 task.now.scalars task.now.nest.now.loops task.now.pred.now task.now.outer task.now.chunk (pos 40) }
+    requires task { IsTask 1 (task_of task.now) (pos 40) }
     requires room { vec_len jobs.old < vec_capacity jobs.old }
     ensures table { main.new.table ≡ main.old.table }
     ensures main { main.new.view ≡ lending_view main.old.view number }

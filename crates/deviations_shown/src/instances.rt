@@ -3,7 +3,7 @@
 ghost use Rattle.std.specs.Prelude.{◌≡◌, ◌<◌, ◌≤◌, ◌≤ℤ◌, ◌+ℤ◌, ◌^◌, pos, int_lt, IfOk, length};
 ghost use Rattle.std.specs.List.{AllByRecursion};
 ghost use Rattle.domain.specs.Instances.{Predicted, counter, opening_at};
-ghost use Rattle.follow_chunk.specs.Tasks.{IsSomeTask};
+ghost use Rattle.follow_chunk.specs.Tasks.{task_of, IsSomeTask};
 
 use domain::{Chunk, Instance, successor};
 use follow_chunk::Task;
@@ -11,7 +11,7 @@ use std::alloc::{AllocError, Global};
 
 /// The first block at a turn, with inner counters 0.
 fn opening<const D: usize>(task: &Task<'_, D>, turn: i64) -> Instance<D>
-    requires { IsSomeTask D task.now.scalars task.now.nest.now.loops task.now.pred.now task.now.outer task.now.chunk }
+    requires { IsSomeTask D (task_of task.now) }
     ensures { result ≡ opening_at task.now.pred.now turn }
 {
     let _pred = task.pred;
@@ -22,7 +22,7 @@ fn opening<const D: usize>(task: &Task<'_, D>, turn: i64) -> Instance<D>
 
 /// The first block of the turn behind a chunk.
 pub fn behind<const D: usize>(task: &Task<'_, D>) -> Instance<D>
-    requires { IsSomeTask D task.now.scalars task.now.nest.now.loops task.now.pred.now task.now.outer task.now.chunk }
+    requires { IsSomeTask D (task_of task.now) }
 {
     opening(task, task.chunk.first.wrapping_add(task.chunk.turns))
 }
@@ -45,7 +45,7 @@ pub fn predicted<const D: usize>(
     task: &Task<'_, D>,
 ) -> Result<Vec<Instance<D>>, AllocError>
     requires few { D < 7 }
-    requires task { IsSomeTask D task.now.scalars task.now.nest.now.loops task.now.pred.now task.now.outer task.now.chunk }
+    requires task { IsSomeTask D (task_of task.now) }
     ensures predicted { IfOk result (λ list. AllByRecursion (Predicted task.now.pred.now task.now.chunk) list.items) }
     ensures short { IfOk result (λ list. length list.items ≤ 65536) }
 {

@@ -5,7 +5,7 @@ ghost use Rattle.std.specs.List.{AllByRecursion};
 ghost use Rattle.nest_lang.specs.Rules.{loops_keep};
 ghost use Rattle.nest_lang.specs.Turns.{IsPositionIn};
 ghost use Rattle.domain.specs.Instances.{Predicted};
-ghost use Rattle.follow_chunk.specs.Tasks.{IsTask};
+ghost use Rattle.follow_chunk.specs.Tasks.{task_of, IsTask};
 
 use block_exec::{Halt, MemoryPort, Port, Run, Watch};
 use compare::Compare;
@@ -21,7 +21,7 @@ pub fn followed<const D: usize>(
     memory: &mut [i64],
 ) -> Followed<D>
     requires few { D < 7 }
-    requires task { IsTask D task.now.scalars task.now.nest.now.loops task.now.pred.now task.now.outer task.now.chunk (pos (length memory.old)) }
+    requires task { IsTask D (task_of task.now) (pos (length memory.old)) }
     requires short { length list.now ≤ 65536 }
     requires predicted { AllByRecursion (Predicted task.now.pred.now task.now.chunk) list.now }
 {
@@ -75,7 +75,7 @@ pub fn compared<const D: usize>(
     scalars: &mut [i64],
     left: u32,
 ) -> Option<Deviation<D>>
-    requires task { IsTask D task.scalars task.nest.now.loops task.pred.now task.outer task.chunk (pos (length memory.old)) }
+    requires task { IsTask D (task_of task) (pos (length memory.old)) }
     requires scalars { length scalars.old ≤ 16 }
 {
     let mut stand = Stand {

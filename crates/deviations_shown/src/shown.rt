@@ -2,7 +2,7 @@
 
 ghost use Rattle.std.specs.Prelude.{◌≡◌, ◌<◌, ◌≤◌, length, pos};
 ghost use Rattle.nest_lang.specs.Rules.{NestKeeps};
-ghost use Rattle.follow_chunk.specs.Tasks.{IsTask};
+ghost use Rattle.follow_chunk.specs.Tasks.{task_of, IsTask};
 
 use crate::answer::Asked;
 use crate::instances::{behind, predicted};
@@ -60,7 +60,7 @@ fn task_text<const D: usize>(
     left: u32,
 ) -> Result<String, AllocError>
     requires few { D < 7 }
-    requires task { IsTask D task.now.scalars task.now.nest.now.loops task.now.pred.now task.now.outer task.now.chunk (pos (length state.old.memory)) }
+    requires task { IsTask D (task_of task.now) (pos (length state.old.memory)) }
     requires scalars { length state.old.scalars ≤ 16 }
 {
     let list = predicted(alloc, task)?;

@@ -4,7 +4,7 @@ ghost use Rattle.std.specs.Prelude.{◌≡◌, ◌<◌, ◌≤◌, length, pos};
 ghost use Rattle.std.specs.List.{AllByRecursion};
 ghost use Rattle.nest_lang.specs.Rules.{NestKeeps};
 ghost use Rattle.domain.specs.Instances.{Predicted};
-ghost use Rattle.follow_chunk.specs.Tasks.{IsTask};
+ghost use Rattle.follow_chunk.specs.Tasks.{task_of, IsTask};
 
 use crate::instances::predicted;
 use crate::plain::chunk_steps;
@@ -90,7 +90,7 @@ fn task_text<const D: usize>(
     times: u32,
 ) -> Result<String, AllocError>
     requires few { D < 7 }
-    requires task { IsTask D task.now.scalars task.now.nest.now.loops task.now.pred.now task.now.outer task.now.chunk (pos (length state.old.memory)) }
+    requires task { IsTask D (task_of task.now) (pos (length state.old.memory)) }
 {
     let list = predicted(alloc, task)?;
     let State { memory, scalars } = state;
@@ -112,7 +112,7 @@ fn followed<const D: usize>(
     times: u32,
 ) -> Followed<D>
     requires few { D < 7 }
-    requires task { IsTask D task.now.scalars task.now.nest.now.loops task.now.pred.now task.now.outer task.now.chunk (pos (length memory.old)) }
+    requires task { IsTask D (task_of task.now) (pos (length memory.old)) }
     requires short { length list.now ≤ 65536 }
     requires predicted { AllByRecursion (Predicted task.now.pred.now task.now.chunk) list.now }
 {
@@ -133,7 +133,7 @@ fn followed_once<const D: usize>(
     memory: &mut [i64],
 ) -> Followed<D>
     requires few { D < 7 }
-    requires task { IsTask D task.now.scalars task.now.nest.now.loops task.now.pred.now task.now.outer task.now.chunk (pos (length memory.old)) }
+    requires task { IsTask D (task_of task.now) (pos (length memory.old)) }
     requires short { length list.now ≤ 65536 }
     requires predicted { AllByRecursion (Predicted task.now.pred.now task.now.chunk) list.now }
 {

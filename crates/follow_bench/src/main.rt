@@ -15,7 +15,7 @@ ghost use Rattle.std.specs.Prelude.{◌≡◌, pos, Some, [], ◌∷◌, IfOk, l
 ghost use Rattle.domain.specs.Examples.{row};
 ghost use Rattle.domain.specs.Instances.{instance, Predicted};
 ghost use Rattle.follow_chunk.specs.Laws.{one_row, one_turn};
-ghost use Rattle.follow_chunk.specs.Tasks.{IsTask};
+ghost use Rattle.follow_chunk.specs.Tasks.{task_of, IsTask};
 
 use affine::Form;
 use block_exec::{Blind, Halt, MemoryPort, Places, Run};
@@ -139,7 +139,7 @@ fn alone(nest: &Nest, pred: &Prediction<1>, times: u32) -> Followed<1>
 
 /// One.
 fn alone_once(task: &Task<'_, 1>, words: &mut [i64]) -> Followed<1>
-    requires task { IsTask 1 task.now.scalars task.now.nest.now.loops task.now.pred.now task.now.outer task.now.chunk (pos 40) }
+    requires task { IsTask 1 (task_of task.now) (pos 40) }
     requires first { Predicted task.now.pred.now task.now.chunk (instance 0 (pos 0 ∷ [])) }
     requires words { length words.old ≡ 40 }
 {
@@ -166,7 +166,7 @@ fn listed(nest: &Nest, pred: &Prediction<1>, times: u32) -> Followed<1>
 
 /// One.
 fn listed_once(task: &Task<'_, 1>, words: &mut [i64]) -> Followed<1>
-    requires task { IsTask 1 task.now.scalars task.now.nest.now.loops task.now.pred.now task.now.outer task.now.chunk (pos 40) }
+    requires task { IsTask 1 (task_of task.now) (pos 40) }
     requires first { Predicted task.now.pred.now task.now.chunk (instance 0 (pos 0 ∷ [])) }
     requires words { length words.old ≡ 40 }
 {

@@ -3,7 +3,7 @@
 ghost use Rattle.std.specs.Prelude.{◌≡◌, ◌<◌, ◌≤◌, ◌≤ℤ◌, ◌^◌, length, pos, true};
 ghost use Rattle.nest_lang.specs.Rules.{loops_keep};
 ghost use Rattle.nest_lang.specs.Turns.{IsPositionIn};
-ghost use Rattle.follow_chunk.specs.Tasks.{IsSomeTask};
+ghost use Rattle.follow_chunk.specs.Tasks.{task_of, IsSomeTask};
 
 use block_exec::{Blind, Halt, MemoryPort, Run};
 use follow_chunk::Task;
@@ -17,7 +17,7 @@ pub fn chunk_steps<const D: usize>(
     scalars: &[i64],
     times: u32,
 ) -> u64
-    requires { IsSomeTask D task.now.scalars task.now.nest.now.loops task.now.pred.now task.now.outer task.now.chunk }
+    requires { IsSomeTask D (task_of task.now) }
 {
     let start = sixteen(scalars);
     let outer = task.outer;

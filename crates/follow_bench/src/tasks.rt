@@ -5,7 +5,7 @@ ghost use Rattle.nest_lang.specs.Rules.{NestKeeps};
 ghost use Rattle.nest_lang.specs.Turns.{IsPositionIn};
 ghost use Rattle.domain.specs.Shapes.{IsTableOf, LowersWithTrips};
 ghost use Rattle.follow.specs.ChunkRuns.{HasTurnsIn};
-ghost use Rattle.follow_chunk.specs.Tasks.{IsTask};
+ghost use Rattle.follow_chunk.specs.Tasks.{task_of, IsTask};
 
 use domain::{Chunk, LoopForms, LoopKind, Prediction, launch};
 use follow_chunk::Task;
@@ -51,7 +51,7 @@ impl<'a, const D: usize> Foretold<'a, D> {
         requires keeps { NestKeeps self.now.scalars self.now.nest.now.loops }
         requires table { IsTableOf self.now.scalars self.now.nest.now.loops self.now.pred.now }
         requires position { IsPositionIn self.now.nest.now.loops self.now.outer }
-        ensures { IfSome result (λ task. IsTask D task.scalars task.nest.now.loops task.pred.now task.outer task.chunk (pos words)) }
+        ensures { IfSome result (λ task. IsTask D (task_of task) (pos words)) }
     {
         let _blocks = self.pred.block_count();
         let first = self.outer.next;

@@ -33,7 +33,7 @@ use Rattle.follow.specs.ReorderLaws.{item_touches}
 use Rattle.follow.specs.ReorderLaws as list
 use Rattle.follow_chunk.specs.Predicted.{instance_of, interval_about, interval_at, forecast_of}
 use Rattle.follow_chunk.specs.Items.{item_at}
-use Rattle.follow_chunk.specs.Tasks.{IsTask}
+use Rattle.follow_chunk.specs.Tasks.{TaskState, IsTask}
 use Rattle.follow_chunk.specs.Nests.{IsNest, IsInTurns}
 use Rattle.follow_chunk.specs.Laws.{InstancesReturn, InstancesHaveItems, NextIsSuccessor, ConflictsAgree}
 use Rattle.follow_chunk.proofs.PointLaws.{instance-occurrence, successor-is}
@@ -47,10 +47,10 @@ pub next-is-successor : NextIsSuccessor
 next-is-successor D t chunk x y is p = (λ s. successor-is D t is chunk x y p s, λ e. subst (IsSuccessor t chunk x) (sym e) (successor-law D t is chunk x p))
 
 pub instances-have-items : InstancesHaveItems
-instances-have-items D scalars words loops t o chunk x task p =
-    let nest = nest-of D scalars loops t o chunk (pos words) task in
-    let turns = in-turns D scalars loops t o chunk (pos words) task x p in
-    (nests.item-found D scalars loops t o nest x turns, nests.item-occurrence D scalars loops t o nest x turns)
+instances-have-items D k words x task p =
+    let nest = nest-of D k (pos words) task in
+    let turns = in-turns D k (pos words) task x p in
+    (nests.item-found D k.scalars k.loops k.pred k.outer nest x turns, nests.item-occurrence D k.scalars k.loops k.pred k.outer nest x turns)
 
 -- ---- an access whose interval has an address
 
@@ -226,41 +226,41 @@ conflict-table D scalars words loops t o x y nest p q c = (
 )
 
 -- the same of predicted instances of a task
-module _ (D scalars : ℕ) (words : ℤ) (loops : List Loop) (t : Table) (o : Outer) (chunk : Chunk) (x : Instance) (task : IsTask D scalars loops t o chunk words) (p : Predicted t chunk x) where
-  abbrev nest : IsNest D scalars loops t
-  nest = nest-of D scalars loops t o chunk words task
+module _ (D : ℕ) (job : TaskState) (words : ℤ) (x : Instance) (task : IsTask D job words) (p : Predicted job.pred job.chunk x) where
+  abbrev nest : IsNest D job.scalars job.loops job.pred
+  nest = nest-of D job words task
 
-  abbrev turns : IsInTurns t x
-  turns = in-turns D scalars loops t o chunk words task x p
+  abbrev turns : IsInTurns job.pred x
+  turns = in-turns D job words task x p
 
-  pub interval-is : (n : ℕ) → interval_at t x n ≡ about (access_at (block_of t x) n) x.at
-  interval-is n = interval-by t x n
+  pub interval-is : (n : ℕ) → interval_at job.pred x n ≡ about (access_at (block_of job.pred x) n) x.at
+  interval-is n = interval-by job.pred x n
 
-  pub writes-to : (a : ℕ) → item_writes (forecast_of t) (item_at t loops o x) a ≡ true → table.Writes t x (pos a)
-  writes-to a h = writes-table D scalars loops t o nest x turns a h
+  pub writes-to : (a : ℕ) → item_writes (forecast_of job.pred) (item_at job.pred job.loops job.outer x) a ≡ true → table.Writes job.pred x (pos a)
+  writes-to a h = writes-table D job.scalars job.loops job.pred job.outer nest x turns a h
 
-  pub writes-from : (a : ℕ) → table.Writes t x (pos a) → item_writes (forecast_of t) (item_at t loops o x) a ≡ true
-  writes-from a h = table-writes D scalars loops t o nest x turns a h
+  pub writes-from : (a : ℕ) → table.Writes job.pred x (pos a) → item_writes (forecast_of job.pred) (item_at job.pred job.loops job.outer x) a ≡ true
+  writes-from a h = table-writes D job.scalars job.loops job.pred job.outer nest x turns a h
 
-module _ (D scalars words : ℕ) (loops : List Loop) (t : Table) (o : Outer) (chunk : Chunk) (x : Instance) (task : IsTask D scalars loops t o chunk (pos words)) (p : Predicted t chunk x) where
-  pub touches-to : (a : ℕ) → item_touches (forecast_of t) words (item_at t loops o x) a ≡ true → table.Reads t (pos words) x (pos a) ⊎ table.Writes t x (pos a)
-  touches-to a h = touches-table D scalars loops t o (nest D scalars (pos words) loops t o chunk x task p) x (turns D scalars (pos words) loops t o chunk x task p) words a h
+module _ (D : ℕ) (job : TaskState) (words : ℕ) (x : Instance) (task : IsTask D job (pos words)) (p : Predicted job.pred job.chunk x) where
+  pub touches-to : (a : ℕ) → item_touches (forecast_of job.pred) words (item_at job.pred job.loops job.outer x) a ≡ true → table.Reads job.pred (pos words) x (pos a) ⊎ table.Writes job.pred x (pos a)
+  touches-to a h = touches-table D job.scalars job.loops job.pred job.outer (nest D job (pos words) x task p) x (turns D job (pos words) x task p) words a h
 
-  pub touches-from : (a : ℕ) → table.Reads t (pos words) x (pos a) ⊎ table.Writes t x (pos a) → item_touches (forecast_of t) words (item_at t loops o x) a ≡ true
-  touches-from a h = table-touches D scalars loops t o (nest D scalars (pos words) loops t o chunk x task p) x (turns D scalars (pos words) loops t o chunk x task p) words a h
+  pub touches-from : (a : ℕ) → table.Reads job.pred (pos words) x (pos a) ⊎ table.Writes job.pred x (pos a) → item_touches (forecast_of job.pred) words (item_at job.pred job.loops job.outer x) a ≡ true
+  touches-from a h = table-touches D job.scalars job.loops job.pred job.outer (nest D job (pos words) x task p) x (turns D job (pos words) x task p) words a h
 
 pub conflicts-agree : ConflictsAgree
-conflicts-agree D scalars words loops t o chunk x y task p q = (
-  conflict-table D scalars words loops t o x y (nest-of D scalars loops t o chunk (pos words) task) (in-turns D scalars loops t o chunk (pos words) task x p) (in-turns D scalars loops t o chunk (pos words) task y q),
+conflicts-agree D k words x y task p q = (
+  conflict-table D k.scalars words k.loops k.pred k.outer x y (nest-of D k (pos words) task) (in-turns D k (pos words) task x p) (in-turns D k (pos words) task y q),
   λ c. back c.0 c.1,
 )
   where
-    word : (z : Instance) → Predicted t chunk z → (a : ℤ) → table.Writes t z a → pos 0 ≤ℤ a
-    word z r a h = (launched_words t (pos words) chunk (task.launched).0 (task.launched).1 z r a h).0
+    word : (z : Instance) → Predicted k.pred k.chunk z → (a : ℤ) → table.Writes k.pred z a → pos 0 ≤ℤ a
+    word z r a h = (launched_words k.pred (pos words) k.chunk (task.launched).0 (task.launched).1 z r a h).0
 
-    back : (a : ℤ) → (table.Writes t x a × (table.Reads t (pos words) y a ⊎ table.Writes t y a)) ⊎ (table.Writes t y a × (table.Reads t (pos words) x a ⊎ table.Writes t x a))
-        → list.Conflict (forecast_of t) words (item_at t loops o x) (item_at t loops o y)
-    back (pos a) (inl h) = (a, inl (writes-from D scalars (pos words) loops t o chunk x task p a h.0, touches-from D scalars words loops t o chunk y task q a h.1))
-    back (pos a) (inr h) = (a, inr (writes-from D scalars (pos words) loops t o chunk y task q a h.0, touches-from D scalars words loops t o chunk x task p a h.1))
+    back : (a : ℤ) → (table.Writes k.pred x a × (table.Reads k.pred (pos words) y a ⊎ table.Writes k.pred y a)) ⊎ (table.Writes k.pred y a × (table.Reads k.pred (pos words) x a ⊎ table.Writes k.pred x a))
+        → list.Conflict (forecast_of k.pred) words (item_at k.pred k.loops k.outer x) (item_at k.pred k.loops k.outer y)
+    back (pos a) (inl h) = (a, inl (writes-from D k (pos words) x task p a h.0, touches-from D k words y task q a h.1))
+    back (pos a) (inr h) = (a, inr (writes-from D k (pos words) y task q a h.0, touches-from D k words x task p a h.1))
     back (negsuc n) (inl h) = absurd (let l = word x p (negsuc n) h.0 in omega (arith, ints))
     back (negsuc n) (inr h) = absurd (let l = word y q (negsuc n) h.0 in omega (arith, ints))

@@ -25,7 +25,7 @@ use Rattle.domain.proofs.RankLaws.{Stands}
 use Rattle.domain.proofs.LeadLaws.{entered}
 use Rattle.follow.proofs.HeadYieldLaws.{same-exact}
 use Rattle.follow_chunk.specs.Predicted.{value_or_zero}
-use Rattle.follow_chunk.specs.Tasks.{IsTask}
+use Rattle.follow_chunk.specs.Tasks.{TaskState, IsTask}
 
 second-none : (a b : Option HeldWhy) → first_of a b ≡ None → b ≡ None
 second-none None b e = e
@@ -98,43 +98,43 @@ loop-fits (Some form) kind stride z turn at i is e none l =
     let last = second-none (trip_failure z) (last_failure (Some form) stride z at) rest in
     (passed (value_at form at) (Lower (value_at form at)) low, value-fits form stride z at i low last l)
 
-module _ (D scalars : ℕ) (loops : List Loop) (t : Table) (o : Outer) (chunk : Chunk) (words : ℤ) (task : IsTask D scalars loops t o chunk words) where
-  data-none : (x : Instance) → Predicted t chunk x → data_failure t words x ≡ None
-  data-none x p = launched-data t words chunk (task.launched).0 x (task.launched).1 p
+module _ (D : ℕ) (job : TaskState) (words : ℤ) (task : IsTask D job words) where
+  data-none : (x : Instance) → Predicted job.pred job.chunk x → data_failure job.pred words x ≡ None
+  data-none x p = launched-data job.pred words job.chunk (task.launched).0 x (task.launched).1 p
 
-  heads-none : (x : Instance) → Predicted t chunk x → head_by (block_of t x).part (block_of t x).level t x.at ≡ None
+  heads-none : (x : Instance) → Predicted job.pred job.chunk x → head_by (block_of job.pred x).part (block_of job.pred x).level job.pred x.at ≡ None
   heads-none x p =
-      second-none (stores_failure words 1 (block_of t x).accesses x.at) (head_by (block_of t x).part (block_of t x).level t x.at)
-      (second-none (scalars_failure 0 (block_of t x).scalars x.at) (first_of (stores_failure words 1 (block_of t x).accesses x.at) (head_by (block_of t x).part (block_of t x).level t x.at)) (data-none x p))
+      second-none (stores_failure words 1 (block_of job.pred x).accesses x.at) (head_by (block_of job.pred x).part (block_of job.pred x).level job.pred x.at)
+      (second-none (scalars_failure 0 (block_of job.pred x).scalars x.at) (first_of (stores_failure words 1 (block_of job.pred x).accesses x.at) (head_by (block_of job.pred x).part (block_of job.pred x).level job.pred x.at)) (data-none x p))
 
-  pub scalars-none : (x : Instance) → Predicted t chunk x → scalars_failure 0 (block_of t x).scalars x.at ≡ None
-  scalars-none x p = first-none (scalars_failure 0 (block_of t x).scalars x.at) (first_of (stores_failure words 1 (block_of t x).accesses x.at) (head_by (block_of t x).part (block_of t x).level t x.at)) (data-none x p)
+  pub scalars-none : (x : Instance) → Predicted job.pred job.chunk x → scalars_failure 0 (block_of job.pred x).scalars x.at ≡ None
+  scalars-none x p = first-none (scalars_failure 0 (block_of job.pred x).scalars x.at) (first_of (stores_failure words 1 (block_of job.pred x).accesses x.at) (head_by (block_of job.pred x).part (block_of job.pred x).level job.pred x.at)) (data-none x p)
 
   -- the head of a loop around an instance that is in a turn of it
-  pub head-predicted : (x : Instance) (k rank : ℕ) → Predicted t chunk x → 1 ≤ k → k < turning (block_of t x) → Stands t Head (suc k) rank → Predicted t chunk (instance rank (cut k x.at))
+  pub head-predicted : (x : Instance) (k rank : ℕ) → Predicted job.pred job.chunk x → 1 ≤ k → k < turning (block_of job.pred x) → Stands job.pred Head (suc k) rank → Predicted job.pred job.chunk (instance rank (cut k x.at))
   head-predicted x k rank p some inside s =
-      entered D t task.shape chunk k rank (cut k x.at) some (length-cut k x.at ∙ p.is.size ∙ (task.shape).deep)
+      entered D job.pred task.shape job.chunk k rank (cut k x.at) some (length-cut k x.at ∙ p.is.size ∙ (task.shape).deep)
       (record {
-        from = subst (λ (v : ℤ). chunk.first ≤ℤ v) (sym (cut-before k x.at 0 some)) p.turn.from;
-        below = subst (λ (v : ℤ). v <ℤ (chunk.first +ℤ chunk.turns)) (sym (cut-before k x.at 0 some)) p.turn.below;
+        from = subst (λ (v : ℤ). job.chunk.first ≤ℤ v) (sym (cut-before k x.at 0 some)) p.turn.from;
+        below = subst (λ (v : ℤ). v <ℤ (job.chunk.first +ℤ job.chunk.turns)) (sym (cut-before k x.at 0 some)) p.turn.below;
         inner = λ j l m. let b = p.turn.inner j l (omega arith) in (
           subst (λ (v : ℤ). pos 0 ≤ℤ v) (sym (cut-before k x.at j m)) b.0,
-          subst (λ (v : ℤ). v <ℤ trip t j (cut k x.at)) (sym (cut-before k x.at j m)) (subst (λ (v : ℤ). counter x.at j <ℤ v) (sym (trip-cut t j k x.at (omega arith))) b.1),
+          subst (λ (v : ℤ). v <ℤ trip job.pred j (cut k x.at)) (sym (cut-before k x.at j m)) (subst (λ (v : ℤ). counter x.at j <ℤ v) (sym (trip-cut job.pred j k x.at (omega arith))) b.1),
         );
       })
       (λ j l. cut-after k x.at j l) (inr s)
 
   -- the lower bound and the value of a `for` around an instance
-  pub name-fits : (x : Instance) (k rank : ℕ) (stride : ℤ) (i : ℕ) → Predicted t chunk x → 1 ≤ k → k < turning (block_of t x) → Stands t Head (suc k) rank → (level_at t k).kind ≡ For stride → pos i <ℤ trip t k x.at
-      → FitsSigned w64 (value_or_zero (level_at t k).lower (cut k x.at)) × FitsSigned w64 (turn_value (value_or_zero (level_at t k).lower (cut k x.at)) stride i)
+  pub name-fits : (x : Instance) (k rank : ℕ) (stride : ℤ) (i : ℕ) → Predicted job.pred job.chunk x → 1 ≤ k → k < turning (block_of job.pred x) → Stands job.pred Head (suc k) rank → (level_at job.pred k).kind ≡ For stride → pos i <ℤ trip job.pred k x.at
+      → FitsSigned w64 (value_or_zero (level_at job.pred k).lower (cut k x.at)) × FitsSigned w64 (turn_value (value_or_zero (level_at job.pred k).lower (cut k x.at)) stride i)
   name-fits x k rank stride i p some inside s is l =
       let h = heads-none (instance rank (cut k x.at)) (head-predicted x k rank p some inside s) in
-      let head : head_by Head (suc k) t (cut k x.at) ≡ None = sym (ap₂ (λ (q : Part) (n : ℕ). head_by q n t (cut k x.at)) s.part-is s.level-is) ∙ h in
+      let head : head_by Head (suc k) job.pred (cut k x.at) ≡ None = sym (ap₂ (λ (q : Part) (n : ℕ). head_by q n job.pred (cut k x.at)) s.part-is s.level-is) ∙ h in
       let test : nat_lt 1 (suc k) ≡ true = grind (arith, nat_tests) in
       let around : suc k - 1 ≡ k = omega arith in
-      let loop : loop_failure (level_at t k).kind (level_at t k).lower (trip t k (cut k x.at)) (counter (cut k x.at) k) (cut k x.at) ≡ None =
-      sym (ap (λ (n : ℕ). loop_failure (level_at t n).kind (level_at t n).lower (trip t n (cut k x.at)) (counter (cut k x.at) n) (cut k x.at)) around)
-      ∙ sym (ap (λ (b : Bool). if b then loop_failure (level_at t (suc k - 1)).kind (level_at t (suc k - 1)).lower (trip t (suc k - 1) (cut k x.at)) (counter (cut k x.at) (suc k - 1)) (cut k x.at) else None) test) ∙ head in
-      loop-fits (level_at t k).lower (level_at t k).kind stride (trip t k (cut k x.at)) (counter (cut k x.at) k) (cut k x.at) i is loop
-      (λ none. trip-none t k (cut k x.at) (task.lowers k stride is none))
-      (subst (λ (v : ℤ). pos i <ℤ v) (sym (trip-cut t k k x.at (omega arith))) l)
+      let loop : loop_failure (level_at job.pred k).kind (level_at job.pred k).lower (trip job.pred k (cut k x.at)) (counter (cut k x.at) k) (cut k x.at) ≡ None =
+      sym (ap (λ (n : ℕ). loop_failure (level_at job.pred n).kind (level_at job.pred n).lower (trip job.pred n (cut k x.at)) (counter (cut k x.at) n) (cut k x.at)) around)
+      ∙ sym (ap (λ (b : Bool). if b then loop_failure (level_at job.pred (suc k - 1)).kind (level_at job.pred (suc k - 1)).lower (trip job.pred (suc k - 1) (cut k x.at)) (counter (cut k x.at) (suc k - 1)) (cut k x.at) else None) test) ∙ head in
+      loop-fits (level_at job.pred k).lower (level_at job.pred k).kind stride (trip job.pred k (cut k x.at)) (counter (cut k x.at) k) (cut k x.at) i is loop
+      (λ none. trip-none job.pred k (cut k x.at) (task.lowers k stride is none))
+      (subst (λ (v : ℤ). pos i <ℤ v) (sym (trip-cut job.pred k k x.at (omega arith))) l)

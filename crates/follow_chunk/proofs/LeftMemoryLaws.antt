@@ -29,7 +29,7 @@ use Rattle.follow.proofs.FollowedLaws.{foretold-verified}
 use Rattle.follow.proofs.LawfulLaws.{item-long, item-leaves}
 use Rattle.follow_chunk.specs.Predicted.{occurrence_of, scalars_at, interval_at, forecast_of}
 use Rattle.follow_chunk.specs.Items.{item_at}
-use Rattle.follow_chunk.specs.Tasks.{IsTask}
+use Rattle.follow_chunk.specs.Tasks.{TaskState, IsTask}
 use Rattle.follow_chunk.specs.Nests.{IsNest, IsInTurns}
 use Rattle.follow_chunk.specs.Followed.{store_at, ChangesWrites, ClosesSmall}
 use Rattle.follow_chunk.proofs.ConflictLaws.{writes-to}
@@ -52,59 +52,59 @@ not-true : (b : Bool) → (b ≡ true → ⊥) → b ≡ false
 not-true true h = absurd (h refl)
 not-true false h = refl
 
-module _ (D scalars : ℕ) (loops : List Loop) (t : Table) (o : Outer) (chunk : Chunk) (words : ℤ) (task : IsTask D scalars loops t o chunk words) (x : Instance) (p : Predicted t chunk x) where
-  abbrev nest : IsNest D scalars loops t
-  nest = nest-of D scalars loops t o chunk words task
+module _ (D : ℕ) (job : TaskState) (words : ℤ) (task : IsTask D job words) (x : Instance) (p : Predicted job.pred job.chunk x) where
+  abbrev nest : IsNest D job.scalars job.loops job.pred
+  nest = nest-of D job words task
 
-  abbrev turns : IsInTurns t x
-  turns = in-turns D scalars loops t o chunk words task x p
+  abbrev turns : IsInTurns job.pred x
+  turns = in-turns D job words task x p
 
   abbrev around : Around
-  around = nests.A D scalars loops t o nest x turns
+  around = nests.A D job.scalars job.loops job.pred job.outer nest x turns
 
   abbrev frame : Frame
-  frame = frame_with (occurrence (block_of t x).part (block_of t x).level around) around.values (expectation_at (forecast_of t) (occurrence (block_of t x).part (block_of t x).level around))
+  frame = frame_with (occurrence (block_of job.pred x).part (block_of job.pred x).level around) around.values (expectation_at (forecast_of job.pred) (occurrence (block_of job.pred x).part (block_of job.pred x).level around))
 
-  changes-by : (m : List ℤ) → ChangesWrites t x m (after_all (store_at t x m) (item_trace (forecast_of t) (item_at t loops o x) (store_at t x m)).entries).memory
+  changes-by : (m : List ℤ) → ChangesWrites job.pred x m (after_all (store_at job.pred x m) (item_trace (forecast_of job.pred) (item_at job.pred job.loops job.outer x) (store_at job.pred x m)).entries).memory
   changes-by m = record {
-    long = item-long (forecast_of t) (item_at t loops o x) (store_at t x m);
-    others = λ a none. item-leaves (forecast_of t) (item_at t loops o x) (store_at t x m) a (not-true (item_writes (forecast_of t) (item_at t loops o x) a) (λ e. none (writes-to D scalars words loops t o chunk x task p a e)));
+    long = item-long (forecast_of job.pred) (item_at job.pred job.loops job.outer x) (store_at job.pred x m);
+    others = λ a none. item-leaves (forecast_of job.pred) (item_at job.pred job.loops job.outer x) (store_at job.pred x m) a (not-true (item_writes (forecast_of job.pred) (item_at job.pred job.loops job.outer x) a) (λ e. none (writes-to D job words x task p a e)));
   }
 
   -- a block that was run with its addresses verified
-  pub changes-block : (site : Site) → ((e : Expectation) → frame_at site e ≡ frame_of e (block_of t x).part (block_of t x).level (nests.A D scalars loops t o nest x turns))
-      → (intervals : Intervals) → ((access : ℕ) → interval_at t x access ≡ intervals access)
-      → (m after sc : List ℤ) (ss : List Stmt) → sc ≡ scalars_at t x → statements_of loops (block_ref (block_of t x).part (block_of t x).level) ≡ Some ss
+  pub changes-block : (site : Site) → ((e : Expectation) → frame_at site e ≡ frame_of e (block_of job.pred x).part (block_of job.pred x).level (nests.A D job.scalars job.loops job.pred job.outer nest x turns))
+      → (intervals : Intervals) → ((access : ℕ) → interval_at job.pred x access ≡ intervals access)
+      → (m after sc : List ℤ) (ss : List Stmt) → sc ≡ scalars_at job.pred x → statements_of job.loops (block_ref (block_of job.pred x).part (block_of job.pred x).level) ≡ Some ss
       → after ≡ (cut (instance_trace (frame_at site (verified_by intervals)) ss (store_of m sc [])) (store_of m sc []) (2 ^ 32) 0).store.memory
-      → ChangesWrites t x m after
-  changes-block site frames intervals each m after sc ss sc_is ss_is is = subst (ChangesWrites t x m) (sym (is ∙ here ∙ whole-memory (item_trace (forecast_of t) (item_at t loops o x) (store_at t x m)) (store_at t x m) (2 ^ 32) (whole.few-steps D scalars loops t o chunk words task x p (store_at t x m)))) (changes-by m)
+      → ChangesWrites job.pred x m after
+  changes-block site frames intervals each m after sc ss sc_is ss_is is = subst (ChangesWrites job.pred x m) (sym (is ∙ here ∙ whole-memory (item_trace (forecast_of job.pred) (item_at job.pred job.loops job.outer x) (store_at job.pred x m)) (store_at job.pred x m) (2 ^ 32) (whole.few-steps D job words task x p (store_at job.pred x m)))) (changes-by m)
     where
-      verified : frame_at site (verified_by intervals) ≡ frame_at site (expectation_at (forecast_of t) (occurrence_at site))
-      verified = ap (frame_at site) (foretold-verified (forecast_of t) (occurrence_at site) (occurrence_of t (next t x)) (scalars_at t x) intervals (scalars_at t (next t x)) (running.told D scalars loops t o chunk words task x p site frames intervals each m after (Ok 0)))
+      verified : frame_at site (verified_by intervals) ≡ frame_at site (expectation_at (forecast_of job.pred) (occurrence_at site))
+      verified = ap (frame_at site) (foretold-verified (forecast_of job.pred) (occurrence_at site) (occurrence_of job.pred (next job.pred x)) (scalars_at job.pred x) intervals (scalars_at job.pred (next job.pred x)) (running.told D job words task x p site frames intervals each m after (Ok 0)))
 
-      trace-is : (s : Store) → instance_trace (frame_at site (verified_by intervals)) ss s ≡ item_trace (forecast_of t) (item_at t loops o x) s
+      trace-is : (s : Store) → instance_trace (frame_at site (verified_by intervals)) ss s ≡ item_trace (forecast_of job.pred) (item_at job.pred job.loops job.outer x) s
       trace-is s =
-          let (first, rest, are, item-is) = nests.item-statements D scalars loops t o nest x turns ss ss_is in
-          ap (λ (f : Frame). instance_trace f ss s) (verified ∙ running.frame-is D scalars loops t o chunk words task x p site frames intervals each m after (Ok 0))
+          let (first, rest, are, item-is) = nests.item-statements D job.scalars job.loops job.pred job.outer nest x turns ss ss_is in
+          ap (λ (f : Frame). instance_trace f ss s) (verified ∙ running.frame-is D job words task x p site frames intervals each m after (Ok 0))
           ∙ ap (λ (us : List Stmt). instance_trace frame us s) are
-          ∙ sym (ap (λ (i : Item). item_trace (forecast_of t) i s) item-is)
+          ∙ sym (ap (λ (i : Item). item_trace (forecast_of job.pred) i s) item-is)
 
       here : (cut (instance_trace (frame_at site (verified_by intervals)) ss (store_of m sc [])) (store_of m sc []) (2 ^ 32) 0).store.memory
-          ≡ (cut (item_trace (forecast_of t) (item_at t loops o x) (store_at t x m)) (store_at t x m) (2 ^ 32) 0).store.memory
+          ≡ (cut (item_trace (forecast_of job.pred) (item_at job.pred job.loops job.outer x) (store_at job.pred x m)) (store_at job.pred x m) (2 ^ 32) 0).store.memory
       here =
           ap (λ (us : List ℤ). (cut (instance_trace (frame_at site (verified_by intervals)) ss (store_of m us [])) (store_of m us []) (2 ^ 32) 0).store.memory) sc_is
-          ∙ ap (λ (tr : Trace). (cut tr (store_at t x m) (2 ^ 32) 0).store.memory) (trace-is (store_at t x m))
+          ∙ ap (λ (tr : Trace). (cut tr (store_at job.pred x m) (2 ^ 32) 0).store.memory) (trace-is (store_at job.pred x m))
 
   -- numbers that fit as far as there are scalars
-  pub closes-small : (sc aft : List ℤ) → sc ≡ scalars_at t x → aft ≡ scalars_at t (next t x) → ((k : ℕ) → k < length sc → FitsSigned w64 (get_or aft k (pos 0))) → ClosesSmall t x
+  pub closes-small : (sc aft : List ℤ) → sc ≡ scalars_at job.pred x → aft ≡ scalars_at job.pred (next job.pred x) → ((k : ℕ) → k < length sc → FitsSigned w64 (get_or aft k (pos 0))) → ClosesSmall job.pred x
   closes-small sc aft sc_is aft_is fits k =
       subst (λ (us : List ℤ). FitsSigned w64 (get_or us k (pos 0))) aft_is
       (⊎_elim (fits k) (λ past. subst (λ (z : ℤ). FitsSigned w64 z) (sym (get_or_past aft k (pos 0) (let s = sizes in omega arith))) zero-fits) (cases_lt k (length sc)))
     where
       sizes : length aft ≡ length sc
       sizes =
-          ap length aft_is ∙ length-scalars t (next t x) ∙ running.count-next D scalars loops t o chunk words task x p
-          ∙ sym (ap length sc_is ∙ length-scalars t x ∙ running.count-here D scalars loops t o chunk words task x p)
+          ap length aft_is ∙ length-scalars job.pred (next job.pred x) ∙ running.count-next D job words task x p
+          ∙ sym (ap length sc_is ∙ length-scalars job.pred x ∙ running.count-here D job words task x p)
 
       zero-fits : FitsSigned w64 (pos 0)
       zero-fits = omega (arith, ints)

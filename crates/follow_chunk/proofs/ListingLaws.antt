@@ -2,11 +2,8 @@
 use Rattle.std.proofs.Common.{◌≡◌, refl, sym, ap, ◌∙◌, ℕ, zero, suc, ◌<◌, ◌+◌, ℤ, List, [], ◌∷◌, ◌++◌, length, take, drop, get_or, Option, Some, None, arith}
 use Rattle.std.specs.List.{AllByRecursion}
 use Rattle.std.proofs.lemmas.List.{take_more, map-append}
-use Rattle.nest_lang.specs.declared.tree.Loop.{Loop}
-use Rattle.nest_lang.specs.declared.state.Outer.{Outer}
 use Rattle.orders.specs.Runs.{Outcome, plus, and_then}
 use Rattle.orders.proofs.SwapLaws.{then-then}
-use Rattle.domain.specs.Tables.{Table}
 use Rattle.domain.specs.Instances.{Instance}
 use Rattle.follow.specs.declared.how.How.{How}
 use Rattle.follow.specs.Forecasts.{Forecast}
@@ -14,6 +11,7 @@ use Rattle.follow.specs.Plans.{Item}
 use Rattle.follow.specs.FollowRuns.{follow_one, follow_run}
 use Rattle.follow.proofs.LawfulLaws.{follow-is-lawful}
 use Rattle.follow_chunk.specs.Predicted.{forecast_of}
+use Rattle.follow_chunk.specs.Tasks.{TaskState}
 use Rattle.follow_chunk.specs.Items.{item_at, items_at, scalars_after}
 use Rattle.follow_chunk.specs.Followed.{Follows, Deviates, FirstDeviates}
 
@@ -40,35 +38,35 @@ split-at [] k d l = absurd (omega arith)
 split-at (x ∷ xs) zero d l = refl
 split-at (x ∷ xs) (suc k) d l = ap (λ (zs : List _). x ∷ zs) (split-at xs k d (omega arith))
 
-module _ (t : Table) (loops : List Loop) (o : Outer) (xs : List Instance) (k : ℕ) (x : Instance) (m w : List ℤ) (steps : ℕ) (inside : k < length xs) (is : x ≡ get_or xs k x)
-    (so_far : follow_run (forecast_of t) (scalars_after t) (items_at t loops o (take k xs)) m ≡ Some (record { memory = w; steps = steps })) where
+module _ (job : TaskState) (xs : List Instance) (k : ℕ) (x : Instance) (m w : List ℤ) (steps : ℕ) (inside : k < length xs) (is : x ≡ get_or xs k x)
+    (so_far : follow_run (forecast_of job.pred) (scalars_after job.pred) (items_at job.pred job.loops job.outer (take k xs)) m ≡ Some (record { memory = w; steps = steps })) where
   abbrev run : List Item → List ℤ → Option Outcome
-  run = follow_run (forecast_of t) (scalars_after t)
+  run = follow_run (forecast_of job.pred) (scalars_after job.pred)
 
   abbrev one : List ℤ → Option Outcome
-  one = follow_one (forecast_of t) (scalars_after t) (item_at t loops o x)
+  one = follow_one (forecast_of job.pred) (scalars_after job.pred) (item_at job.pred job.loops job.outer x)
 
-  goes-on : (rest : List Instance) → run (items_at t loops o (take k xs ++ x ∷ rest)) m ≡ plus steps (and_then (one w) (run (items_at t loops o rest)))
+  goes-on : (rest : List Instance) → run (items_at job.pred job.loops job.outer (take k xs ++ x ∷ rest)) m ≡ plus steps (and_then (one w) (run (items_at job.pred job.loops job.outer rest)))
   goes-on rest =
-      ap (λ (is : List Item). run is m) (map-append (item_at t loops o) (take k xs) (x ∷ rest))
-      ∙ run-append (forecast_of t) (scalars_after t) (items_at t loops o (take k xs)) (items_at t loops o (x ∷ rest)) m
-      ∙ ap (λ (r : Option Outcome). and_then r (run (items_at t loops o (x ∷ rest)))) so_far
+      ap (λ (is : List Item). run is m) (map-append (item_at job.pred job.loops job.outer) (take k xs) (x ∷ rest))
+      ∙ run-append (forecast_of job.pred) (scalars_after job.pred) (items_at job.pred job.loops job.outer (take k xs)) (items_at job.pred job.loops job.outer (x ∷ rest)) m
+      ∙ ap (λ (r : Option Outcome). and_then r (run (items_at job.pred job.loops job.outer (x ∷ rest)))) so_far
 
   here : xs ≡ take k xs ++ x ∷ drop (suc k) xs
   here = split-at xs k x inside ∙ ap (λ (y : Instance). take k xs ++ y ∷ drop (suc k) xs) (sym is)
 
-  pub next-follows : (after : List ℤ) (more : ℕ) → Follows t loops o x more w after → run (items_at t loops o (take (k + 1) xs)) m ≡ Some (record { memory = after; steps = steps + more })
+  pub next-follows : (after : List ℤ) (more : ℕ) → Follows job x more w after → run (items_at job.pred job.loops job.outer (take (k + 1) xs)) m ≡ Some (record { memory = after; steps = steps + more })
   next-follows after more f =
-      ap (λ (ys : List Instance). run (items_at t loops o ys) m) (take_more xs k x inside ∙ ap (λ (y : Instance). take k xs ++ y ∷ []) (sym is))
+      ap (λ (ys : List Instance). run (items_at job.pred job.loops job.outer ys) m) (take_more xs k x inside ∙ ap (λ (y : Instance). take k xs ++ y ∷ []) (sym is))
       ∙ goes-on [] ∙ ap (λ (r : Option Outcome). plus steps (and_then r (run []))) f.one
       ∙ (let e : steps + (more + 0) ≡ steps + more = omega arith in ap (λ (n : ℕ). Some (record { memory = after; steps = n })) e)
 
-  pub list-none : (h : How) → Deviates t loops o x h w → run (items_at t loops o xs) m ≡ None
-  list-none h d = ap (λ (ys : List Instance). run (items_at t loops o ys) m) here ∙ goes-on (drop (suc k) xs) ∙ ap (λ (r : Option Outcome). plus steps (and_then r (run (items_at t loops o (drop (suc k) xs))))) d.none
+  pub list-none : (h : How) → Deviates job x h w → run (items_at job.pred job.loops job.outer xs) m ≡ None
+  list-none h d = ap (λ (ys : List Instance). run (items_at job.pred job.loops job.outer ys) m) here ∙ goes-on (drop (suc k) xs) ∙ ap (λ (r : Option Outcome). plus steps (and_then r (run (items_at job.pred job.loops job.outer (drop (suc k) xs))))) d.none
 
-  pub list-first : (h : How) → Deviates t loops o x h w → FirstDeviates t loops o xs x h m
+  pub list-first : (h : How) → Deviates job x h w → FirstDeviates job xs x h m
   list-first h d = record { before = take k xs; behind = drop (suc k) xs; are = here; memory = w; steps = steps; follows = so_far; deviates = d }
 
 -- an instance that follows leaves as many words
-pub long-after : (t : Table) (loops : List Loop) (o : Outer) (x : Instance) (steps : ℕ) (words after : List ℤ) → Follows t loops o x steps words after → length after ≡ length words
-long-after t loops o x steps words after f = (follow-is-lawful (forecast_of t) (scalars_after t) (length words)).long (item_at t loops o x) words (record { memory = after; steps = steps }) refl f.one
+pub long-after : (job : TaskState) (x : Instance) (steps : ℕ) (words after : List ℤ) → Follows job x steps words after → length after ≡ length words
+long-after job x steps words after f = (follow-is-lawful (forecast_of job.pred) (scalars_after job.pred) (length words)).long (item_at job.pred job.loops job.outer x) words (record { memory = after; steps = steps }) refl f.one

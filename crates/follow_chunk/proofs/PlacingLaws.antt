@@ -36,7 +36,7 @@ use Rattle.follow.specs.Instances as plan
 use Rattle.follow_chunk.specs.Predicted.{value_or_zero, instance_of, forecast_of}
 use Rattle.follow_chunk.specs.Predicted as predicted
 use Rattle.follow_chunk.specs.Items.{value_by, name_value, inside_of, around_of}
-use Rattle.follow_chunk.specs.Tasks.{IsTask}
+use Rattle.follow_chunk.specs.Tasks.{TaskState, IsTask}
 use Rattle.follow_chunk.specs.Nests.{IsNest, IsInTurns}
 use Rattle.follow_chunk.proofs.PointLaws.{padded-take-of}
 use Rattle.follow_chunk.proofs.RankLaws.{depth-same}
@@ -122,135 +122,135 @@ counters-within D t shape x is =
     let some = (shape.blocks x.block is.block).from in
     let most = counters-most (block_of t x).part (repeats t ((block_of t x).level - 1)) (block_of t x).level in omega arith
 
-module _ (D scalars : ℕ) (loops : List Loop) (t : Table) (o : Outer) (chunk : Chunk) (words : ℤ) (task : IsTask D scalars loops t o chunk words) where
-  pub nest-of : IsNest D scalars loops t
+module _ (D : ℕ) (job : TaskState) (words : ℤ) (task : IsTask D job words) where
+  pub nest-of : IsNest D job.scalars job.loops job.pred
   nest-of = record { keeps = task.keeps; shape = task.shape; table = task.table }
 
   -- ---- heads of inner loops
 
-  pub head-stands : (k : ℕ) → 1 ≤ k → k < D → (rank : ℕ) × (rank_of t Head (suc k) ≡ Some rank)
-  head-stands k some l = has-rank t Head (suc k) ((task.shape).heads (suc k) (omega arith) (omega arith))
+  pub head-stands : (k : ℕ) → 1 ≤ k → k < D → (rank : ℕ) × (rank_of job.pred Head (suc k) ≡ Some rank)
+  head-stands k some l = has-rank job.pred Head (suc k) ((task.shape).heads (suc k) (omega arith) (omega arith))
 
   -- ---- lower bounds and values of names
 
-  lower-inner : (at : List ℤ) (k rank : ℕ) → length at ≡ depth t → 1 ≤ k → rank_of t Head (k + 1) ≡ Some rank
-      → plan.lower_at (forecast_of t) o (k + 1) (take k at) ≡ unwrap_or (expected_of t (instance rank (cut k at)) Lower) (pos 0)
+  lower-inner : (at : List ℤ) (k rank : ℕ) → length at ≡ depth job.pred → 1 ≤ k → rank_of job.pred Head (k + 1) ≡ Some rank
+      → plan.lower_at (forecast_of job.pred) job.outer (k + 1) (take k at) ≡ unwrap_or (expected_of job.pred (instance rank (cut k at)) Lower) (pos 0)
   unfolding predicted.lower_at instance_of
   lower-inner at k rank size some e =
       let test : nat_le (k + 1) 1 ≡ false = grind (arith, nat_tests) in
-      ap (λ (b : Bool). if b then o.lower else (forecast_of t).lower (record { block = block_ref Head (k + 1); counters = take k at })) test
-      ∙ ap₂ (λ (r : Option ℕ) (point : List ℤ). unwrap_or (expected_of t (instance (unwrap_or r (length t.blocks)) point) Lower) (pos 0)) e (padded-take-of (depth t) k at size)
+      ap (λ (b : Bool). if b then job.outer.lower else (forecast_of job.pred).lower (record { block = block_ref Head (k + 1); counters = take k at })) test
+      ∙ ap₂ (λ (r : Option ℕ) (point : List ℤ). unwrap_or (expected_of job.pred (instance (unwrap_or r (length job.pred.blocks)) point) Lower) (pos 0)) e (padded-take-of (depth job.pred) k at size)
 
   -- the same by the form of the loop
-  pub lower-level : (at : List ℤ) (k : ℕ) → length at ≡ depth t → 1 ≤ k → k < D → plan.lower_at (forecast_of t) o (k + 1) (take k at) ≡ value_or_zero (level_at t k).lower (cut k at)
+  pub lower-level : (at : List ℤ) (k : ℕ) → length at ≡ depth job.pred → 1 ≤ k → k < D → plan.lower_at (forecast_of job.pred) job.outer (k + 1) (take k at) ≡ value_or_zero (level_at job.pred k).lower (cut k at)
   lower-level at k size some inside =
       let (rank, e) = head-stands k some inside in
       let next : suc k ≡ k + 1 = omega arith in
-      lower-inner at k rank size some (ap (rank_of t Head) (sym next) ∙ e) ∙ lower-value t k rank (cut k at) (stands t Head (suc k) rank e)
+      lower-inner at k rank size some (ap (rank_of job.pred Head) (sym next) ∙ e) ∙ lower-value job.pred k rank (cut k at) (stands job.pred Head (suc k) rank e)
 
-  pub loop-kind : (k : ℕ) (h : tree.Head) → head_at loops (suc k) ≡ Some h → (level_at t k).kind ≡ kind_of h
-  loop-kind = loop-kind-of scalars loops t task.table
+  pub loop-kind : (k : ℕ) (h : tree.Head) → head_at job.loops (suc k) ≡ Some h → (level_at job.pred k).kind ≡ kind_of h
+  loop-kind = loop-kind-of job.scalars job.loops job.pred task.table
 
-  from-head : (h : tree.Head) → IsPosition h o → pos 0 ≤ℤ chunk.first
+  from-head : (h : tree.Head) → IsPosition h job.outer → pos 0 ≤ℤ job.chunk.first
   from-head (head.For lower upper stride) (n, m, is, left, rest) = let e = task.first in omega (arith, ints)
   from-head (head.While condition) (n, is, rest) = let e = task.first in omega (arith, ints)
 
-  from-up : (ls : List Loop) → IsPositionIn ls o → pos 0 ≤ℤ chunk.first
+  from-up : (ls : List Loop) → IsPositionIn ls job.outer → pos 0 ≤ℤ job.chunk.first
   from-up [] h = absurd h
   from-up (l ∷ ls) h = from-head l.head h
 
-  module _ (x : Instance) (p : Predicted t chunk x) where
+  module _ (x : Instance) (p : Predicted job.pred job.chunk x) where
     pub up : (k : ℕ) → pos 0 ≤ℤ counter x.at k
-    up k = (launched_counters D t words chunk (task.launched).0 task.shape (from-up loops task.position) task.some (task.launched).1 x p k).0
+    up k = (launched_counters D job.pred words job.chunk (task.launched).0 task.shape (from-up job.loops task.position) task.some (task.launched).1 x p k).0
 
     -- it is in some turn of each loop around it
-    pub in-turns : IsInTurns t x
+    pub in-turns : IsInTurns job.pred x
     in-turns = record { is = p.is; turns = up }
 
-    pub below : (k : ℕ) → counter x.at k <ℤ (chunk.first +ℤ pos 65536)
-    below k = (launched_counters D t words chunk (task.launched).0 task.shape (from-up loops task.position) task.some (task.launched).1 x p k).1
+    pub below : (k : ℕ) → counter x.at k <ℤ (job.chunk.first +ℤ pos 65536)
+    below k = (launched_counters D job.pred words job.chunk (task.launched).0 task.shape (from-up job.loops task.position) task.some (task.launched).1 x p k).1
 
     pub counter-fits : (k : ℕ) → FitsSigned w64 (counter x.at k)
     counter-fits k =
         let soon = task.soon in
-        let most = (launched_counters D t words chunk (task.launched).0 task.shape (from-up loops task.position) task.some (task.launched).1 x p k).1 in
+        let most = (launched_counters D job.pred words job.chunk (task.launched).0 task.shape (from-up job.loops task.position) task.some (task.launched).1 x p k).1 in
         let least = up k in
         omega (arith, ints)
 
     -- the outermost `for`
-    outer-fits : (lower upper : Expr) (stride : ℤ) → head_at loops 1 ≡ Some (head.For lower upper stride) → FitsSigned w64 (turn_value o.lower stride (unsigned_abs (counter x.at 0)))
-    outer-fits lower upper stride is = by loops is task.position task.turns
+    outer-fits : (lower upper : Expr) (stride : ℤ) → head_at job.loops 1 ≡ Some (head.For lower upper stride) → FitsSigned w64 (turn_value job.outer.lower stride (unsigned_abs (counter x.at 0)))
+    outer-fits lower upper stride is = by job.loops is task.position task.turns
       where
-        by : (ls : List Loop) → head_at ls 1 ≡ Some (head.For lower upper stride) → IsPositionIn ls o → HasTurnsIn ls o (unsigned_abs chunk.turns) → FitsSigned w64 (turn_value o.lower stride (unsigned_abs (counter x.at 0)))
+        by : (ls : List Loop) → head_at ls 1 ≡ Some (head.For lower upper stride) → IsPositionIn ls job.outer → HasTurnsIn ls job.outer (unsigned_abs job.chunk.turns) → FitsSigned w64 (turn_value job.outer.lower stride (unsigned_abs (counter x.at 0)))
         by [] e h turns = absurd h
-        by (l ∷ ls) e h turns = at (subst (λ (z : tree.Head). IsPosition z o) (some-is l.head (head.For lower upper stride) e) h) (subst (λ (z : tree.Head). HasTurns z o (unsigned_abs chunk.turns)) (some-is l.head (head.For lower upper stride) e) turns)
+        by (l ∷ ls) e h turns = at (subst (λ (z : tree.Head). IsPosition z job.outer) (some-is l.head (head.For lower upper stride) e) h) (subst (λ (z : tree.Head). HasTurns z job.outer (unsigned_abs job.chunk.turns)) (some-is l.head (head.For lower upper stride) e) turns)
           where
-            at : IsPosition (head.For lower upper stride) o → unsigned_abs chunk.turns ≤ number_left o.left → FitsSigned w64 (turn_value o.lower stride (unsigned_abs (counter x.at 0)))
+            at : IsPosition (head.For lower upper stride) job.outer → unsigned_abs job.chunk.turns ≤ number_left job.outer.left → FitsSigned w64 (turn_value job.outer.lower stride (unsigned_abs (counter x.at 0)))
             at (n, m, next_is, left_is, fits) turns =
-                let left : unsigned_abs chunk.turns ≤ m = subst (λ (z : Option ℕ). unsigned_abs chunk.turns ≤ number_left z) left_is turns in
+                let left : unsigned_abs job.chunk.turns ≤ m = subst (λ (z : Option ℕ). unsigned_abs job.chunk.turns ≤ number_left z) left_is turns in
                 let first = task.first in
                 let some = task.some in
                 let from = p.turn.from in
                 let below = p.turn.below in
                 let here : n + (unsigned_abs (counter x.at 0) - n) ≡ unsigned_abs (counter x.at 0) = omega (arith, ints) in
-                subst (λ (i : ℕ). FitsSigned w64 (turn_value o.lower stride i)) here (fits (unsigned_abs (counter x.at 0) - n) (omega (arith, ints)))
+                subst (λ (i : ℕ). FitsSigned w64 (turn_value job.outer.lower stride i)) here (fits (unsigned_abs (counter x.at 0) - n) (omega (arith, ints)))
 
     -- an inner one: its lower bound too
-    inner-fits : (k : ℕ) (lower upper : Expr) (stride : ℤ) → 1 ≤ k → k < counters t (block_of t x) → k < D → head_at loops (suc k) ≡ Some (head.For lower upper stride)
-        → FitsSigned w64 (plan.lower_at (forecast_of t) o (k + 1) (take k x.at)) × FitsSigned w64 (turn_value (plan.lower_at (forecast_of t) o (k + 1) (take k x.at)) stride (unsigned_abs (counter x.at k)))
+    inner-fits : (k : ℕ) (lower upper : Expr) (stride : ℤ) → 1 ≤ k → k < counters job.pred (block_of job.pred x) → k < D → head_at job.loops (suc k) ≡ Some (head.For lower upper stride)
+        → FitsSigned w64 (plan.lower_at (forecast_of job.pred) job.outer (k + 1) (take k x.at)) × FitsSigned w64 (turn_value (plan.lower_at (forecast_of job.pred) job.outer (k + 1) (take k x.at)) stride (unsigned_abs (counter x.at k)))
     inner-fits k lower upper stride some inside deep is =
         let (rank, e) = head-stands k some deep in
-        let there = stands t Head (suc k) rank e in
+        let there = stands job.pred Head (suc k) rank e in
         let kind = loop-kind k (head.For lower upper stride) is in
-        let turning_is : k < turning (block_of t x) = turning-for (block_of t x).part (block_of t x).level k (repeats t ((block_of t x).level - 1)) inside ((task.shape).blocks x.block p.is.block).from
-        (λ f. ap (λ (n : ℕ). is_while (level_at t n).kind) (sym f) ∙ ap is_while kind) in
+        let turning_is : k < turning (block_of job.pred x) = turning-for (block_of job.pred x).part (block_of job.pred x).level k (repeats job.pred ((block_of job.pred x).level - 1)) inside ((task.shape).blocks x.block p.is.block).from
+        (λ f. ap (λ (n : ℕ). is_while (level_at job.pred n).kind) (sym f) ∙ ap is_while kind) in
         let below = (p.turn.inner k some turning_is).1 in
         let least = up k in
-        let fit = name-fits D scalars loops t o chunk words task x k rank stride (unsigned_abs (counter x.at k)) p some turning_is there kind (omega (arith, ints)) in
+        let fit = name-fits D job words task x k rank stride (unsigned_abs (counter x.at k)) p some turning_is there kind (omega (arith, ints)) in
         let low = lower-level x.at k p.is.size some deep in
         (subst (FitsSigned w64) (sym low) fit.0, subst (λ (z : ℤ). FitsSigned w64 (turn_value z stride (unsigned_abs (counter x.at k)))) (sym low) fit.1)
 
-    pub lower-fits : (k : ℕ) (lower upper : Expr) (stride : ℤ) → k < counters t (block_of t x) → k < D → head_at loops (k + 1) ≡ Some (head.For lower upper stride) → 1 ≤ k → FitsSigned w64 (plan.lower_at (forecast_of t) o (k + 1) (take k x.at))
-    lower-fits k lower upper stride inside deep is some = let next : k + 1 ≡ suc k = omega arith in (inner-fits k lower upper stride some inside deep (sym (ap (head_at loops) next) ∙ is)).0
+    pub lower-fits : (k : ℕ) (lower upper : Expr) (stride : ℤ) → k < counters job.pred (block_of job.pred x) → k < D → head_at job.loops (k + 1) ≡ Some (head.For lower upper stride) → 1 ≤ k → FitsSigned w64 (plan.lower_at (forecast_of job.pred) job.outer (k + 1) (take k x.at))
+    lower-fits k lower upper stride inside deep is some = let next : k + 1 ≡ suc k = omega arith in (inner-fits k lower upper stride some inside deep (sym (ap (head_at job.loops) next) ∙ is)).0
 
-    pub value-fits : (k : ℕ) (lower upper : Expr) (stride : ℤ) → k < counters t (block_of t x) → k < D → head_at loops (k + 1) ≡ Some (head.For lower upper stride)
-        → FitsSigned w64 (turn_value (plan.lower_at (forecast_of t) o (k + 1) (take k x.at)) stride (unsigned_abs (counter x.at k)))
+    pub value-fits : (k : ℕ) (lower upper : Expr) (stride : ℤ) → k < counters job.pred (block_of job.pred x) → k < D → head_at job.loops (k + 1) ≡ Some (head.For lower upper stride)
+        → FitsSigned w64 (turn_value (plan.lower_at (forecast_of job.pred) job.outer (k + 1) (take k x.at)) stride (unsigned_abs (counter x.at k)))
     value-fits zero lower upper stride inside deep is = outer-fits lower upper stride is
-    value-fits (suc k) lower upper stride inside deep is = let next : suc k + 1 ≡ suc (suc k) = omega arith in (inner-fits (suc k) lower upper stride (omega arith) inside deep (sym (ap (head_at loops) next) ∙ is)).1
+    value-fits (suc k) lower upper stride inside deep is = let next : suc k + 1 ≡ suc (suc k) = omega arith in (inner-fits (suc k) lower upper stride (omega arith) inside deep (sym (ap (head_at job.loops) next) ∙ is)).1
 
-    pub counters-deep : counters t (block_of t x) ≤ D
-    counters-deep = counters-within D t task.shape x p.is
+    pub counters-deep : counters job.pred (block_of job.pred x) ≤ D
+    counters-deep = counters-within D job.pred task.shape x p.is
 
-    pub head-there : (k : ℕ) → k < D → head_at loops (k + 1) ≡ None → ⊥
+    pub head-there : (k : ℕ) → k < D → head_at job.loops (k + 1) ≡ None → ⊥
     head-there k l e =
         let next : k + 1 ≡ suc k = omega arith in
-        let size = depth-same scalars loops t task.table in
+        let size = depth-same job.scalars job.loops job.pred task.table in
         let deep = (task.shape).deep in
-        no-head loops k (omega arith) (sym (ap (head_at loops) next) ∙ e)
+        no-head job.loops k (omega arith) (sym (ap (head_at job.loops) next) ∙ e)
 
-    pub name-for : (k : ℕ) (lower upper : Expr) (stride : ℤ) → head_at loops (k + 1) ≡ Some (head.For lower upper stride)
-        → name_value t loops o x.at k ≡ turn_value (plan.lower_at (forecast_of t) o (k + 1) (take k x.at)) stride (unsigned_abs (counter x.at k))
+    pub name-for : (k : ℕ) (lower upper : Expr) (stride : ℤ) → head_at job.loops (k + 1) ≡ Some (head.For lower upper stride)
+        → name_value job.pred job.loops job.outer x.at k ≡ turn_value (plan.lower_at (forecast_of job.pred) job.outer (k + 1) (take k x.at)) stride (unsigned_abs (counter x.at k))
     unfolding name_value
-    name-for k lower upper stride is = ap (λ (h : Option tree.Head). value_by (forecast_of t) o h (k + 1) (take k x.at) (counter x.at k)) is
+    name-for k lower upper stride is = ap (λ (h : Option tree.Head). value_by (forecast_of job.pred) job.outer h (k + 1) (take k x.at) (counter x.at k)) is
 
-    pub name-while : (k : ℕ) (condition : Expr) → head_at loops (k + 1) ≡ Some (head.While condition) → name_value t loops o x.at k ≡ counter x.at k
+    pub name-while : (k : ℕ) (condition : Expr) → head_at job.loops (k + 1) ≡ Some (head.While condition) → name_value job.pred job.loops job.outer x.at k ≡ counter x.at k
     unfolding name_value
-    name-while k condition is = ap (λ (h : Option tree.Head). value_by (forecast_of t) o h (k + 1) (take k x.at) (counter x.at k)) is ∙ same (counter x.at k) (up k)
+    name-while k condition is = ap (λ (h : Option tree.Head). value_by (forecast_of job.pred) job.outer h (k + 1) (take k x.at) (counter x.at k)) is ∙ same (counter x.at k) (up k)
       where
         same : (z : ℤ) → pos 0 ≤ℤ z → pos (unsigned_abs z) ≡ z
         same z h = omega (arith, ints)
 
     -- the turn numbers of the loops around it are its own
-    pub around-counters : (k : ℕ) → k ≤ D → (around_of t loops o (take k x.at)).counters ≡ take k x.at
+    pub around-counters : (k : ℕ) → k ≤ D → (around_of job.pred job.loops job.outer (take k x.at)).counters ≡ take k x.at
     unfolding around_of
-    around-counters k l = inside-counters (forecast_of t) o 1 loops outside (take k x.at) (let d = depth-same scalars loops t task.table in let e = (task.shape).deep in omega (arith, front)) (fronts-up k x.at up)
+    around-counters k l = inside-counters (forecast_of job.pred) job.outer 1 job.loops outside (take k x.at) (let d = depth-same job.scalars job.loops job.pred task.table in let e = (task.shape).deep in omega (arith, front)) (fronts-up k x.at up)
       where
         front : length (take k x.at) ≡ k
         front = length-take-le k x.at (let s = p.is.size in let d = (task.shape).deep in omega arith)
 
     -- the next loop inwards
-    pub around-next : (k : ℕ) → k < D → (h : Option tree.Head) → head_at loops (k + 1) ≡ h
-        → around_of t loops o (take (k + 1) x.at) ≡ inward (around_of t loops o (take k x.at)) (unsigned_abs (counter x.at k)) (name_value t loops o x.at k)
+    pub around-next : (k : ℕ) → k < D → (h : Option tree.Head) → head_at job.loops (k + 1) ≡ h
+        → around_of job.pred job.loops job.outer (take (k + 1) x.at) ≡ inward (around_of job.pred job.loops job.outer (take k x.at)) (unsigned_abs (counter x.at k)) (name_value job.pred job.loops job.outer x.at k)
     unfolding around_of name_value
     around-next k l None is = absurd (head-there k l is)
     around-next k l (Some h) is = next
@@ -261,27 +261,27 @@ module _ (D scalars : ℕ) (loops : List Loop) (t : Table) (o : Outer) (chunk : 
         more : k + 1 ≡ suc k
         more = omega arith
 
-        found : (m : Loop) × (slice_get loops k ≡ Some m) × (m.head ≡ h)
-        found = head-loop (slice_get loops k) h (sym (ap (head_at loops) more) ∙ is)
+        found : (m : Loop) × (slice_get job.loops k ≡ Some m) × (m.head ≡ h)
+        found = head-loop (slice_get job.loops k) h (sym (ap (head_at job.loops) more) ∙ is)
 
         front : length (take k x.at) ≡ k
         front = length-take-le k x.at (omega (arith, size))
 
-        counters-is : (inside_of (forecast_of t) o 1 loops outside (take k x.at)).counters ≡ take k x.at
-        counters-is = inside-counters (forecast_of t) o 1 loops outside (take k x.at) (let d = depth-same scalars loops t task.table in let e = (task.shape).deep in omega (arith, front)) (fronts-up k x.at up)
+        counters-is : (inside_of (forecast_of job.pred) job.outer 1 job.loops outside (take k x.at)).counters ≡ take k x.at
+        counters-is = inside-counters (forecast_of job.pred) job.outer 1 job.loops outside (take k x.at) (let d = depth-same job.scalars job.loops job.pred task.table in let e = (task.shape).deep in omega (arith, front)) (fronts-up k x.at up)
 
-        value-is : value_in (forecast_of t) o h (1 + k) (inside_of (forecast_of t) o 1 loops outside (take k x.at)) (unsigned_abs (counter x.at k)) ≡ name_value t loops o x.at k
+        value-is : value_in (forecast_of job.pred) job.outer h (1 + k) (inside_of (forecast_of job.pred) job.outer 1 job.loops outside (take k x.at)) (unsigned_abs (counter x.at k)) ≡ name_value job.pred job.loops job.outer x.at k
         value-is =
-            values-same (forecast_of t) o h (1 + k) (inside_of (forecast_of t) o 1 loops outside (take k x.at)) (take k x.at) (unsigned_abs (counter x.at k)) counters-is
-            ∙ (let swap : 1 + k ≡ k + 1 = omega arith in ap (λ (n : ℕ). value_in (forecast_of t) o h n (record { counters = take k x.at; values = [] }) (unsigned_abs (counter x.at k))) swap)
-            ∙ sym (ap (λ (z : Option tree.Head). value_by (forecast_of t) o z (k + 1) (take k x.at) (counter x.at k)) is)
+            values-same (forecast_of job.pred) job.outer h (1 + k) (inside_of (forecast_of job.pred) job.outer 1 job.loops outside (take k x.at)) (take k x.at) (unsigned_abs (counter x.at k)) counters-is
+            ∙ (let swap : 1 + k ≡ k + 1 = omega arith in ap (λ (n : ℕ). value_in (forecast_of job.pred) job.outer h n (record { counters = take k x.at; values = [] }) (unsigned_abs (counter x.at k))) swap)
+            ∙ sym (ap (λ (z : Option tree.Head). value_by (forecast_of job.pred) job.outer z (k + 1) (take k x.at) (counter x.at k)) is)
 
-        next : around_of t loops o (take (k + 1) x.at) ≡ inward (around_of t loops o (take k x.at)) (unsigned_abs (counter x.at k)) (name_value t loops o x.at k)
+        next : around_of job.pred job.loops job.outer (take (k + 1) x.at) ≡ inward (around_of job.pred job.loops job.outer (take k x.at)) (unsigned_abs (counter x.at k)) (name_value job.pred job.loops job.outer x.at k)
         next =
-            ap (inside_of (forecast_of t) o 1 loops outside) (take_more x.at k (pos 0) (omega (arith, size)))
-            ∙ inside-more (forecast_of t) o 1 loops outside (take k x.at) (counter x.at k) found.0 (ap (slice_get loops) front ∙ found.1)
-            ∙ ap₂ (λ (z : tree.Head) (n : ℕ). into (forecast_of t) o z n (inside_of (forecast_of t) o 1 loops outside (take k x.at)) (counter x.at k)) found.2 (ap (λ (n : ℕ). 1 + n) front)
-            ∙ ap (inward (inside_of (forecast_of t) o 1 loops outside (take k x.at)) (unsigned_abs (counter x.at k))) value-is
+            ap (inside_of (forecast_of job.pred) job.outer 1 job.loops outside) (take_more x.at k (pos 0) (omega (arith, size)))
+            ∙ inside-more (forecast_of job.pred) job.outer 1 job.loops outside (take k x.at) (counter x.at k) found.0 (ap (slice_get job.loops) front ∙ found.1)
+            ∙ ap₂ (λ (z : tree.Head) (n : ℕ). into (forecast_of job.pred) job.outer z n (inside_of (forecast_of job.pred) job.outer 1 job.loops outside (take k x.at)) (counter x.at k)) found.2 (ap (λ (n : ℕ). 1 + n) front)
+            ∙ ap (inward (inside_of (forecast_of job.pred) job.outer 1 job.loops outside (take k x.at)) (unsigned_abs (counter x.at k))) value-is
 
 pub around-none : (t : Table) (loops : List Loop) (o : Outer) → around_of t loops o [] ≡ outside
 unfolding around_of

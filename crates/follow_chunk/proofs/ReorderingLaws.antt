@@ -73,4 +73,4 @@ places-keep D scalars loops t o xs d places m nest all once same keeps =
     here = all-here (length xs) places (λ i h. let l = (range-has 0 (length xs) i (same.back i h)).1 in omega (arith, l))
 
 pub predicted-in-turns : PredictedAreInTurns
-predicted-in-turns D scalars loops t o chunk x task p = (nest-of D scalars loops t o chunk task.0 task.1, in-turns D scalars loops t o chunk task.0 task.1 x p)
+predicted-in-turns D k x task p = (nest-of D k task.0 task.1, in-turns D k task.0 task.1 x p)

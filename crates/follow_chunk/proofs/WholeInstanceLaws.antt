@@ -38,7 +38,7 @@ use Rattle.follow.proofs.BudgetLaws.{enough, went, went-reach}
 use Rattle.follow.proofs.DeviatingLaws.{tests-follow, not-both}
 use Rattle.follow_chunk.specs.Predicted.{occurrence_of, instance_of, scalars_at, forecast_of}
 use Rattle.follow_chunk.specs.Items.{item_at, scalars_after}
-use Rattle.follow_chunk.specs.Tasks.{IsTask}
+use Rattle.follow_chunk.specs.Tasks.{TaskState, IsTask}
 use Rattle.follow_chunk.specs.Nests.{IsNest, IsInTurns}
 use Rattle.follow_chunk.specs.Followed.{store_at, IsRun, Follows, Deviates}
 use Rattle.follow_chunk.proofs.PointLaws.{instance-occurrence}
@@ -145,57 +145,57 @@ head-one f h s = by (head_of f h s).value
     by (Ok y) = omega arith
     by (Err halt) = omega arith
 
-module _ (D scalars : ℕ) (loops : List Loop) (t : Table) (o : Outer) (chunk : Chunk) (words : ℤ) (task : IsTask D scalars loops t o chunk words) (x : Instance) (p : Predicted t chunk x) where
-  abbrev nest : IsNest D scalars loops t
-  nest = nest-of D scalars loops t o chunk words task
+module _ (D : ℕ) (job : TaskState) (words : ℤ) (task : IsTask D job words) (x : Instance) (p : Predicted job.pred job.chunk x) where
+  abbrev nest : IsNest D job.scalars job.loops job.pred
+  nest = nest-of D job words task
 
-  abbrev turns : IsInTurns t x
-  turns = in-turns D scalars loops t o chunk words task x p
+  abbrev turns : IsInTurns job.pred x
+  turns = in-turns D job words task x p
 
   abbrev q : Forecast
-  q = forecast_of t
+  q = forecast_of job.pred
 
   -- what it runs, in how many steps at most
-  works : (w : Work) × (item_at t loops o x ≡ item (block_of t x).part (block_of t x).level (nests.A D scalars loops t o nest x turns) w) × ((f : Frame) (s : Store) → length (work_trace f w s).entries ≤ 2 ^ 20)
-  works = by (blocks.statements_of loops (block_ref (block_of t x).part (block_of t x).level)) refl
+  works : (w : Work) × (item_at job.pred job.loops job.outer x ≡ item (block_of job.pred x).part (block_of job.pred x).level (nests.A D job.scalars job.loops job.pred job.outer nest x turns) w) × ((f : Frame) (s : Store) → length (work_trace f w s).entries ≤ 2 ^ 20)
+  works = by (blocks.statements_of job.loops (block_ref (block_of job.pred x).part (block_of job.pred x).level)) refl
     where
-      by : (ss : Option (List Stmt)) → blocks.statements_of loops (block_ref (block_of t x).part (block_of t x).level) ≡ ss
-          → (w : Work) × (item_at t loops o x ≡ item (block_of t x).part (block_of t x).level (nests.A D scalars loops t o nest x turns) w) × ((f : Frame) (s : Store) → length (work_trace f w s).entries ≤ 2 ^ 20)
+      by : (ss : Option (List Stmt)) → blocks.statements_of job.loops (block_ref (block_of job.pred x).part (block_of job.pred x).level) ≡ ss
+          → (w : Work) × (item_at job.pred job.loops job.outer x ≡ item (block_of job.pred x).part (block_of job.pred x).level (nests.A D job.scalars job.loops job.pred job.outer nest x turns) w) × ((f : Frame) (s : Store) → length (work_trace f w s).entries ≤ 2 ^ 20)
       by None e = (
-        Evaluates (nests.loop-here D scalars loops t o nest x turns).0.head,
-        nests.item-head D scalars loops t o nest x turns (nests.none-head D scalars loops t o nest x turns e),
-        λ f s. let one = head-one f (nests.loop-here D scalars loops t o nest x turns).0.head s in omega arith,
+        Evaluates (nests.loop-here D job.scalars job.loops job.pred job.outer nest x turns).0.head,
+        nests.item-head D job.scalars job.loops job.pred job.outer nest x turns (nests.none-head D job.scalars job.loops job.pred job.outer nest x turns e),
+        λ f s. let one = head-one f (nests.loop-here D job.scalars job.loops job.pred job.outer nest x turns).0.head s in omega arith,
       )
       by (Some ss) e =
-          let (s, rest, are, is) = nests.item-statements D scalars loops t o nest x turns ss e in (
+          let (s, rest, are, is) = nests.item-statements D job.scalars job.loops job.pred job.outer nest x turns ss e in (
             Runs s rest,
             is,
             λ f u. let few = steps-within f (s ∷ rest) u in
-                let size = subst (λ (us : List Stmt). block_size us < 2 ^ 20) are (nests.size-here D scalars loops t o nest x turns ss e) in omega arith,
+                let size = subst (λ (us : List Stmt). block_size us < 2 ^ 20) are (nests.size-here D job.scalars job.loops job.pred job.outer nest x turns ss e) in omega arith,
           )
 
-  pub item-at : (item_at t loops o x).at ≡ occurrence_of t x
-  item-at = ap (λ (i : Item). i.at) works.1 ∙ nests.occurrence-here D scalars loops t o nest x turns
+  pub item-at : (item_at job.pred job.loops job.outer x).at ≡ occurrence_of job.pred x
+  item-at = ap (λ (i : Item). i.at) works.1 ∙ nests.occurrence-here D job.scalars job.loops job.pred job.outer nest x turns
 
-  pub few-entries : (s : Store) → length (item_trace q (item_at t loops o x) s).entries ≤ 2 ^ 20
+  pub few-entries : (s : Store) → length (item_trace q (item_at job.pred job.loops job.outer x) s).entries ≤ 2 ^ 20
   few-entries s = subst (λ (i : Item). length (item_trace q i s).entries ≤ 2 ^ 20) (sym works.1) (works.2 _ s)
 
-  pub few-steps : (s : Store) → length (item_trace q (item_at t loops o x) s).entries ≤ 2 ^ 32
+  pub few-steps : (s : Store) → length (item_trace q (item_at job.pred job.loops job.outer x) s).entries ≤ 2 ^ 32
   few-steps s = let few = few-entries s in omega arith
 
   -- the follow run of one instance, in the terms of its run
-  one-is : (m : List ℤ) → follow_one q (scalars_after t) (item_at t loops o x) m
-      ≡ ended_with (q.scalars (occurrence_of t (next t x))) (state_of (reach q (item_trace q (item_at t loops o x) (store_at t x m)) (store_at t x m)))
+  one-is : (m : List ℤ) → follow_one q (scalars_after job.pred) (item_at job.pred job.loops job.outer x) m
+      ≡ ended_with (q.scalars (occurrence_of job.pred (next job.pred x))) (state_of (reach q (item_trace q (item_at job.pred job.loops job.outer x) (store_at job.pred x m)) (store_at job.pred x m)))
   one-is m =
-      let io = ap (instance_of t) item-at ∙ instance-occurrence D t task.shape x p.is in
-      let after : scalars_after t (item_at t loops o x) ≡ q.scalars (occurrence_of t (next t x)) = ap (λ (y : Instance). scalars_at t (next t y)) io ∙ sym (ap (scalars_at t) (instance-occurrence D t task.shape (next t x) (standing.next-instance D scalars loops t o chunk words task x p))) in
-      let begins : q.scalars (item_at t loops o x).at ≡ scalars_at t x = ap (scalars_at t) io in
-      ap₂ (λ (us vs : List ℤ). ended_with us (item_step q (item_at t loops o x) vs m)) after begins
+      let io = ap (instance_of job.pred) item-at ∙ instance-occurrence D job.pred task.shape x p.is in
+      let after : scalars_after job.pred (item_at job.pred job.loops job.outer x) ≡ q.scalars (occurrence_of job.pred (next job.pred x)) = ap (λ (y : Instance). scalars_at job.pred (next job.pred y)) io ∙ sym (ap (scalars_at job.pred) (instance-occurrence D job.pred task.shape (next job.pred x) (standing.next-instance D job words task x p))) in
+      let begins : q.scalars (item_at job.pred job.loops job.outer x).at ≡ scalars_at job.pred x = ap (scalars_at job.pred) io in
+      ap₂ (λ (us vs : List ℤ). ended_with us (item_step q (item_at job.pred job.loops job.outer x) vs m)) after begins
 
-  sizes-here : length (q.scalars (occurrence_of t (next t x))) ≡ length (scalars_at t x)
+  sizes-here : length (q.scalars (occurrence_of job.pred (next job.pred x))) ≡ length (scalars_at job.pred x)
   sizes-here =
-      ap (λ (y : Instance). length (scalars_at t y)) (instance-occurrence D t task.shape (next t x) (standing.next-instance D scalars loops t o chunk words task x p))
-      ∙ length-scalars t (next t x) ∙ count-next D scalars loops t o chunk words task x p ∙ sym (length-scalars t x ∙ count-here D scalars loops t o chunk words task x p)
+      ap (λ (y : Instance). length (scalars_at job.pred y)) (instance-occurrence D job.pred task.shape (next job.pred x) (standing.next-instance D job words task x p))
+      ∙ length-scalars job.pred (next job.pred x) ∙ count-next D job words task x p ∙ sym (length-scalars job.pred x ∙ count-here D job words task x p)
 
   ended-steps : (us : List ℤ) (r : Option Reached) (z : Outcome) → ended_with us (state_of r) ≡ Some z → (w : Reached) × (r ≡ Some w) × (z.steps ≡ w.steps)
   ended-steps us None z e = absurd (cc)
@@ -206,23 +206,23 @@ module _ (D scalars : ℕ) (loops : List Loop) (t : Table) (o : Outer) (chunk : 
       by false f = absurd (cc)
 
   -- and takes few steps
-  pub run-few : (m after : List ℤ) (steps : ℕ) → IsRun t loops o x m (Ok steps) after → steps ≤ 2 ^ 20
+  pub run-few : (m after : List ℤ) (steps : ℕ) → IsRun job x m (Ok steps) after → steps ≤ 2 ^ 20
   unfolding reach
   run-few m after steps run =
-      let (w, is, same) = ended-steps (q.scalars (occurrence_of t (next t x))) (reach q (item_trace q (item_at t loops o x) (store_at t x m)) (store_at t x m)) (record { memory = after; steps = steps }) run.1 in
-      let are = steps-are q (item_trace q (item_at t loops o x) (store_at t x m)).entries (item_trace q (item_at t loops o x) (store_at t x m)).halt (store_at t x m) w is in
-      let few = few-entries (store_at t x m) in
+      let (w, is, same) = ended-steps (q.scalars (occurrence_of job.pred (next job.pred x))) (reach q (item_trace q (item_at job.pred job.loops job.outer x) (store_at job.pred x m)) (store_at job.pred x m)) (record { memory = after; steps = steps }) run.1 in
+      let are = steps-are q (item_trace q (item_at job.pred job.loops job.outer x) (store_at job.pred x m)).entries (item_trace q (item_at job.pred job.loops job.outer x) (store_at job.pred x m)).halt (store_at job.pred x m) w is in
+      let few = few-entries (store_at job.pred x m) in
       omega arith
 
-  pub follows-few : (m after : List ℤ) (steps : ℕ) → Follows t loops o x steps m after → steps ≤ 2 ^ 32
+  pub follows-few : (m after : List ℤ) (steps : ℕ) → Follows job x steps m after → steps ≤ 2 ^ 32
   follows-few m after steps f = let few = run-few m after steps f.run in omega arith
 
-  pub follows-by : (m after : List ℤ) (steps : ℕ) → IsRun t loops o x m (Ok steps) after → Follows t loops o x steps m after
+  pub follows-by : (m after : List ℤ) (steps : ℕ) → IsRun job x m (Ok steps) after → Follows job x steps m after
   follows-by m after steps run = record { run = run; one = one-is m ∙ run.1 }
 
-  pub deviates-by : (m after : List ℤ) (h : How) → IsRun t loops o x m (Err h) after → Deviates t loops o x h m
+  pub deviates-by : (m after : List ℤ) (h : How) → IsRun job x m (Err h) after → Deviates job x h m
   deviates-by m after h run = record {
     run = run;
-    whole = λ e. not-limit q (occurrence_of t (next t x)) (item_trace q (item_at t loops o x) (store_at t x m)) (store_at t x m) (2 ^ 32) run.0 (few-steps (store_at t x m)) run.1 (sym run.2 ∙ e);
-    none = one-is m ∙ not-one q (occurrence_of t (next t x)) (item_trace q (item_at t loops o x) (store_at t x m)) (store_at t x m) (2 ^ 32) run.0 sizes-here (few-steps (store_at t x m)) run.1;
+    whole = λ e. not-limit q (occurrence_of job.pred (next job.pred x)) (item_trace q (item_at job.pred job.loops job.outer x) (store_at job.pred x m)) (store_at job.pred x m) (2 ^ 32) run.0 (few-steps (store_at job.pred x m)) run.1 (sym run.2 ∙ e);
+    none = one-is m ∙ not-one q (occurrence_of job.pred (next job.pred x)) (item_trace q (item_at job.pred job.loops job.outer x) (store_at job.pred x m)) (store_at job.pred x m) (2 ^ 32) run.0 sizes-here (few-steps (store_at job.pred x m)) run.1;
   }

@@ -16,7 +16,7 @@ use Rattle.follow.specs.Instances.{item_of}
 use Rattle.follow.specs.ReorderLaws as list
 use Rattle.follow_chunk.specs.Predicted.{occurrence_of, instance_of, forecast_of}
 use Rattle.follow_chunk.specs.Items.{item_at}
-use Rattle.follow_chunk.specs.Tasks.{IsTask}
+use Rattle.follow_chunk.specs.Tasks.{TaskState, IsTask}
 
 -- an instance is that of its occurrence
 abbrev pub InstancesReturn : Type 0
@@ -25,8 +25,8 @@ InstancesReturn = (D : ℕ) (t : Table) (x : Instance) → IsTable D t → IsIns
 -- a predicted instance of a task is one of its nest: its block and its turn numbers say what it runs
 abbrev pub InstancesHaveItems : Type 0
 InstancesHaveItems =
-    (D scalars words : ℕ) (loops : List Loop) (t : Table) (o : Outer) (chunk : Chunk) (x : Instance) → IsTask D scalars loops t o chunk (pos words) → Predicted t chunk x
-    → (item_of (forecast_of t) o loops (occurrence_of t x) ≡ Some (item_at t loops o x)) × ((item_at t loops o x).at ≡ occurrence_of t x)
+    (D : ℕ) (k : TaskState) (words : ℕ) (x : Instance) → IsTask D k (pos words) → Predicted k.pred k.chunk x
+    → (item_of (forecast_of k.pred) k.outer k.loops (occurrence_of k.pred x) ≡ Some (item_at k.pred k.loops k.outer x)) × ((item_at k.pred k.loops k.outer x).at ≡ occurrence_of k.pred x)
 
 -- the instance after a predicted one is its successor, and no other is
 abbrev pub NextIsSuccessor : Type 0
@@ -35,8 +35,8 @@ NextIsSuccessor = (D : ℕ) (t : Table) (chunk : Chunk) (x y : Instance) → IsT
 -- two predicted instances conflict as what they run does
 abbrev pub ConflictsAgree : Type 0
 ConflictsAgree =
-    (D scalars words : ℕ) (loops : List Loop) (t : Table) (o : Outer) (chunk : Chunk) (x y : Instance) → IsTask D scalars loops t o chunk (pos words) → Predicted t chunk x → Predicted t chunk y
-    → list.Conflict (forecast_of t) words (item_at t loops o x) (item_at t loops o y) ↔ table.Conflict t (pos words) x y
+    (D : ℕ) (k : TaskState) (words : ℕ) (x y : Instance) → IsTask D k (pos words) → Predicted k.pred k.chunk x → Predicted k.pred k.chunk y
+    → list.Conflict (forecast_of k.pred) words (item_at k.pred k.loops k.outer x) (item_at k.pred k.loops k.outer y) ↔ table.Conflict k.pred (pos words) x y
 
 -- for i = 0 below 40 { [i] = 1 }
 abbrev pub one_row : List Loop
@@ -45,6 +45,10 @@ one_row = record { head = For (Number (pos 0)) (Number (pos 40)) (pos 1); pre = 
 abbrev pub one_turn : Chunk
 one_turn = record { first = pos 0; turns = pos 1 }
 
+-- its first turn
+abbrev pub first_turn : TaskState
+first_turn = record { scalars = 0; loops = one_row; pred = row; outer = record { lower = pos 0; next = pos 0; left = Some 40 }; chunk = one_turn }
+
 -- the premises of the contracts can be met: by the first turn of that nest, over 40 words
 abbrev pub PremisesCanHold : Type 0
-PremisesCanHold = IsTask 1 0 one_row row (record { lower = pos 0; next = pos 0; left = Some 40 }) one_turn (pos 40)
+PremisesCanHold = IsTask 1 first_turn (pos 40)

@@ -4,6 +4,7 @@ pub mod Nests
 pub mod Tasks
 pub mod Verifies
 pub mod Examples
+pub mod Foreseen
 pub mod Followed
 pub mod Laws
 pub mod ReorderLaws

@@ -13,7 +13,7 @@ use Rattle.follow.specs.FollowRuns.{follow_run}
 use Rattle.follow_chunk.specs.Predicted.{forecast_of}
 use Rattle.follow_chunk.specs.Items.{items_at, scalars_after}
 use Rattle.follow_chunk.specs.Nests.{IsNest, IsInTurns}
-use Rattle.follow_chunk.specs.Tasks.{IsSomeTask}
+use Rattle.follow_chunk.specs.Tasks.{TaskState, IsSomeTask}
 
 -- the follow run of instances: of what they run, from the scalars that the table expects, against those of their
 -- successors
@@ -47,4 +47,4 @@ PlacesKeep =
 -- a predicted instance of a launched chunk is one of its nest, in a turn of each loop around it
 abbrev pub PredictedAreInTurns : Type 0
 PredictedAreInTurns =
-    (D scalars : ℕ) (loops : List Loop) (t : Table) (o : Outer) (chunk : Chunk) (x : Instance) → IsSomeTask D scalars loops t o chunk → Predicted t chunk x → IsNest D scalars loops t × IsInTurns t x
+    (D : ℕ) (k : TaskState) (x : Instance) → IsSomeTask D k → Predicted k.pred k.chunk x → IsNest D k.scalars k.loops k.pred × IsInTurns k.pred x

@@ -8,7 +8,7 @@ ghost use Rattle.domain.specs.Steps.{next};
 ghost use Rattle.follow.specs.Turnings.{IsTurning};
 ghost use Rattle.follow.specs.Told.{told};
 ghost use Rattle.follow_chunk.specs.Predicted.{occurrence_of, scalars_at, forecast_of};
-ghost use Rattle.follow_chunk.specs.Tasks.{IsTask, IsSomeTask};
+ghost use Rattle.follow_chunk.specs.Tasks.{task_of, IsTask, IsSomeTask};
 ghost use Rattle.follow_chunk.specs.Followed.{IsRun, IsInstanceFollowed, ChangesWrites, ClosesSmall, IsClosedSmall};
 
 use crate::expect::Foreseen;
@@ -22,7 +22,7 @@ use nest_lang::{BlockRef, Head};
 impl<const D: usize> Task<'_, D> {
     /// The block of an instance.
     pub(crate) fn block(&self, inst: &Instance<D>) -> BlockRef
-        requires task { IsSomeTask D self.now.scalars self.now.nest.now.loops self.now.pred.now self.now.outer self.now.chunk }
+        requires task { IsSomeTask D (task_of self.now) }
         requires predicted { Predicted self.now.pred.now self.now.chunk inst.now }
         ensures { result ≡ block_ref (block_of self.now.pred.now inst.now).part (block_of self.now.pred.now inst.now).level }
     {
@@ -37,7 +37,7 @@ impl<const D: usize> Task<'_, D> {
     /// scalars any.
     fn next_or_any(&self, inst: &Instance<D>) -> Instance<D>
         requires few { D < 7 }
-        requires task { IsSomeTask D self.now.scalars self.now.nest.now.loops self.now.pred.now self.now.outer self.now.chunk }
+        requires task { IsSomeTask D (task_of self.now) }
         requires predicted { Predicted self.now.pred.now self.now.chunk inst.now }
         ensures { scalars_at self.now.pred.now result ≡ scalars_at self.now.pred.now (next self.now.pred.now inst.now) }
     {
@@ -52,7 +52,7 @@ impl<const D: usize> Task<'_, D> {
     #[inline(never)]
     fn successor(&self, inst: &Instance<D>) -> Instance<D>
         requires few { D < 7 }
-        requires task { IsSomeTask D self.now.scalars self.now.nest.now.loops self.now.pred.now self.now.outer self.now.chunk }
+        requires task { IsSomeTask D (task_of self.now) }
         requires predicted { Predicted self.now.pred.now self.now.chunk inst.now }
         ensures { result ≡ next self.now.pred.now inst.now }
     {
@@ -62,7 +62,7 @@ impl<const D: usize> Task<'_, D> {
     /// What is expected of an instance, which is predicted in the task's chunk.
     pub fn foreseen<'i>(&'i self, inst: &'i Instance<D>) -> Foreseen<'i, D>
         requires few { D < 7 }
-        requires task { IsSomeTask D self.now.scalars self.now.nest.now.loops self.now.pred.now self.now.outer self.now.chunk }
+        requires task { IsSomeTask D (task_of self.now) }
         requires predicted { Predicted self.now.pred.now self.now.chunk inst.now }
         ensures pred { result.pred.now ≡ self.now.pred.now }
         ensures inst { result.inst.now ≡ inst.now }
@@ -79,7 +79,7 @@ impl<const D: usize> Task<'_, D> {
     /// What is expected of the head of that block, of which this is an instance.
     pub(crate) fn turning(&self, inst: &Instance<D>, block: BlockRef, head: &Head) -> Turning
         requires few { D < 7 }
-        requires task { IsSomeTask D self.now.scalars self.now.nest.now.loops self.now.pred.now self.now.outer self.now.chunk }
+        requires task { IsSomeTask D (task_of self.now) }
         requires predicted { Predicted self.now.pred.now self.now.chunk inst.now }
         requires block { block ≡ block_ref (block_of self.now.pred.now inst.now).part (block_of self.now.pred.now inst.now).level }
         requires part { block.part ≡ HeadPart }
@@ -112,10 +112,10 @@ impl<const D: usize> Task<'_, D> {
         how: &mut How,
     ) -> Result<u64, Differs>
         requires few { D < 7 }
-        requires task { IsSomeTask D self.now.scalars self.now.nest.now.loops self.now.pred.now self.now.outer self.now.chunk }
+        requires task { IsSomeTask D (task_of self.now) }
         requires predicted { Predicted self.now.pred.now self.now.chunk inst.now }
         requires plain { (P.expects port.old).verifies ≡ false }
-        ensures run { IsRun self.now.pred.now self.now.nest.now.loops self.now.outer inst.now (P.memory port.old) (told result how.new) (P.memory port.new) }
+        ensures run { IsRun (task_of self.now) inst.now (P.memory port.old) (told result how.new) (P.memory port.new) }
         ensures changes { ChangesWrites self.now.pred.now inst.now (P.memory port.old) (P.memory port.new) }
         ensures closes { IsOk result → ClosesSmall self.now.pred.now inst.now }
         ensures expects { P.expects port.new ≡ P.expects port.old }
@@ -139,10 +139,10 @@ pub fn follow_instance<P: Port, const D: usize>(
     port: &mut P,
 ) -> Followed<D>
     requires few { D < 7 }
-    requires task { IsTask D task.now.scalars task.now.nest.now.loops task.now.pred.now task.now.outer task.now.chunk (pos (length (P.memory port.old))) }
+    requires task { IsTask D (task_of task.now) (pos (length (P.memory port.old))) }
     requires predicted { Predicted task.now.pred.now task.now.chunk inst.now }
     requires plain { (P.expects port.old).verifies ≡ false }
-    ensures followed { IsInstanceFollowed task.now.pred.now task.now.nest.now.loops task.now.outer inst.now (P.memory port.old) result (P.memory port.new) }
+    ensures followed { IsInstanceFollowed (task_of task.now) inst.now (P.memory port.old) result (P.memory port.new) }
     ensures changes { ChangesWrites task.now.pred.now inst.now (P.memory port.old) (P.memory port.new) }
     ensures closes { IsClosedSmall task.now.pred.now inst.now result }
     ensures expects { P.expects port.new ≡ P.expects port.old }

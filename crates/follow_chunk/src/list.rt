@@ -3,7 +3,7 @@
 ghost use Rattle.std.specs.Prelude.{◌≡◌, ◌<◌, ◌≤◌, false, length, pos};
 ghost use Rattle.std.specs.List.{AllByRecursion};
 ghost use Rattle.domain.specs.Instances.{Predicted};
-ghost use Rattle.follow_chunk.specs.Tasks.{IsTask};
+ghost use Rattle.follow_chunk.specs.Tasks.{task_of, IsTask};
 ghost use Rattle.follow_chunk.specs.Followed.{IsListFollowed};
 
 use crate::instance::follow_instance;
@@ -20,11 +20,11 @@ pub fn follow_list<P: Port, const D: usize>(
     port: &mut P,
 ) -> Followed<D>
     requires few { D < 7 }
-    requires task { IsTask D task.now.scalars task.now.nest.now.loops task.now.pred.now task.now.outer task.now.chunk (pos (length (P.memory port.old))) }
+    requires task { IsTask D (task_of task.now) (pos (length (P.memory port.old))) }
     requires short { length list.now ≤ 65536 }
     requires predicted { AllByRecursion (Predicted task.now.pred.now task.now.chunk) list.now }
     requires plain { (P.expects port.old).verifies ≡ false }
-    ensures followed { IsListFollowed task.now.pred.now task.now.nest.now.loops task.now.outer list.now (P.memory port.old) result (P.memory port.new) }
+    ensures followed { IsListFollowed (task_of task.now) list.now (P.memory port.old) result (P.memory port.new) }
     ensures expects { P.expects port.new ≡ P.expects port.old }
     ensures basis { P.basis port.new ≡ P.basis port.old }
 {

@@ -10,7 +10,7 @@ ghost use Rattle.domain.specs.Instances.{block_of, Predicted};
 ghost use Rattle.follow.specs.Instances.{lower_at};
 ghost use Rattle.follow_chunk.specs.Predicted.{forecast_of};
 ghost use Rattle.follow_chunk.specs.Items.{around_of, name_value};
-ghost use Rattle.follow_chunk.specs.Tasks.{IsSomeTask};
+ghost use Rattle.follow_chunk.specs.Tasks.{task_of, IsSomeTask};
 
 use crate::task::Task;
 use block_exec::{Site, value_of_turn};
@@ -34,7 +34,7 @@ impl<const D: usize> Task<'_, D> {
     /// outermost loop, and the expected one for an inner loop.
     fn lower(&self, inst: &Instance<D>, depth: usize) -> i64
         requires few { D < 7 }
-        requires task { IsSomeTask D self.now.scalars self.now.nest.now.loops self.now.pred.now self.now.outer self.now.chunk }
+        requires task { IsSomeTask D (task_of self.now) }
         requires predicted { Predicted self.now.pred.now self.now.chunk inst.now }
         requires around { depth < counters self.now.pred.now (block_of self.now.pred.now inst.now) }
         requires fits { 1 ≤ depth → FitsSigned w64 (lower_at (forecast_of self.now.pred.now) self.now.outer (depth + 1) (take depth inst.now.at)) }
@@ -52,7 +52,7 @@ impl<const D: usize> Task<'_, D> {
     /// The value of the name of the loop inside so many others, in its turn at an instance; of a `while` the turn number.
     fn value(&self, inst: &Instance<D>, depth: usize) -> i64
         requires few { D < 7 }
-        requires task { IsSomeTask D self.now.scalars self.now.nest.now.loops self.now.pred.now self.now.outer self.now.chunk }
+        requires task { IsSomeTask D (task_of self.now) }
         requires predicted { Predicted self.now.pred.now self.now.chunk inst.now }
         requires around { depth < counters self.now.pred.now (block_of self.now.pred.now inst.now) }
         ensures { result ≡ name_value self.now.pred.now self.now.nest.now.loops self.now.outer inst.now.at depth }
@@ -70,7 +70,7 @@ impl<const D: usize> Task<'_, D> {
     /// The values of the names of the loops around an instance, of so many, and then zeros.
     pub(crate) fn values(&self, inst: &Instance<D>, loops: usize) -> [i64; D]
         requires few { D < 7 }
-        requires task { IsSomeTask D self.now.scalars self.now.nest.now.loops self.now.pred.now self.now.outer self.now.chunk }
+        requires task { IsSomeTask D (task_of self.now) }
         requires predicted { Predicted self.now.pred.now self.now.chunk inst.now }
         requires around { loops ≡ counters self.now.pred.now (block_of self.now.pred.now inst.now) }
         ensures { take loops result ≡ (around_of self.now.pred.now self.now.nest.now.loops self.now.outer (take loops inst.now.at)).values }
@@ -92,7 +92,7 @@ impl<const D: usize> Task<'_, D> {
         loops: usize,
     ) -> Site<'i>
         requires few { D < 7 }
-        requires task { IsSomeTask D self.now.scalars self.now.nest.now.loops self.now.pred.now self.now.outer self.now.chunk }
+        requires task { IsSomeTask D (task_of self.now) }
         requires predicted { Predicted self.now.pred.now self.now.chunk inst.now }
         requires around { loops ≡ counters self.now.pred.now (block_of self.now.pred.now inst.now) }
         requires values { take loops values.now ≡ (around_of self.now.pred.now self.now.nest.now.loops self.now.outer (take loops inst.now.at)).values }

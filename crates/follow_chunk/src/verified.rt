@@ -1,13 +1,12 @@
 //! One instance over a port that verifies its accesses by itself.
 
-ghost use Rattle.std.specs.Prelude.{◌≡◌, ◌<◌, ◌^◌, pos, length, IsOk};
-ghost use Rattle.domain.specs.Instances.{Predicted};
-ghost use Rattle.domain.specs.Steps.{next};
+ghost use Rattle.std.specs.Prelude.{◌≡◌, ◌^◌, pos, length, IsOk};
 ghost use Rattle.follow.specs.Told.{told};
 ghost use Rattle.follow_chunk.specs.declared.task.Followed.TheVariants as followed;
 ghost use Rattle.follow_chunk.specs.Predicted.{scalars_at};
-ghost use Rattle.follow_chunk.specs.Tasks.{IsTask, IsSomeTask};
-ghost use Rattle.follow_chunk.specs.Verifies.{VerifiesInstance, IsShort};
+ghost use Rattle.follow_chunk.specs.Tasks.{task_of, IsTask};
+ghost use Rattle.follow_chunk.specs.Foreseen.{CanFollow};
+ghost use Rattle.follow_chunk.specs.Verifies.{IsShort};
 ghost use Rattle.follow_chunk.specs.Followed.{IsRun, IsInstanceFollowed, ChangesWrites, ClosesSmall, IsClosedSmall};
 
 use crate::expect::{Foreseen, begin};
@@ -29,13 +28,8 @@ impl<const D: usize> Task<'_, D> {
         port: &mut P,
         how: &mut How,
     ) -> Result<u64, Differs>
-        requires few { D < 7 }
-        requires pred { foreseen.now.pred.now ≡ self.now.pred.now }
-        requires next { scalars_at self.now.pred.now foreseen.now.next ≡ scalars_at self.now.pred.now (next self.now.pred.now foreseen.now.inst.now) }
-        requires task { IsSomeTask D self.now.scalars self.now.nest.now.loops self.now.pred.now self.now.outer self.now.chunk }
-        requires predicted { Predicted self.now.pred.now self.now.chunk foreseen.now.inst.now }
-        requires own { VerifiesInstance (P.expects port.old) self.now.pred.now foreseen.now.inst.now }
-        ensures run { IsRun self.now.pred.now self.now.nest.now.loops self.now.outer foreseen.now.inst.now (P.memory port.old) (told result how.new) (P.memory port.new) }
+        requires { CanFollow (task_of self.now) foreseen.now (P.expects port.old) }
+        ensures run { IsRun (task_of self.now) foreseen.now.inst.now (P.memory port.old) (told result how.new) (P.memory port.new) }
         ensures changes { ChangesWrites self.now.pred.now foreseen.now.inst.now (P.memory port.old) (P.memory port.new) }
         ensures closes { IsOk result → ClosesSmall self.now.pred.now foreseen.now.inst.now }
         ensures expects { P.expects port.new ≡ P.expects port.old }
@@ -55,13 +49,8 @@ impl<const D: usize> Task<'_, D> {
         port: &mut P,
         how: &mut How,
     ) -> Result<u64, Differs>
-        requires few { D < 7 }
-        requires pred { foreseen.now.pred.now ≡ self.now.pred.now }
-        requires next { scalars_at self.now.pred.now foreseen.now.next ≡ scalars_at self.now.pred.now (next self.now.pred.now foreseen.now.inst.now) }
-        requires task { IsSomeTask D self.now.scalars self.now.nest.now.loops self.now.pred.now self.now.outer self.now.chunk }
-        requires predicted { Predicted self.now.pred.now self.now.chunk foreseen.now.inst.now }
-        requires own { VerifiesInstance (P.expects port.old) self.now.pred.now foreseen.now.inst.now }
-        ensures run { IsRun self.now.pred.now self.now.nest.now.loops self.now.outer foreseen.now.inst.now (P.memory port.old) (told result how.new) (P.memory port.new) }
+        requires { CanFollow (task_of self.now) foreseen.now (P.expects port.old) }
+        ensures run { IsRun (task_of self.now) foreseen.now.inst.now (P.memory port.old) (told result how.new) (P.memory port.new) }
         ensures changes { ChangesWrites self.now.pred.now foreseen.now.inst.now (P.memory port.old) (P.memory port.new) }
         ensures closes { IsOk result → ClosesSmall self.now.pred.now foreseen.now.inst.now }
         ensures expects { P.expects port.new ≡ P.expects port.old }
@@ -82,14 +71,9 @@ impl<const D: usize> Task<'_, D> {
         port: &mut P,
         how: &mut How,
     ) -> Result<u64, Differs>
-        requires few { D < 7 }
-        requires pred { foreseen.now.pred.now ≡ self.now.pred.now }
-        requires next { scalars_at self.now.pred.now foreseen.now.next ≡ scalars_at self.now.pred.now (next self.now.pred.now foreseen.now.inst.now) }
-        requires task { IsSomeTask D self.now.scalars self.now.nest.now.loops self.now.pred.now self.now.outer self.now.chunk }
-        requires predicted { Predicted self.now.pred.now self.now.chunk foreseen.now.inst.now }
-        requires own { VerifiesInstance (P.expects port.old) self.now.pred.now foreseen.now.inst.now }
+        requires can { CanFollow (task_of self.now) foreseen.now (P.expects port.old) }
         requires begins { scalars.old ≡ scalars_at self.now.pred.now foreseen.now.inst.now }
-        ensures run { IsRun self.now.pred.now self.now.nest.now.loops self.now.outer foreseen.now.inst.now (P.memory port.old) (told result how.new) (P.memory port.new) }
+        ensures run { IsRun (task_of self.now) foreseen.now.inst.now (P.memory port.old) (told result how.new) (P.memory port.new) }
         ensures changes { ChangesWrites self.now.pred.now foreseen.now.inst.now (P.memory port.old) (P.memory port.new) }
         ensures closes { IsOk result → ClosesSmall self.now.pred.now foreseen.now.inst.now }
         ensures expects { P.expects port.new ≡ P.expects port.old }
@@ -124,13 +108,9 @@ pub fn follow_verified<P: Port, const D: usize>(
     foreseen: &Foreseen<'_, D>,
     port: &mut P,
 ) -> Followed<D>
-    requires few { D < 7 }
-    requires pred { foreseen.now.pred.now ≡ task.now.pred.now }
-    requires next { scalars_at task.now.pred.now foreseen.now.next ≡ scalars_at task.now.pred.now (next task.now.pred.now foreseen.now.inst.now) }
-    requires task { IsTask D task.now.scalars task.now.nest.now.loops task.now.pred.now task.now.outer task.now.chunk (pos (length (P.memory port.old))) }
-    requires predicted { Predicted task.now.pred.now task.now.chunk foreseen.now.inst.now }
-    requires own { VerifiesInstance (P.expects port.old) task.now.pred.now foreseen.now.inst.now }
-    ensures followed { IsInstanceFollowed task.now.pred.now task.now.nest.now.loops task.now.outer foreseen.now.inst.now (P.memory port.old) result (P.memory port.new) }
+    requires can { CanFollow (task_of task.now) foreseen.now (P.expects port.old) }
+    requires task { IsTask D (task_of task.now) (pos (length (P.memory port.old))) }
+    ensures followed { IsInstanceFollowed (task_of task.now) foreseen.now.inst.now (P.memory port.old) result (P.memory port.new) }
     ensures changes { ChangesWrites task.now.pred.now foreseen.now.inst.now (P.memory port.old) (P.memory port.new) }
     ensures closes { IsClosedSmall task.now.pred.now foreseen.now.inst.now result }
     ensures short { IsShort result }

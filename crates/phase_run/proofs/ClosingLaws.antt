@@ -19,7 +19,8 @@ use Rattle.follow_chunk.specs.Followed.{ClosesSmall}
 use Rattle.phases.specs.Workers.{Fits}
 use Rattle.phases.specs.Laws.{Gathered, EndsRaised, AllRan, RanAs}
 use Rattle.phases.proofs.GatheringLaws.{phase_law}
-use Rattle.verified_turns.specs.Workers.{TaskState, StaysWithin, instances_of}
+use Rattle.follow_chunk.specs.Tasks.{TaskState}
+use Rattle.verified_turns.specs.Workers.{StaysWithin, instances_of}
 use Rattle.verified_turns.proofs.TurnLaws.{new-fits}
 use Rattle.phase_run.specs.Postings.{PostingState, IsPostable}
 use Rattle.phase_run.specs.Seats.{OwnsWrites}

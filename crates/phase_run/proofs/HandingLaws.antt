@@ -1,7 +1,8 @@
 -- Workers that a crew gave their turns are those of their phase still.
 use Rattle.std.proofs.Common.{◌≡◌, ℕ, zero, suc, ℤ, ◌<◌, Option, Some, List, [], ◌∷◌, ◌++◌, length, get_or, refl, sym, ap, ◌∙◌, inl, inr, arith}
 use Rattle.plain_lemmas.specs.Lists.{Has}
-use Rattle.verified_turns.specs.Workers.{TaskState, Status, Origin, origin_of}
+use Rattle.follow_chunk.specs.Tasks.{TaskState}
+use Rattle.verified_turns.specs.Workers.{Status, Origin, origin_of}
 use Rattle.crew.specs.declared.handed.Handed.{Handed}
 use Rattle.crew.specs.Jobs.{Ran, tiles_of}
 use Rattle.phase_run.specs.Postings.{PostingState}

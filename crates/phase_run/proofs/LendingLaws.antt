@@ -7,8 +7,8 @@ use Rattle.core_steps.specs.Views.{lent_view}
 use Rattle.core_steps.proofs.NumberListLaws.{has-cons}
 use Rattle.plain_lemmas.specs.Lists.{Has}
 use Rattle.plain_lemmas.proofs.MembershipLaws.{has-left, has-right, has-cases}
-use Rattle.follow_chunk.specs.Tasks.{IsTask}
-use Rattle.verified_turns.specs.Workers.{TaskState, Status, StaysWithin, IsFresh}
+use Rattle.follow_chunk.specs.Tasks.{TaskState, IsTask}
+use Rattle.verified_turns.specs.Workers.{Status, StaysWithin, IsFresh}
 use Rattle.phase_run.specs.Postings.{PostingState, IsPostable}
 use Rattle.phase_run.specs.Seats.{IsOfPhase, AreOfPhase, IsPosted, OnlyTheirs}
 
@@ -43,8 +43,8 @@ module _ {D : ℕ} (k : TaskState) (p : PostingState) (first m v : View) (number
   pub long : length p.lists ≡ length v.plan.tiles
   long = may.lists ∙ ap (λ (q : Plan). length q.tiles) (sym lent-plan)
 
-  pub task : IsTask D k.scalars k.loops k.pred k.outer k.chunk (pos (length v.base))
-  task = subst (λ (b : List ℕ). IsTask D k.scalars k.loops k.pred k.outer k.chunk (pos (length b))) (sym lent-base) may.task
+  pub task : IsTask D k (pos (length v.base))
+  task = subst (λ (b : List ℕ). IsTask D k (pos (length b))) (sym lent-base) may.task
 
   pub within : StaysWithin k (length v.base) v.plan p.lists
   within = subst (λ (q : Plan). StaysWithin k (length v.base) q p.lists) (sym lent-plan) (subst (λ (b : List ℕ). StaysWithin k (length b) p.plan p.lists) (sym lent-base) may.within)

@@ -14,10 +14,11 @@ use Rattle.follow_chunk.specs.Followed.{ClosesSmall}
 use Rattle.phases.specs.Workers.{HasEnded, HasFailed, HasStopped, IsTold}
 use Rattle.phases.specs.Laws.{Gathered}
 use Rattle.phases.proofs.GatheringLaws.{gathered-ended, gathered-failed, gathered-stopped}
+use Rattle.follow_chunk.specs.Tasks.{TaskState}
 use Rattle.verified_turns.specs.declared.worker.Outcome.{Outcome}
 use Rattle.verified_turns.specs.declared.worker.Outcome.TheVariants.{Done, Failed, Stopped}
 use Rattle.verified_turns.specs.Machines.{instances}
-use Rattle.verified_turns.specs.Workers.{TaskState, Status, instances_of, HasFinished}
+use Rattle.verified_turns.specs.Workers.{Status, instances_of, HasFinished}
 use Rattle.crew.specs.Jobs.{total}
 use Rattle.phase_run.specs.Postings.{PostingState}
 use Rattle.phase_run.specs.Seats.{IsOfPhase, OnlyTheirs, OwnsWrites}

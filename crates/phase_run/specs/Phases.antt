@@ -10,8 +10,8 @@ use Rattle.orders.specs.Tiles.{flat}
 use Rattle.shared_words.specs.Memories.{signed}
 use Rattle.follow_chunk.specs.Followed.{ClosesSmall}
 use Rattle.phases.specs.Laws.{RanTogether}
+use Rattle.follow_chunk.specs.Tasks.{TaskState}
 use Rattle.verified_turns.specs.Machines.{instances}
-use Rattle.verified_turns.specs.Workers.{TaskState}
 use Rattle.crew.specs.declared.handed.Handed.{Handed}
 use Rattle.phase_run.specs.Postings.{PostingState}
 

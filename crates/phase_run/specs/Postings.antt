@@ -6,8 +6,8 @@ use Rattle.core_steps.specs.declared.plan.Plan.{Plan}
 use Rattle.core_steps.specs.Plans.{IsSeparate, IsInside}
 use Rattle.plain_lemmas.specs.Lists.{Has}
 use Rattle.orders.specs.Tiles.{flat}
-use Rattle.follow_chunk.specs.Tasks.{IsTask}
-use Rattle.verified_turns.specs.Workers.{TaskState, StaysWithin}
+use Rattle.follow_chunk.specs.Tasks.{TaskState, IsTask}
+use Rattle.verified_turns.specs.Workers.{StaysWithin}
 
 -- a phase of a task: the table of its words, the instances of each tile, the plan of what the tiles touch, its number in the
 -- chunk, and how many workers it gets
@@ -23,7 +23,7 @@ pub record PostingState : Type 0 where
 -- instances that are predicted in the task's chunk, at most 65,536; and 1 to 64 workers are asked for
 pub record IsPostable (D words : ℕ) (k : TaskState) (p : PostingState) : Type 0 where
   pub deep : D < 7
-  pub task : IsTask D k.scalars k.loops k.pred k.outer k.chunk (pos words)
+  pub task : IsTask D k (pos words)
   pub separate : IsSeparate p.plan
   pub few_tiles : length p.plan.tiles ≤ 65536
   pub inside : IsInside words p.plan

@@ -5,7 +5,8 @@ use Rattle.core_steps.specs.Plans.{writes}
 use Rattle.core_steps.specs.declared.view.View.{View}
 use Rattle.core_steps.specs.Views.{stored_at}
 use Rattle.plain_lemmas.specs.Lists.{Has}
-use Rattle.verified_turns.specs.Workers.{TaskState, Status}
+use Rattle.follow_chunk.specs.Tasks.{TaskState}
+use Rattle.verified_turns.specs.Workers.{Status}
 use Rattle.phase_run.specs.Postings.{PostingState}
 
 -- a worker of this phase of a task, whose seat was lent over this base

@@ -1,7 +1,7 @@
 //! The start of a phase: a seat is lent to each worker.
 
 ghost use Rattle.std.specs.Prelude.{◌≡◌, ◌≤◌, [], length, vec_len, vec_capacity};
-ghost use Rattle.verified_turns.specs.Workers.{task_state};
+ghost use Rattle.follow_chunk.specs.Tasks.{task_of};
 ghost use Rattle.phase_run.specs.Postings.{IsPostable};
 ghost use Rattle.phase_run.specs.Seats.{AreOfPhase, IsPosted, OnlyTheirs};
 
@@ -19,7 +19,7 @@ pub fn lend<'a, M: MakeWalk<D>, const D: usize>(
     workers: &mut Vec<Worker<'a, M::Out, D>>,
 )
     requires table { main.old.table ≡ posting.now.table }
-    requires postable { IsPostable D (length main.old.view.base) (task_state task.now.scalars task.now.nest.now.loops task.now.pred.now task.now.outer task.now.chunk) posting.now }
+    requires postable { IsPostable D (length main.old.view.base) (task_of task.now) posting.now }
     requires posted { IsPosted posting.now main.old.view }
     requires none_out { main.old.view.out ≡ [] }
     requires empty { vec_len workers.old ≡ 0 }
@@ -29,7 +29,7 @@ pub fn lend<'a, M: MakeWalk<D>, const D: usize>(
     ensures count { vec_len workers.new ≡ posting.now.workers }
     ensures room { vec_capacity workers.old ≤ vec_capacity workers.new }
     ensures out { OnlyTheirs main.new.view.out workers.new.items }
-    ensures lent { AreOfPhase (task_state task.now.scalars task.now.nest.now.loops task.now.pred.now task.now.outer task.now.chunk) posting.now main.old.view.base workers.new.items }
+    ensures lent { AreOfPhase (task_of task.now) posting.now main.old.view.base workers.new.items }
 {
     let mut number = 0;
     while number < posting.workers {

@@ -1,7 +1,7 @@
 //! A phase from its post to its end.
 
 ghost use Rattle.std.specs.Prelude.{◌≡◌, ◌+◌, ◌-◌, ◌^◌, ◌<◌, ◌≤◌, false, length, vec_len, vec_capacity};
-ghost use Rattle.verified_turns.specs.Workers.{task_state};
+ghost use Rattle.follow_chunk.specs.Tasks.{task_of};
 ghost use Rattle.phase_run.specs.Postings.{IsPostable};
 ghost use Rattle.phase_run.specs.Phases.{PhaseRan, OthersKeep, next_view, GainsEntry};
 
@@ -29,16 +29,16 @@ pub fn run_phase<'a, C: Crew, M: MakeWalk<D>, const D: usize>(
     requires table { main.old.table ≡ posting.now.table }
     requires unposted { main.old.view.posted ≡ false }
     requires epoch { main.old.view.epoch < 2 ^ 63 - 1 }
-    requires postable { IsPostable D (length main.old.view.base) (task_state task.now.scalars task.now.nest.now.loops task.now.pred.now task.now.outer task.now.chunk) posting.now }
+    requires postable { IsPostable D (length main.old.view.base) (task_of task.now) posting.now }
     requires empty { vec_len workers.old ≡ 0 }
     requires room { posting.now.workers ≤ vec_capacity workers.old }
     requires spare { 0 < C.spare crew.old }
     ensures table { main.new.table ≡ main.old.table }
     ensures view { main.new.view ≡ next_view main.old.view main.new.view.base }
     ensures stored { main.old.view.stored ≤ main.old.view.epoch }
-    ensures ran { PhaseRan (task_state task.now.scalars task.now.nest.now.loops task.now.pred.now task.now.outer task.now.chunk) posting.now.lists main.old.view.base main.new.view.base result }
+    ensures ran { PhaseRan (task_of task.now) posting.now.lists main.old.view.base main.new.view.base result }
     ensures others { OthersKeep posting.now.plan main.old.view.base main.new.view.base }
-    ensures handed { GainsEntry (task_state task.now.scalars task.now.nest.now.loops task.now.pred.now task.now.outer task.now.chunk) posting.now result (C.handed crew.old) (C.handed crew.new) }
+    ensures handed { GainsEntry (task_of task.now) posting.now result (C.handed crew.old) (C.handed crew.new) }
     ensures spare { C.spare crew.new + 1 ≡ C.spare crew.old }
     ensures empty { vec_len workers.new ≡ 0 }
     ensures room { vec_capacity workers.old ≤ vec_capacity workers.new }

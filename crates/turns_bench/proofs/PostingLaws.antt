@@ -14,18 +14,16 @@ use Rattle.nest_lang.specs.declared.state.Outer.{Outer}
 use Rattle.nest_lang.specs.declared.tree.Loop.{Loop}
 use Rattle.plain_lemmas.specs.Lists.{Has}
 use Rattle.phases.specs.Workers.{list_of}
-use Rattle.follow_chunk.specs.Laws.{one_row, one_turn}
+use Rattle.follow_chunk.specs.Laws.{one_row, first_turn, one_turn}
 use Rattle.follow_chunk.proofs.PremiseLaws.{here, premises-can-hold}
-use Rattle.verified_turns.specs.Workers.{TaskState, task_state, StaysWithin}
+use Rattle.follow_chunk.specs.Tasks.{TaskState}
+use Rattle.verified_turns.specs.Workers.{StaysWithin}
 use Rattle.phase_run.specs.Postings.{IsPostable}
 use Rattle.turns_bench.specs.Copies.{first, tiles_of, one_store}
 use Rattle.turns_bench.proofs.CopyingLaws.{is-first, some-copy, tiles-long, in-tile, in-all, all-long}
 
 abbrev begins : Outer
 begins = record { lower = pos 0; next = pos 0; left = Some 40 }
-
-abbrev pub first_turn : TaskState
-first_turn = task_state 0 one_row row begins one_turn
 
 no-access : (access : Access) → None ≡ Some access → ⊥
 no-access access e = cc
@@ -87,8 +85,8 @@ module _ (n each workers : ℕ) (plan : Plan) (separate : IsSeparate plan) (insi
     few = few;
   })
 
-pub task-is : (scalars : ℕ) (loops : List Loop) (t : Table) (o : Outer) (chunk : Chunk) → scalars ≡ 0 → loops ≡ one_row → t ≡ row → o ≡ begins → chunk ≡ one_turn → task_state scalars loops t o chunk ≡ first_turn
-task-is scalars loops t o chunk a b c d e = λ i. task_state (a i) (b i) (c i) (d i) (e i)
+pub task-is : (job : TaskState) → job.scalars ≡ 0 → job.loops ≡ one_row → job.pred ≡ row → job.outer ≡ begins → job.chunk ≡ one_turn → job ≡ first_turn
+task-is job a b c d e = λ i. record { scalars = a i; loops = b i; pred = c i; outer = d i; chunk = e i }
 
 pub one-writes : (tile : ℕ) → tile < 1 → writes one_store tile 0 ≡ true
 one-writes zero below = refl

@@ -9,7 +9,7 @@ ghost use Rattle.atomic_table.specs.Seated.{TableId};
 ghost use Rattle.core_steps.specs.Plans.{IsSeparate, IsInside};
 ghost use Rattle.domain.specs.Examples.{row};
 ghost use Rattle.follow_chunk.specs.Laws.{one_row};
-ghost use Rattle.verified_turns.specs.Workers.{task_state};
+ghost use Rattle.follow_chunk.specs.Tasks.{task_of};
 ghost use Rattle.phase_run.specs.Postings.{IsPostable};
 ghost use Rattle.turns_bench.specs.Copies.{tiles_of, one_store, four_empty};
 
@@ -138,7 +138,7 @@ fn over_new_words<C: Crew>(
     asked: &Asked<'_>,
     crew: &mut C,
 ) -> Result<u64, AllocError>
-    requires postable { (table : TableId) (number : ℕ) → IsPostable 1 40 (task_state task.now.scalars task.now.nest.now.loops task.now.pred.now task.now.outer task.now.chunk) (record { table = table; lists = tiles_of asked.now.walks.now.tiles asked.now.walks.now.each; plan = asked.now.plan.now; number = number; workers = asked.now.workers }) }
+    requires postable { (table : TableId) (number : ℕ) → IsPostable 1 40 (task_of task.now) (record { table = table; lists = tiles_of asked.now.walks.now.tiles asked.now.walks.now.each; plan = asked.now.plan.now; number = number; workers = asked.now.workers }) }
 {
     let (words, mut main) = SharedWords::new(alloc, &[0; 40])?;
     over_words(alloc, task, &words, asked, &mut main, crew)
@@ -153,7 +153,7 @@ fn over_words<C: Crew>(
     main: &mut MainSeat,
     crew: &mut C,
 ) -> Result<u64, AllocError>
-    requires postable { (table : TableId) (number : ℕ) → IsPostable 1 40 (task_state task.now.scalars task.now.nest.now.loops task.now.pred.now task.now.outer task.now.chunk) (record { table = table; lists = tiles_of asked.now.walks.now.tiles asked.now.walks.now.each; plan = asked.now.plan.now; number = number; workers = asked.now.workers }) }
+    requires postable { (table : TableId) (number : ℕ) → IsPostable 1 40 (task_of task.now) (record { table = table; lists = tiles_of asked.now.walks.now.tiles asked.now.walks.now.each; plan = asked.now.plan.now; number = number; workers = asked.now.workers }) }
     requires table { main.old.table ≡ words.now }
     requires unposted { main.old.view.posted ≡ false }
     requires long { length main.old.view.base ≡ 40 }
@@ -175,7 +175,7 @@ fn one_after_another<'a, C: Crew>(
     all: &mut Vec<Worker<'a, Repeated, 1>>,
     crew: &mut C,
 ) -> u64
-    requires postable { (table : TableId) (number : ℕ) → IsPostable 1 40 (task_state task.now.scalars task.now.nest.now.loops task.now.pred.now task.now.outer task.now.chunk) (record { table = table; lists = tiles_of asked.now.walks.now.tiles asked.now.walks.now.each; plan = asked.now.plan.now; number = number; workers = asked.now.workers }) }
+    requires postable { (table : TableId) (number : ℕ) → IsPostable 1 40 (task_of task.now) (record { table = table; lists = tiles_of asked.now.walks.now.tiles asked.now.walks.now.each; plan = asked.now.plan.now; number = number; workers = asked.now.workers }) }
     requires table { main.old.table ≡ words.now }
     requires unposted { main.old.view.posted ≡ false }
     requires long { length main.old.view.base ≡ 40 }

@@ -12,7 +12,7 @@ use Rattle.shared_words.specs.Memories.{shown}
 use Rattle.shared_words.specs.Seats.{SeatState, memory_words}
 use Rattle.follow_chunk.specs.declared.task.Deviation.{Deviation}
 use Rattle.follow_chunk.specs.Followed.{Follows, Deviates, ClosesSmall}
-use Rattle.follow_chunk.specs.Tasks.{IsTask}
+use Rattle.follow_chunk.specs.Tasks.{TaskState, IsTask}
 use Rattle.follow_chunk.proofs.ConflictLaws.{writes-to, touches-to}
 use Rattle.phases.specs.Workers.{list_of, Fits, MayRun, Went, IsTold, looked_view, IsGoing, HasFailed}
 use Rattle.phases.proofs.WorkerStepLaws.{taken-held, may-run, going-start, going-instance, going-won, going-lost, going-look, ended-look, stopped-look, failed_raise}
@@ -20,7 +20,7 @@ use Rattle.verified_turns.specs.declared.worker.Outcome.{Outcome}
 use Rattle.verified_turns.specs.declared.worker.Outcome.TheVariants.{Done, Failed, Stopped}
 use Rattle.verified_turns.specs.Machines.{instances}
 use Rattle.verified_turns.specs.Ports.{unwritten}
-use Rattle.verified_turns.specs.Workers.{TaskState, Status, instances_of, origin_of, StaysWithin, IsFresh, Works, Lasts, pending, IsWorker}
+use Rattle.verified_turns.specs.Workers.{Status, instances_of, origin_of, StaysWithin, IsFresh, Works, Lasts, pending, IsWorker}
 
 -- ---- how many instances and turns remain
 
@@ -52,8 +52,8 @@ module _ {D : ℕ} (words : TableId) (v w : Status D) (h : IsWorker words v) whe
     counted = h.counted ∙ ap length (sym base);
     deep = h.deep;
     same_lists = ap length lists ∙ h.same_lists ∙ ap (λ (p : Plan). length p.tiles) (sym plan);
-    task = subst (λ (k : TaskState). IsTask D k.scalars k.loops k.pred k.outer k.chunk (pos (length w.view.base))) (sym task)
-        (subst (λ (b : List ℕ). IsTask D v.task.scalars v.task.loops v.task.pred v.task.outer v.task.chunk (pos (length b))) (sym base) h.task);
+    task = subst (λ (k : TaskState). IsTask D k (pos (length w.view.base))) (sym task)
+        (subst (λ (b : List ℕ). IsTask D v.task (pos (length b))) (sym base) h.task);
     predicted = subst (λ (k : TaskState). (x : Instance) → Has (flat w.lists) x → Predicted k.pred k.chunk x) (sym task)
         (subst (λ (l : List (List Instance)). (x : Instance) → Has (flat l) x → Predicted v.task.pred v.task.chunk x) (sym lists) h.predicted);
     fits = subst (λ (k : TaskState). Fits (instances_of k w.view) w.view.plan w.lists) (sym task)
@@ -85,7 +85,7 @@ module _ {D : ℕ} (words : TableId) (v w : Status D) (h : IsWorker words v) whe
   -- an instance that was followed
   pub instance-keeps : (x : Instance) (n : ℕ) → v.end ≡ None → v.rest ≡ x ∷ w.rest → w.task ≡ v.task → w.lists ≡ v.lists
       → unwritten (record { table = w.table; view = w.view }) ≡ unwritten (record { table = v.table; view = v.view })
-      → Follows v.task.pred v.task.loops v.task.outer x n (shown v.view) (shown w.view) → ClosesSmall v.task.pred x → n ≤ 2 ^ 20
+      → Follows v.task x n (shown v.view) (shown w.view) → ClosesSmall v.task.pred x → n ≤ 2 ^ 20
       → w.next ≡ v.next → w.steps ≡ v.steps + n → w.left + 1 ≡ v.left → w.end ≡ None → IsWorker words w
   instance-keeps x n is at task lists ground follows closes few next steps left end =
       let base : w.view.base ≡ v.view.base = ap (λ (z : SeatState). z.view.base) ground in
@@ -107,7 +107,7 @@ module _ {D : ℕ} (words : TableId) (v w : Status D) (h : IsWorker words v) whe
 
   -- u is the view after the instance, and told of it by the raise
   pub failure-keeps : (u : View) (d : Deviation D) (x : Instance) (rest : List Instance) → v.end ≡ None → v.rest ≡ x ∷ rest → w.task ≡ v.task → w.table ≡ v.table → w.lists ≡ v.lists
-      → record u { own = [] } ≡ record v.view { own = [] } → (d.at ≡ x) × Deviates v.task.pred v.task.loops v.task.outer x d.how (shown v.view) → IsTold u → w.view ≡ failed_view u
+      → record u { own = [] } ≡ record v.view { own = [] } → (d.at ≡ x) × Deviates v.task x d.how (shown v.view) → IsTold u → w.view ≡ failed_view u
       → w.steps ≡ v.steps → w.left ≡ 0 → w.end ≡ Some (Failed d) → IsWorker words w
   failure-keeps u d x rest is at task table lists ground deviates told view steps left end =
       let base : u.base ≡ v.view.base = ap (λ (z : View). z.base) ground in
@@ -120,7 +120,7 @@ module _ {D : ℕ} (words : TableId) (v w : Status D) (h : IsWorker words v) whe
       (ending (Failed d) is steps left end)
     where
       Ends : List ℕ → Instance → Type 0
-      Ends b y = (f : HasFailed (instances v.task.pred v.task.loops v.task.outer (length b)) v.lists (failed_view u) y v.steps) × Deviates v.task.pred v.task.loops v.task.outer y d.how f.came.memory
+      Ends b y = (f : HasFailed (instances v.task.pred v.task.loops v.task.outer (length b)) v.lists (failed_view u) y v.steps) × Deviates v.task y d.how f.came.memory
 
   -- a claim after a look that didn't find the flag raised
   claimed : (rest : List Instance) (view : View) → v.end ≡ None → v.rest ≡ [] → v.next < length v.lists → w.task ≡ v.task → w.table ≡ v.table → w.lists ≡ v.lists
@@ -220,11 +220,11 @@ pending-all : (ls : List (List Instance)) → pending ls 0 ≡ length (flat ls)
 pending-all [] = refl
 pending-all (l ∷ ls) = refl
 
-module _ {D : ℕ} (words : TableId) (k : TaskState) (ls : List (List Instance)) (v : View) (task : IsTask D k.scalars k.loops k.pred k.outer k.chunk (pos (length v.base))) (predicted : (x : Instance) → Has (flat ls) x → Predicted k.pred k.chunk x) (within : StaysWithin k (length v.base) v.plan ls) where
+module _ {D : ℕ} (words : TableId) (k : TaskState) (ls : List (List Instance)) (v : View) (task : IsTask D k (pos (length v.base))) (predicted : (x : Instance) → Has (flat ls) x → Predicted k.pred k.chunk x) (within : StaysWithin k (length v.base) v.plan ls) where
   pub new-fits : Fits (instances_of k v) v.plan ls
   new-fits = record {
-    writes = λ tile a x has is. within.writes_in tile a x has (writes-to D k.scalars (pos (length v.base)) k.loops k.pred k.outer k.chunk x task (predicted x (in-all ls tile x has)) a is);
-    all = λ tile a x has is. within.touches_in tile a x has (touches-to D k.scalars (length v.base) k.loops k.pred k.outer k.chunk x task (predicted x (in-all ls tile x has)) a is);
+    writes = λ tile a x has is. within.writes_in tile a x has (writes-to D k (pos (length v.base)) x task (predicted x (in-all ls tile x has)) a is);
+    all = λ tile a x has is. within.touches_in tile a x has (touches-to D k (length v.base) x task (predicted x (in-all ls tile x has)) a is);
   }
 
   pub new-keeps : (number : ℕ) (t : TableId) (rest : List Instance) (left : ℕ) → t ≡ words → memory_words words ≡ length v.base → D < 7 → length ls ≡ length v.plan.tiles → IsFresh v → rest ≡ [] → length (flat ls) ≤ 65536 → left ≡ 65537 + length ls

@@ -1,10 +1,6 @@
 -- What contracts see of a worker, and what it keeps.
 use Rattle.std.specs.Prelude.{◌≡◌, ℕ, ◌+◌, ◌-◌, ◌*◌, ◌^◌, ◌<◌, ◌≤◌, pos, true, false, ◌⊎◌, List, [], length, drop, Option, Some, None}
 use Rattle.atomic_table.specs.Seated.{TableId}
-use Rattle.nest_lang.specs.declared.tree.Loop.{Loop}
-use Rattle.nest_lang.specs.declared.state.Outer.{Outer}
-use Rattle.domain.specs.declared.chunk.Chunk.{Chunk}
-use Rattle.domain.specs.Tables.{Table}
 use Rattle.domain.specs.Instances.{Instance, Predicted}
 use Rattle.domain.specs.Footprints.{Reads, Writes}
 use Rattle.core_steps.specs.declared.plan.Plan.{Plan}
@@ -16,22 +12,11 @@ use Rattle.orders.specs.Tiles.{flat}
 use Rattle.shared_words.specs.Seats.{memory_words}
 use Rattle.follow_chunk.specs.declared.task.Deviation.{Deviation}
 use Rattle.follow_chunk.specs.Followed.{ClosesSmall, Deviates}
-use Rattle.follow_chunk.specs.Tasks.{IsTask}
+use Rattle.follow_chunk.specs.Tasks.{TaskState, IsTask}
 use Rattle.phases.specs.Workers.{list_of, Fits, IsGoing, HasEnded, HasFailed, HasStopped}
 use Rattle.verified_turns.specs.declared.worker.Outcome.{Outcome}
 use Rattle.verified_turns.specs.declared.worker.Outcome.TheVariants.{Done, Failed, Stopped}
 use Rattle.verified_turns.specs.Machines.{instances}
-
--- a task, as plain data
-pub record TaskState : Type 0 where
-  pub scalars : ℕ
-  pub loops : List Loop
-  pub pred : Table
-  pub outer : Outer
-  pub chunk : Chunk
-
-abbrev pub task_state : ℕ → List Loop → Table → Outer → Chunk → TaskState
-task_state scalars loops pred outer chunk = record { scalars = scalars; loops = loops; pred = pred; outer = outer; chunk = chunk }
 
 -- the instances of a task over the words of a view
 abbrev pub instances_of : TaskState → View → Machine Instance
@@ -82,7 +67,7 @@ pub record IsFresh (v : View) : Type 0 where
 -- the instance deviates so
 pub record HasDeviated {D : ℕ} (k : TaskState) (lists : List (List Instance)) (v : View) (d : Deviation D) (steps : ℕ) : Type 0 where
   pub failed : HasFailed (instances_of k v) lists v d.at steps
-  pub deviates : Deviates k.pred k.loops k.outer d.at d.how failed.came.memory
+  pub deviates : Deviates k d.at d.how failed.came.memory
 
 -- how a worker finished. Done: it tried every tile of the plan, and followed each instance of the tiles that it holds
 -- once, in the order of its claims, from the base. Failed: it followed these up to the one that deviates, which is of the
@@ -112,7 +97,7 @@ pub record IsWorker {D : ℕ} (words : TableId) (w : Status D) : Type 0 where
   pub counted : memory_words words ≡ length w.view.base
   pub deep : D < 7
   pub same_lists : length w.lists ≡ length w.view.plan.tiles
-  pub task : IsTask D w.task.scalars w.task.loops w.task.pred w.task.outer w.task.chunk (pos (length w.view.base))
+  pub task : IsTask D w.task (pos (length w.view.base))
   pub predicted : (x : Instance) → Has (flat w.lists) x → Predicted w.task.pred w.task.chunk x
   pub fits : Fits (instances_of w.task w.view) w.view.plan w.lists
   pub works : Works w.task w.lists w.view w.rest w.next w.steps w.end

@@ -3,7 +3,7 @@ ghost use Rattle.std.specs.Prelude.{◌≡◌, ◌<◌, ◌≤◌, ◌+◌, ◌^
 ghost use Rattle.domain.specs.Instances.{Instance as Point, Predicted};
 ghost use Rattle.plain_lemmas.specs.Lists.{Has};
 ghost use Rattle.orders.specs.Tiles.{flat};
-ghost use Rattle.follow_chunk.specs.Tasks.{IsTask};
+ghost use Rattle.follow_chunk.specs.Tasks.{task_of, IsTask};
 ghost use Rattle.follow_chunk.specs.Followed.{IsInstanceFollowed, IsClosedSmall};
 ghost use Rattle.follow_chunk.specs.Verifies.{IsShort};
 ghost use Rattle.phases.specs.Workers.{MayRun};
@@ -11,7 +11,7 @@ ghost use Rattle.shared_words.specs.Seats.{memory_words};
 ghost use Rattle.shared_words.specs.Memories.{shown};
 ghost use Rattle.verified_turns.specs.Machines.{instances};
 ghost use Rattle.verified_turns.specs.Ports.{unwritten};
-ghost use Rattle.verified_turns.specs.Workers.{StaysWithin, IsFresh, HasFinished, origin_of, task_state};
+ghost use Rattle.verified_turns.specs.Workers.{StaysWithin, IsFresh, HasFinished, origin_of};
 
 use crate::port::WorkerPort;
 use domain::Instance;
@@ -51,7 +51,8 @@ impl<'a, W: Walk<D>, const D: usize> Model for Worker<'a, W, D> {
     ghost use Rattle.std.specs.Coded.{codes};
     ghost use Rattle.nest_lang.specs.contracts.tree.Expr as expr;
     ghost use Rattle.nest_lang.specs.contracts.tree.Stmt as stmt;
-    ghost use Rattle.verified_turns.specs.Workers.{Status, IsWorker, task_state};
+    ghost use Rattle.follow_chunk.specs.Tasks.{task_of};
+    ghost use Rattle.verified_turns.specs.Workers.{Status, IsWorker};
 
     ghost Value = { Status D };
 
@@ -59,7 +60,7 @@ impl<'a, W: Walk<D>, const D: usize> Model for Worker<'a, W, D> {
 
     ghost view = { λ w. record {
       number = w.number;
-      task = task_state w.task.now.scalars w.task.now.nest.now.loops w.task.now.pred.now w.task.now.outer w.task.now.chunk;
+      task = task_of w.task.now;
       lists = W.lists w.walk;
       table = w.seat.table;
       view = w.seat.view;
@@ -72,7 +73,7 @@ impl<'a, W: Walk<D>, const D: usize> Model for Worker<'a, W, D> {
 
     ghost invariant = { λ w. IsWorker w.words.now (record {
       number = w.number;
-      task = task_state w.task.now.scalars w.task.now.nest.now.loops w.task.now.pred.now w.task.now.outer w.task.now.chunk;
+      task = task_of w.task.now;
       lists = W.lists w.walk;
       table = w.seat.table;
       view = w.seat.view;
@@ -103,12 +104,12 @@ impl<'a, W: Walk<D>, const D: usize> Worker<'a, W, D> {
         requires fresh { IsFresh seat.view }
         requires lists { length (W.lists walk) ≡ length seat.view.plan.tiles }
         requires rest { W.rest walk ≡ [] }
-        requires task { IsTask D task.now.scalars task.now.nest.now.loops task.now.pred.now task.now.outer task.now.chunk (pos (length seat.view.base)) }
-        requires within { StaysWithin (task_state task.now.scalars task.now.nest.now.loops task.now.pred.now task.now.outer task.now.chunk) (length seat.view.base) seat.view.plan (W.lists walk) }
+        requires task { IsTask D (task_of task.now) (pos (length seat.view.base)) }
+        requires within { StaysWithin (task_of task.now) (length seat.view.base) seat.view.plan (W.lists walk) }
         requires predicted { (x : Point) → Has (flat (W.lists walk)) x → Predicted task.now.pred.now task.now.chunk x }
         requires short { length (flat (W.lists walk)) ≤ 65536 }
         ensures number { result.number ≡ number }
-        ensures task { result.task ≡ task_state task.now.scalars task.now.nest.now.loops task.now.pred.now task.now.outer task.now.chunk }
+        ensures task { result.task ≡ task_of task.now }
         ensures lists { result.lists ≡ W.lists walk }
         ensures seat { (result.table ≡ seat.table) × (result.view ≡ seat.view) }
         ensures steps { result.steps ≡ 0 }
@@ -248,11 +249,11 @@ pub fn follow_on<const D: usize>(
     requires few { D < 7 }
     requires table { seat.old.table ≡ words.now }
     requires counted { memory_words words.now ≡ length seat.old.view.base }
-    requires task { IsTask D task.now.scalars task.now.nest.now.loops task.now.pred.now task.now.outer task.now.chunk (pos (length seat.old.view.base)) }
+    requires task { IsTask D (task_of task.now) (pos (length seat.old.view.base)) }
     requires predicted { Predicted task.now.pred.now task.now.chunk inst.now }
     requires may { MayRun (instances task.now.pred.now task.now.nest.now.loops task.now.outer (length seat.old.view.base)) inst.now seat.old.view }
     ensures ground { unwritten seat.new ≡ unwritten seat.old }
-    ensures followed { IsInstanceFollowed task.now.pred.now task.now.nest.now.loops task.now.outer inst.now (shown seat.old.view) result (shown seat.new.view) }
+    ensures followed { IsInstanceFollowed (task_of task.now) inst.now (shown seat.old.view) result (shown seat.new.view) }
     ensures closes { IsClosedSmall task.now.pred.now inst.now result }
     ensures short { IsShort result }
 {

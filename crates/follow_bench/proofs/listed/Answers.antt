@@ -1,4 +1,5 @@
 use Rattle.std.proofs.Common.{refl, ap, ◌∙◌}
+use Rattle.follow_chunk.specs.Tasks.{task_of}
 use Rattle.follow_bench.proofs.FirstTurnLaws.{predicted-is, task-is}
 use Rattle.follow_bench.proofs.listed.Goals as goal
 
@@ -6,7 +7,7 @@ pub listed_once-requires-clause-task : goal.listed_once-requires-clause-task
 listed_once-requires-clause-task c =
     let task = c.task-task.result in
     let is = c.task-task.ensures in
-    task-is task.scalars 40 task.nest.now.loops task.pred.now task.outer task.chunk is.scalars (ap (λ n. n.loops) is.nest ∙ c.requires.nest) (is.pred ∙ c.requires.pred) is.outer is.chunk refl
+    task-is (task_of task) 40 is.scalars (ap (λ n. n.loops) is.nest ∙ c.requires.nest) (is.pred ∙ c.requires.pred) is.outer is.chunk refl
 
 pub listed_once-requires-clause-first : goal.listed_once-requires-clause-first
 listed_once-requires-clause-first c =

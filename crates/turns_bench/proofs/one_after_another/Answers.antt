@@ -1,6 +1,6 @@
 use Rattle.std.proofs.Common.{◌≡◌, ◌∙◌, ◌<◌, ◌≤◌, ap, sym, subst, ℕ, length, arith, rules}
 use Rattle.std.specs.Prelude.{vec_capacity}
-use Rattle.verified_turns.specs.Workers.{task_state}
+use Rattle.follow_chunk.specs.Tasks.{task_of}
 use Rattle.phase_run.specs.Postings.{PostingState, IsPostable}
 use Rattle.turns_bench.specs.Copies.{tiles_of}
 use Rattle.turns_bench.proofs.one_after_another.Goals as goal
@@ -9,7 +9,7 @@ pub run_phase-ran-requires-after_bounds : goal.run_phase-ran-requires-after_boun
 run_phase-ran-requires-after_bounds g c κs inside =
     let inv = c.loop-number.invariant in
     let t = c.args.task.now in
-    let k = task_state t.scalars t.nest.now.loops t.pred.now t.outer t.chunk in
+    let k = task_of t in
     let a = c.args.asked.now in
     let p = c.new-posting.result in
     let is = c.new-posting.ensures in

@@ -1,6 +1,6 @@
 use Rattle.std.proofs.Common.{◌≡◌, ◌∙◌, ◌<◌, ℕ, length, ap, arith, rules}
 use Rattle.core_steps.specs.declared.plan.Plan.{Plan}
-use Rattle.verified_turns.specs.Workers.{task_state}
+use Rattle.follow_chunk.specs.Tasks.{task_of}
 use Rattle.turns_bench.specs.Copies.{four_empty}
 use Rattle.turns_bench.proofs.PostingLaws.{postable, task-is}
 use Rattle.turns_bench.proofs.phases.Goals as goal
@@ -12,5 +12,5 @@ over_new_words-requires g c =
     let plan = c.in_ok-plan.plan in
     let same : plan ≡ four_empty = c.in_ok-plan.ensures in
     let may = postable 4 0 4 plan (c.is_plan.ensures.separate c.if-not-is_plan.false) (c.is_plan.ensures.inside c.if-not-is_plan.false) (ap (λ (q : Plan). length q.tiles) same) (omega arith) (omega arith) (omega arith) (omega arith) (λ (tile : ℕ) (below : tile < 4) (some : 0 < 0). absurd (omega (arith, some)))
-    (task_state t.scalars t.nest.now.loops t.pred.now t.outer t.chunk) (task-is t.scalars t.nest.now.loops t.pred.now t.outer t.chunk is.scalars (ap (λ n. n.loops) is.nest ∙ c.requires.nest) (is.pred ∙ c.requires.pred) is.outer is.chunk) in
+    (task_of t) (task-is (task_of t) is.scalars (ap (λ n. n.loops) is.nest ∙ c.requires.nest) (is.pred ∙ c.requires.pred) is.outer is.chunk) in
     search rules

@@ -1,7 +1,7 @@
 use Rattle.std.proofs.Common.{◌≡◌, ◌∙◌, ◌≤◌, ◌*◌, ◌<◌, ℕ, true, length, ap, sym, subst, arith, rules}
 use Rattle.core_steps.specs.declared.plan.Plan.{Plan}
 use Rattle.core_steps.specs.Plans.{writes}
-use Rattle.verified_turns.specs.Workers.{task_state}
+use Rattle.follow_chunk.specs.Tasks.{task_of}
 use Rattle.turns_bench.specs.Copies.{one_store}
 use Rattle.turns_bench.proofs.PostingLaws.{postable, task-is, one-writes}
 use Rattle.turns_bench.proofs.worker.Goals as goal
@@ -17,5 +17,5 @@ over_new_words-requires g c =
     let short : 1 * times ≤ 65536 = omega (arith, few) in
     let word = λ (tile : ℕ) (below : tile < 1) (some : 0 < times). subst (λ (q : Plan). writes q tile 0 ≡ true) (sym same) (one-writes tile below) in
     let may = postable 1 times 1 plan (c.is_plan.ensures.separate c.if-not-is_plan.false) (c.is_plan.ensures.inside c.if-not-is_plan.false) (ap (λ (q : Plan). length q.tiles) same) (omega arith) short (omega arith) (omega arith) word
-    (task_state t.scalars t.nest.now.loops t.pred.now t.outer t.chunk) (task-is t.scalars t.nest.now.loops t.pred.now t.outer t.chunk is.scalars (ap (λ n. n.loops) is.nest ∙ c.requires.nest) (is.pred ∙ c.requires.pred) is.outer is.chunk) in
+    (task_of t) (task-is (task_of t) is.scalars (ap (λ n. n.loops) is.nest ∙ c.requires.nest) (is.pred ∙ c.requires.pred) is.outer is.chunk) in
     search rules

@@ -2,8 +2,8 @@ use Rattle.std.proofs.Common.{◌≡◌, sym, ap, ◌∙◌, subst, ℕ, ◌<◌
 use Rattle.std.specs.Prelude.{◌^◌, slice_index_or}
 use Rattle.core_steps.specs.declared.plan.Plan.{Plan}
 use Rattle.skeletons.specs.Cells.{Cell, AreListsOf}
+use Rattle.follow_chunk.specs.Tasks.{TaskState, task_of}
 use Rattle.tiles.specs.Plans.{ChunkPlan, Phase}
-use Rattle.verified_turns.specs.Workers.{TaskState, task_state}
 use Rattle.phase_run.specs.Postings.{PostingState, IsPostable}
 use Rattle.chunk_run.specs.Parts.{phase_at}
 use Rattle.chunk_run.proofs.ReadyPhaseLaws.{few-cells, few-phases}
@@ -14,7 +14,7 @@ pub new-walks-requires : goal.new-walks-requires
 new-walks-requires g c =
     let chunk = c.args.chunk.now in
     let t = chunk.launch.task.now in
-    let k : TaskState = task_state t.scalars t.nest.now.loops t.pred.now t.outer t.chunk in
+    let k : TaskState = task_of t in
     let deep = c.requires.ready.deep in
     let items : c.plan.inside.phases.items ≡ chunk.plan.now.phases = ap (λ (p : ChunkPlan). p.phases) c.plan.view_is in
     let here : c.index-phase.result.now ≡ phase_at chunk.plan.now.phases c.args.number =
@@ -28,7 +28,7 @@ pub overflow_cast-number : goal.overflow_cast-number
 overflow_cast-number g c =
     let chunk = c.args.chunk.now in
     let t = chunk.launch.task.now in
-    let k : TaskState = task_state t.scalars t.nest.now.loops t.pred.now t.outer t.chunk in
+    let k : TaskState = task_of t in
     let few = few-phases g.row.D (length c.args.main.now.view.base) chunk.launch.workers k chunk.skeleton.now chunk.plan.now c.requires.ready in
     let l = c.requires.number in
     let small : c.args.number < 2 ^ 32 = omega (arith, few, l) in
@@ -38,7 +38,7 @@ pub run_phase-requires-after_bounds : goal.run_phase-requires-after_bounds
 run_phase-requires-after_bounds g c κs within =
     let chunk = c.args.chunk.now in
     let t = chunk.launch.task.now in
-    let k : TaskState = task_state t.scalars t.nest.now.loops t.pred.now t.outer t.chunk in
+    let k : TaskState = task_of t in
     let items : c.plan.inside.phases.items ≡ chunk.plan.now.phases = ap (λ (p : ChunkPlan). p.phases) c.plan.view_is in
     let here : c.index-phase.result.now ≡ phase_at chunk.plan.now.phases c.args.number =
     at-number chunk.plan.now.phases c.args.number c.index-phase.result.now c.requires.number (subst (λ (ps : List Phase). c.index-phase.result.now ≡ slice_index_or ps c.args.number c.index-phase.result.now) items c.index-phase.ensures) in
@@ -56,7 +56,7 @@ pub returns-clause-followed : goal.returns-clause-followed
 returns-clause-followed g c =
     let chunk = c.args.chunk.now in
     let t = chunk.launch.task.now in
-    let k : TaskState = task_state t.scalars t.nest.now.loops t.pred.now t.outer t.chunk in
+    let k : TaskState = task_of t in
     let items : c.plan.inside.phases.items ≡ chunk.plan.now.phases = ap (λ (p : ChunkPlan). p.phases) c.plan.view_is in
     let here : c.index-phase.result.now ≡ phase_at chunk.plan.now.phases c.args.number =
     at-number chunk.plan.now.phases c.args.number c.index-phase.result.now c.requires.number (subst (λ (ps : List Phase). c.index-phase.result.now ≡ slice_index_or ps c.args.number c.index-phase.result.now) items c.index-phase.ensures) in
@@ -70,7 +70,7 @@ pub returns-clause-changes : goal.returns-clause-changes
 returns-clause-changes g c =
     let chunk = c.args.chunk.now in
     let t = chunk.launch.task.now in
-    let k : TaskState = task_state t.scalars t.nest.now.loops t.pred.now t.outer t.chunk in
+    let k : TaskState = task_of t in
     let items : c.plan.inside.phases.items ≡ chunk.plan.now.phases = ap (λ (p : ChunkPlan). p.phases) c.plan.view_is in
     let here : c.index-phase.result.now ≡ phase_at chunk.plan.now.phases c.args.number =
     at-number chunk.plan.now.phases c.args.number c.index-phase.result.now c.requires.number (subst (λ (ps : List Phase). c.index-phase.result.now ≡ slice_index_or ps c.args.number c.index-phase.result.now) items c.index-phase.ensures) in
@@ -84,7 +84,7 @@ pub returns-clause-handed : goal.returns-clause-handed
 returns-clause-handed g c =
     let chunk = c.args.chunk.now in
     let t = chunk.launch.task.now in
-    let k : TaskState = task_state t.scalars t.nest.now.loops t.pred.now t.outer t.chunk in
+    let k : TaskState = task_of t in
     let items : c.plan.inside.phases.items ≡ chunk.plan.now.phases = ap (λ (p : ChunkPlan). p.phases) c.plan.view_is in
     let here : c.index-phase.result.now ≡ phase_at chunk.plan.now.phases c.args.number =
     at-number chunk.plan.now.phases c.args.number c.index-phase.result.now c.requires.number (subst (λ (ps : List Phase). c.index-phase.result.now ≡ slice_index_or ps c.args.number c.index-phase.result.now) items c.index-phase.ensures) in

@@ -8,8 +8,8 @@ use Rattle.backup.specs.Backups.{words_at, addresses_kept, DiffersOnlyAt}
 use Rattle.backup.specs.Stripes.{addresses_of_all}
 use Rattle.transform.specs.Schedules.{IsSchedule}
 use Rattle.skeletons.specs.Cells.{Extent, IsLaunch}
+use Rattle.follow_chunk.specs.Tasks.{TaskState, task_of}
 use Rattle.tiles.specs.Plans.{ChunkPlan, IsPlanOf}
-use Rattle.verified_turns.specs.Workers.{TaskState, task_state}
 use Rattle.chunk_run.specs.Parts.{ChangesChunk, IsAttempt}
 use Rattle.chunk_run.specs.Ready.{IsReady}
 use Rattle.chunk_run.specs.Groups.{AttemptGains}
@@ -52,7 +52,7 @@ returns-in_default-clause-ended g c =
     let restored = c.restore.ensures.start (signed base) (c.in_ok-backup.ensures.kept ∙ ap (words_at (signed base)) (sym c.in_ok-backup.ensures.addresses)) differs in
     let attempted = subst (λ (b : List ℕ). IsAttempt t self.nest.now.loops self.outer self.chunk (signed b) c.args.scalars.now c.args.steps.now.left c.in_ok-rest.rest after) same c.in_ok-rest.ensures.attempted in
     let fails = subst (λ (o : Option ℕ). IsAttempt t self.nest.now.loops self.outer self.chunk (signed base) c.args.scalars.now c.args.steps.now.left o after) c.in_default.is attempted in
-    rolled-back g.row.D self.scalars (length base) self.nest.now.loops t c.args.launch.now.schedule.now self.outer self.chunk c.requires.task (between (signed base) c.args.scalars.now c.args.steps.now) c.requires.scalars (length-map base (cast_signed w64))
+    rolled-back g.row.D (task_of self) (length base) c.args.launch.now.schedule.now c.requires.task (between (signed base) c.args.scalars.now c.args.steps.now) c.requires.scalars (length-map base (cast_signed w64))
     (between (signed c.restore.new.main.view.base) c.args.scalars.now c.args.steps.now) fails (ap (λ (m : List ℤ). between m c.args.scalars.now c.args.steps.now) restored)
 
 pub returns-in_default-clause-few_phases : goal.returns-in_default-clause-few_phases
@@ -60,7 +60,7 @@ returns-in_default-clause-few_phases g c =
     let self = c.args.launch.now.task.now in
     let base = c.args.main.now.view.base in
     let e : Extent = record { table = self.pred.now; schedule = c.args.launch.now.schedule.now; chunk = self.chunk } in
-    let k : TaskState = task_state self.scalars self.nest.now.loops self.pred.now self.outer self.chunk in
+    let k : TaskState = task_of self in
     let inside = c.plan-2.inside in
     let plan : ChunkPlan = record { phases = inside.phases.items; instances = inside.instances; tiles = inside.tiles; stripes = inside.stripes.items } in
     let long : c.count.result ≡ length base = c.count.ensures in
@@ -92,7 +92,7 @@ returns-clause-ended g c =
     let done = subst (λ (o : Option ℕ). IsAttempt t self.nest.now.loops self.outer self.chunk (signed base) c.args.scalars.now c.args.steps.now.left o after) c.in-Some.is attempted in
     let many : c.len.result ≡ length inside.phases.items = search rules in
     subst (λ (n : ℕ). IsCommitted e self.nest.now.loops self.outer a (between after c.set_closing.new.scalars (record { left = c.in-Some.left; used = c.args.steps.now.used + (c.args.steps.now.left - c.in-Some.left) })) inside.instances n inside.tiles (c.args.steps.now.left - c.in-Some.left)) (sym many)
-    (committed g.row.D self.scalars (length base) self.nest.now.loops t c.args.launch.now.schedule.now self.outer self.chunk c.requires.task a c.requires.scalars (length-map base (cast_signed w64)) plan planned
+    (committed g.row.D (task_of self) (length base) c.args.launch.now.schedule.now c.requires.task a c.requires.scalars (length-map base (cast_signed w64)) plan planned
     after c.set_closing.new.scalars c.in-Some.left (c.args.steps.now.used + (c.args.steps.now.left - c.in-Some.left)) (c.args.steps.now.left - c.in-Some.left) done c.set_closing.ensures refl refl)
 
 pub returns-clause-few_phases : goal.returns-clause-few_phases
@@ -100,7 +100,7 @@ returns-clause-few_phases g c =
     let self = c.args.launch.now.task.now in
     let base = c.args.main.now.view.base in
     let e : Extent = record { table = self.pred.now; schedule = c.args.launch.now.schedule.now; chunk = self.chunk } in
-    let k : TaskState = task_state self.scalars self.nest.now.loops self.pred.now self.outer self.chunk in
+    let k : TaskState = task_of self in
     let inside = c.plan-2.inside in
     let plan : ChunkPlan = record { phases = inside.phases.items; instances = inside.instances; tiles = inside.tiles; stripes = inside.stripes.items } in
     let long : c.count.result ≡ length base = c.count.ensures in

@@ -5,8 +5,8 @@ use Rattle.std.proofs.lemmas.List.{length-map}
 use Rattle.domain.specs.Instances.{opening_at}
 use Rattle.shared_words.specs.Memories.{signed}
 use Rattle.follow_chunk.specs.Predicted.{scalars_at}
+use Rattle.follow_chunk.specs.Tasks.{TaskState, task_of}
 use Rattle.tiles.specs.Plans.{ChunkPlan}
-use Rattle.verified_turns.specs.Workers.{TaskState, task_state}
 use Rattle.chunk_run.specs.Parts.{IsAttempt}
 use Rattle.chunk_run.specs.Ready.{IsReady}
 use Rattle.chunk_run.specs.Groups.{AttemptGains}
@@ -19,7 +19,7 @@ pub loop-number-init : goal.loop-number-init
 loop-number-init g c =
     let chunk = c.args.chunk.now in
     let t = chunk.launch.task.now in
-    let k : TaskState = task_state t.scalars t.nest.now.loops t.pred.now t.outer t.chunk in
+    let k : TaskState = task_of t in
     let size : c.len-number-end.result ≡ length c.plan.inside.phases.items = search rules in
     let room = c.requires.spare in
     record {
@@ -35,7 +35,7 @@ pub run_number-requires : goal.run_number-requires
 run_number-requires g c =
     let chunk = c.args.chunk.now in
     let t = chunk.launch.task.now in
-    let k : TaskState = task_state t.scalars t.nest.now.loops t.pred.now t.outer t.chunk in
+    let k : TaskState = task_of t in
     let inv = c.loop-number.invariant in
     let inside : c.loop-number.number < length chunk.plan.now.phases = (let l = c.loop-number-test.true in let n = inv.end in omega (arith, l, n)) in
     let long : length c.loop-number.main.view.base ≡ length c.args.main.now.view.base =
@@ -54,7 +54,7 @@ pub loop-number-preserved : goal.loop-number-preserved
 loop-number-preserved g c =
     let chunk = c.args.chunk.now in
     let t = chunk.launch.task.now in
-    let k : TaskState = task_state t.scalars t.nest.now.loops t.pred.now t.outer t.chunk in
+    let k : TaskState = task_of t in
     let inv = c.loop-number.invariant in
     let inside : c.loop-number.number < length chunk.plan.now.phases = (let l = c.loop-number-test.true in let n = inv.end in omega (arith, l, n)) in
     let mid = g.C.Crew.handed c.loop-number.crew in
@@ -86,7 +86,7 @@ pub returns-in_err-steps-clause-attempted : goal.returns-in_err-steps-clause-att
 returns-in_err-steps-clause-attempted g c =
     let chunk = c.args.chunk.now in
     let t = chunk.launch.task.now in
-    let k : TaskState = task_state t.scalars t.nest.now.loops t.pred.now t.outer t.chunk in
+    let k : TaskState = task_of t in
     let inv = c.loop-number.invariant in
     let inside : c.loop-number.number < length chunk.plan.now.phases = (let l = c.loop-number-test.true in let n = inv.end in omega (arith, l, n)) in
     let mid = g.C.Crew.handed c.loop-number.crew in
@@ -106,7 +106,7 @@ pub returns-in_err-steps-clause-changes : goal.returns-in_err-steps-clause-chang
 returns-in_err-steps-clause-changes g c =
     let chunk = c.args.chunk.now in
     let t = chunk.launch.task.now in
-    let k : TaskState = task_state t.scalars t.nest.now.loops t.pred.now t.outer t.chunk in
+    let k : TaskState = task_of t in
     let inv = c.loop-number.invariant in
     let inside : c.loop-number.number < length chunk.plan.now.phases = (let l = c.loop-number-test.true in let n = inv.end in omega (arith, l, n)) in
     let mid = g.C.Crew.handed c.loop-number.crew in
@@ -124,7 +124,7 @@ pub returns-in_err-steps-clause-handed : goal.returns-in_err-steps-clause-handed
 returns-in_err-steps-clause-handed g c =
     let chunk = c.args.chunk.now in
     let t = chunk.launch.task.now in
-    let k : TaskState = task_state t.scalars t.nest.now.loops t.pred.now t.outer t.chunk in
+    let k : TaskState = task_of t in
     let inv = c.loop-number.invariant in
     let inside : c.loop-number.number < length chunk.plan.now.phases = (let l = c.loop-number-test.true in let n = inv.end in omega (arith, l, n)) in
     let mid = g.C.Crew.handed c.loop-number.crew in
@@ -144,7 +144,7 @@ pub returns-in_err-steps-clause-seat : goal.returns-in_err-steps-clause-seat
 returns-in_err-steps-clause-seat g c =
     let chunk = c.args.chunk.now in
     let t = chunk.launch.task.now in
-    let k : TaskState = task_state t.scalars t.nest.now.loops t.pred.now t.outer t.chunk in
+    let k : TaskState = task_of t in
     let inv = c.loop-number.invariant in
     let inside : c.loop-number.number < length chunk.plan.now.phases = (let l = c.loop-number-test.true in let n = inv.end in omega (arith, l, n)) in
     let mid = g.C.Crew.handed c.loop-number.crew in
@@ -162,7 +162,7 @@ pub returns-then-not-begins-clause-attempted : goal.returns-then-not-begins-clau
 returns-then-not-begins-clause-attempted g c =
     let chunk = c.args.chunk.now in
     let t = chunk.launch.task.now in
-    let k : TaskState = task_state t.scalars t.nest.now.loops t.pred.now t.outer t.chunk in
+    let k : TaskState = task_of t in
     let inv = c.loop-number.invariant in
     let inside : c.loop-number.number < length chunk.plan.now.phases = (let l = c.loop-number-test.true in let n = inv.end in omega (arith, l, n)) in
     let mid = g.C.Crew.handed c.loop-number.crew in
@@ -180,7 +180,7 @@ pub returns-then-not-begins-clause-changes : goal.returns-then-not-begins-clause
 returns-then-not-begins-clause-changes g c =
     let chunk = c.args.chunk.now in
     let t = chunk.launch.task.now in
-    let k : TaskState = task_state t.scalars t.nest.now.loops t.pred.now t.outer t.chunk in
+    let k : TaskState = task_of t in
     let inv = c.loop-number.invariant in
     let inside : c.loop-number.number < length chunk.plan.now.phases = (let l = c.loop-number-test.true in let n = inv.end in omega (arith, l, n)) in
     let mid = g.C.Crew.handed c.loop-number.crew in
@@ -198,7 +198,7 @@ pub returns-then-not-begins-clause-handed : goal.returns-then-not-begins-clause-
 returns-then-not-begins-clause-handed g c =
     let chunk = c.args.chunk.now in
     let t = chunk.launch.task.now in
-    let k : TaskState = task_state t.scalars t.nest.now.loops t.pred.now t.outer t.chunk in
+    let k : TaskState = task_of t in
     let inv = c.loop-number.invariant in
     let inside : c.loop-number.number < length chunk.plan.now.phases = (let l = c.loop-number-test.true in let n = inv.end in omega (arith, l, n)) in
     let mid = g.C.Crew.handed c.loop-number.crew in
@@ -216,7 +216,7 @@ pub returns-then-not-begins-clause-seat : goal.returns-then-not-begins-clause-se
 returns-then-not-begins-clause-seat g c =
     let chunk = c.args.chunk.now in
     let t = chunk.launch.task.now in
-    let k : TaskState = task_state t.scalars t.nest.now.loops t.pred.now t.outer t.chunk in
+    let k : TaskState = task_of t in
     let inv = c.loop-number.invariant in
     let inside : c.loop-number.number < length chunk.plan.now.phases = (let l = c.loop-number-test.true in let n = inv.end in omega (arith, l, n)) in
     let mid = g.C.Crew.handed c.loop-number.crew in
@@ -234,7 +234,7 @@ pub returns-then-steps-left-clause-attempted : goal.returns-then-steps-left-clau
 returns-then-steps-left-clause-attempted g c =
     let chunk = c.args.chunk.now in
     let t = chunk.launch.task.now in
-    let k : TaskState = task_state t.scalars t.nest.now.loops t.pred.now t.outer t.chunk in
+    let k : TaskState = task_of t in
     let inv = c.loop-number.invariant in
     let inside : c.loop-number.number < length chunk.plan.now.phases = (let l = c.loop-number-test.true in let n = inv.end in omega (arith, l, n)) in
     let mid = g.C.Crew.handed c.loop-number.crew in
@@ -252,7 +252,7 @@ pub returns-then-steps-left-clause-changes : goal.returns-then-steps-left-clause
 returns-then-steps-left-clause-changes g c =
     let chunk = c.args.chunk.now in
     let t = chunk.launch.task.now in
-    let k : TaskState = task_state t.scalars t.nest.now.loops t.pred.now t.outer t.chunk in
+    let k : TaskState = task_of t in
     let inv = c.loop-number.invariant in
     let inside : c.loop-number.number < length chunk.plan.now.phases = (let l = c.loop-number-test.true in let n = inv.end in omega (arith, l, n)) in
     let mid = g.C.Crew.handed c.loop-number.crew in
@@ -270,7 +270,7 @@ pub returns-then-steps-left-clause-handed : goal.returns-then-steps-left-clause-
 returns-then-steps-left-clause-handed g c =
     let chunk = c.args.chunk.now in
     let t = chunk.launch.task.now in
-    let k : TaskState = task_state t.scalars t.nest.now.loops t.pred.now t.outer t.chunk in
+    let k : TaskState = task_of t in
     let inv = c.loop-number.invariant in
     let inside : c.loop-number.number < length chunk.plan.now.phases = (let l = c.loop-number-test.true in let n = inv.end in omega (arith, l, n)) in
     let mid = g.C.Crew.handed c.loop-number.crew in
@@ -288,7 +288,7 @@ pub returns-then-steps-left-clause-seat : goal.returns-then-steps-left-clause-se
 returns-then-steps-left-clause-seat g c =
     let chunk = c.args.chunk.now in
     let t = chunk.launch.task.now in
-    let k : TaskState = task_state t.scalars t.nest.now.loops t.pred.now t.outer t.chunk in
+    let k : TaskState = task_of t in
     let inv = c.loop-number.invariant in
     let inside : c.loop-number.number < length chunk.plan.now.phases = (let l = c.loop-number-test.true in let n = inv.end in omega (arith, l, n)) in
     let mid = g.C.Crew.handed c.loop-number.crew in
@@ -306,7 +306,7 @@ pub returns-clause-attempted : goal.returns-clause-attempted
 returns-clause-attempted g c =
     let chunk = c.args.chunk.now in
     let t = chunk.launch.task.now in
-    let k : TaskState = task_state t.scalars t.nest.now.loops t.pred.now t.outer t.chunk in
+    let k : TaskState = task_of t in
     let inv = c.loop-number.invariant in
     let all : length chunk.plan.now.phases ≤ c.loop-number.number = (let l = c.loop-number-test.false in let n = inv.end in omega (arith, l, n)) in
     (attempt-whole g.row.D chunk.launch.workers k chunk.skeleton.now chunk.plan.now c.args.scalars.now c.args.left c.args.main.now.view (g.C.Crew.handed c.args.crew.now) c.requires.ready c.loop-number.number c.loop-number.left c.loop-number.main.view (g.C.Crew.handed c.loop-number.crew) all inv.stands).0
@@ -315,7 +315,7 @@ pub returns-clause-changes : goal.returns-clause-changes
 returns-clause-changes g c =
     let chunk = c.args.chunk.now in
     let t = chunk.launch.task.now in
-    let k : TaskState = task_state t.scalars t.nest.now.loops t.pred.now t.outer t.chunk in
+    let k : TaskState = task_of t in
     let inv = c.loop-number.invariant in
     let all : length chunk.plan.now.phases ≤ c.loop-number.number = (let l = c.loop-number-test.false in let n = inv.end in omega (arith, l, n)) in
     (inv.stands).changes
@@ -324,7 +324,7 @@ pub returns-clause-handed : goal.returns-clause-handed
 returns-clause-handed g c =
     let chunk = c.args.chunk.now in
     let t = chunk.launch.task.now in
-    let k : TaskState = task_state t.scalars t.nest.now.loops t.pred.now t.outer t.chunk in
+    let k : TaskState = task_of t in
     let inv = c.loop-number.invariant in
     let all : length chunk.plan.now.phases ≤ c.loop-number.number = (let l = c.loop-number-test.false in let n = inv.end in omega (arith, l, n)) in
     (attempt-whole g.row.D chunk.launch.workers k chunk.skeleton.now chunk.plan.now c.args.scalars.now c.args.left c.args.main.now.view (g.C.Crew.handed c.args.crew.now) c.requires.ready c.loop-number.number c.loop-number.left c.loop-number.main.view (g.C.Crew.handed c.loop-number.crew) all inv.stands).1
@@ -333,7 +333,7 @@ pub returns-clause-seat : goal.returns-clause-seat
 returns-clause-seat g c =
     let chunk = c.args.chunk.now in
     let t = chunk.launch.task.now in
-    let k : TaskState = task_state t.scalars t.nest.now.loops t.pred.now t.outer t.chunk in
+    let k : TaskState = task_of t in
     let inv = c.loop-number.invariant in
     let all : length chunk.plan.now.phases ≤ c.loop-number.number = (let l = c.loop-number-test.false in let n = inv.end in omega (arith, l, n)) in
     (attempt-whole g.row.D chunk.launch.workers k chunk.skeleton.now chunk.plan.now c.args.scalars.now c.args.left c.args.main.now.view (g.C.Crew.handed c.args.crew.now) c.requires.ready c.loop-number.number c.loop-number.left c.loop-number.main.view (g.C.Crew.handed c.loop-number.crew) all inv.stands).2

@@ -1,11 +1,11 @@
 use Rattle.std.proofs.Common.{◌≡◌, ◌≤◌, ◌+◌, length, vec_len, vec_capacity}
-use Rattle.verified_turns.specs.Workers.{task_state}
+use Rattle.follow_chunk.specs.Tasks.{task_of}
 use Rattle.chunk_run.proofs.AttemptingLaws.{Stands}
 use Rattle.chunk_run.proofs.run.run_phases.Given as goal
 
 abbrev pub invariant-loop-number : goal.invariant-loop-number
 invariant-loop-number g l = record {
-  stands : Stands (task_state l.chunk.launch.task.now.scalars l.chunk.launch.task.now.nest.now.loops l.chunk.launch.task.now.pred.now l.chunk.launch.task.now.outer l.chunk.launch.task.now.chunk)
+  stands : Stands (task_of l.chunk.launch.task.now)
       l.chunk.skeleton.now l.chunk.launch.workers l.chunk.plan.now l.scalars l.number l.fn.left l.left l.fn.main.view l.main.view (g.C.Crew.handed l.fn.crew) (g.C.Crew.handed l.crew);
   end : l.number-end ≡ length l.chunk.plan.now.phases;
   table : l.main.table ≡ l.fn.main.table;

@@ -1,5 +1,5 @@
 use Rattle.std.proofs.Common.{◌≡◌, ◌∙◌, sym, ap, subst, Ok, length, true, to_z-of_z, arith, rules}
-use Rattle.follow_chunk.specs.Tasks.{IsTask}
+use Rattle.follow_chunk.specs.Tasks.{TaskState, IsTask}
 use Rattle.chunk_run.specs.declared.run.ChunkEnd.{ChunkEnd}
 use Rattle.chunk_run.specs.declared.run.ChunkEnd.TheVariants.{RolledBack}
 use Rattle.chunk_run.specs.ChunkEnds.{IsLegalFor}
@@ -22,7 +22,8 @@ run_chunk-requires g c =
     let m = c.args.machine.now.moment in
     let p = c.requires.placed in
     let set : IsSetting g.row.D s = subst (λ (x : Setting). IsSetting g.row.D x) c.course.view_is c.course.invariant in
-    let task : IsTask g.row.D c.course.inside.scalars c.course.inside.nest.now.loops t c.outer.result c.args.chunk (words_at m) =
+    let k : TaskState = record { scalars = c.course.inside.scalars; loops = c.course.inside.nest.now.loops; pred = t; outer = c.outer.result; chunk = c.args.chunk } in
+    let task : IsTask g.row.D k (words_at m) =
     made-task s m set p c.requires.turn _ c.outer.result c.args.chunk c.course.view_is c.outer.ensures c.requires.next t n c.requires.chosen c.requires.launched in
     let legal : IsLegalFor t c.index-schedule.result.now c.args.chunk =
     made-legal s m set p c.requires.turn _ c.outer.result c.args.chunk c.course.view_is c.outer.ensures c.requires.next t n c.requires.chosen c.index-schedule.result.now c.index-schedule.ensures in
@@ -44,8 +45,9 @@ rolled_back-requires g c =
     let same : m ≡ after = sym run.1 in
     let placed : IsPlaced s after = subst (λ (x : Moment). IsPlaced s x) same p in
     let turn : has_turn after.outer.left ≡ true = subst (λ (x : Moment). has_turn x.outer.left ≡ true) same c.requires.turn in
-    let task : IsTask g.row.D c.course.inside.scalars c.course.inside.nest.now.loops t c.outer.result c.args.chunk (words_at after) = subst
-    (λ (x : Moment). IsTask g.row.D c.course.inside.scalars c.course.inside.nest.now.loops t c.outer.result c.args.chunk (words_at x)) same
+    let k : TaskState = record { scalars = c.course.inside.scalars; loops = c.course.inside.nest.now.loops; pred = t; outer = c.outer.result; chunk = c.args.chunk } in
+    let task : IsTask g.row.D k (words_at after) = subst
+    (λ (x : Moment). IsTask g.row.D k (words_at x)) same
     (made-task s m set p c.requires.turn _ c.outer.result c.args.chunk c.course.view_is c.outer.ensures c.requires.next t c.args.chosen.number c.requires.chosen c.requires.launched) in
     let loops : c.course.inside.nest.now.loops ≡ s.loops = ap (λ (x : Setting). x.loops) c.course.view_is in
     let outer : c.outer.result ≡ after.outer = c.outer.ensures ∙ ap (λ (x : Moment). x.outer) same in

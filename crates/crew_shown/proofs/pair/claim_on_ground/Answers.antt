@@ -1,5 +1,6 @@
 use Rattle.std.proofs.Common.{refl, ap, ◌∙◌}
 use Rattle.nest_lang.specs.declared.tree.Nest.{Nest}
+use Rattle.follow_chunk.specs.Tasks.{task_of}
 use Rattle.crew_shown.proofs.FirstTurnLaws.{task-is}
 use Rattle.crew_shown.proofs.pair.claim_on_ground.Goals as goal
 
@@ -7,4 +8,4 @@ pub run_two_workers-requires-clause-task : goal.run_two_workers-requires-clause-
 run_two_workers-requires-clause-task g c κs within =
     let task = c.task-task.result in
     let is = c.task-task.ensures in
-    task-is task.scalars 40 task.nest.now.loops task.pred.now task.outer task.chunk is.scalars (ap (λ (n : Nest). n.loops) is.nest ∙ c.requires.nest) (is.pred ∙ c.requires.pred) is.outer is.chunk refl
+    task-is (task_of task) 40 is.scalars (ap (λ (n : Nest). n.loops) is.nest ∙ c.requires.nest) (is.pred ∙ c.requires.pred) is.outer is.chunk refl

@@ -2,7 +2,7 @@ use Rattle.std.proofs.Common.{ℕ, pos, length, refl, sym, ap, subst, ◌∙◌,
 use Rattle.std.proofs.lemmas.List.{length-replicate}
 use Rattle.core_steps.specs.declared.plan.Plan.{Plan}
 use Rattle.core_steps.specs.declared.view.View.{View}
-use Rattle.follow_chunk.specs.Tasks.{IsTask}
+use Rattle.follow_chunk.specs.Tasks.{task_of, IsTask}
 use Rattle.shared_words.specs.Seats.{memory_words}
 use Rattle.crew_shown.proofs.EmptyTileLaws.{none-in, none-at-all, few-empties}
 use Rattle.crew_shown.proofs.pair.lend.Goals as goal
@@ -31,7 +31,7 @@ new-requires c =
                   (
                     refl,
                     (
-                      subst (λ (k : ℕ). IsTask 1 task.scalars task.nest.now.loops task.pred.now task.outer task.chunk (pos k)) (sym (ap (λ (u : View). length u.base) v ∙ c.requires.count)) c.requires.task,
+                      subst (λ (k : ℕ). IsTask 1 (task_of task) (pos k)) (sym (ap (λ (u : View). length u.base) v ∙ c.requires.count)) c.requires.task,
                       (
                         record { writes_in = λ tile a x h. absurd (none-in n tile x h); touches_in = λ tile a x h. absurd (none-in n tile x h) },
                         (

@@ -1,12 +1,12 @@
 use Rattle.std.proofs.Common.{◌∙◌, ◌<◌, vec_len, arith}
-use Rattle.verified_turns.specs.Workers.{task_state}
+use Rattle.follow_chunk.specs.Tasks.{task_of}
 use Rattle.phase_run.proofs.ClosingLaws.{ran-together, ran-broken, others_keep}
 use Rattle.phase_run.proofs.close.close.Goals as goal
 
 pub returns-then-settle-clause-ran : goal.returns-then-settle-clause-ran
 returns-then-settle-clause-ran g c =
     let t = c.args.task.now in
-    let k = task_state t.scalars t.nest.now.loops t.pred.now t.outer t.chunk in
+    let k = task_of t in
     let taken = c.take_back-steps.ensures in
     let settled = c.settle.ensures in
     let count = c.requires.count in
@@ -18,14 +18,14 @@ returns-then-settle-clause-ran g c =
 pub returns-then-settle-clause-others : goal.returns-then-settle-clause-others
 returns-then-settle-clause-others g c =
     let t = c.args.task.now in
-    let k = task_state t.scalars t.nest.now.loops t.pred.now t.outer t.chunk in
+    let k = task_of t in
     let taken = c.take_back-steps.ensures in
     others_keep {D = g.row.D} k c.args.posting.now c.args.main.now.view.base c.take_back-steps.new.main.view c.settle.new.self.view taken.base (taken.plan ∙ c.requires.posted.plan) c.requires.postable c.settle.ensures.view taken.owned
 
 pub returns-clause-ran : goal.returns-clause-ran
 returns-clause-ran g c =
     let t = c.args.task.now in
-    let k = task_state t.scalars t.nest.now.loops t.pred.now t.outer t.chunk in
+    let k = task_of t in
     let taken = c.take_back-steps.ensures in
     let settled = c.settle.ensures in
     let count = c.requires.count in
@@ -37,6 +37,6 @@ returns-clause-ran g c =
 pub returns-clause-others : goal.returns-clause-others
 returns-clause-others g c =
     let t = c.args.task.now in
-    let k = task_state t.scalars t.nest.now.loops t.pred.now t.outer t.chunk in
+    let k = task_of t in
     let taken = c.take_back-steps.ensures in
     others_keep {D = g.row.D} k c.args.posting.now c.args.main.now.view.base c.take_back-steps.new.main.view c.settle.new.self.view taken.base (taken.plan ∙ c.requires.posted.plan) c.requires.postable c.settle.ensures.view taken.owned

@@ -5,7 +5,8 @@ use Rattle.core_steps.specs.Views.{stored_at, joined_view}
 use Rattle.follow_chunk.specs.Followed.{ClosesSmall}
 use Rattle.phases.specs.Laws.{Gathered}
 use Rattle.phases.proofs.GatheringLaws.{gathered-start}
-use Rattle.verified_turns.specs.Workers.{Status, instances_of, task_state}
+use Rattle.follow_chunk.specs.Tasks.{task_of}
+use Rattle.verified_turns.specs.Workers.{Status, instances_of}
 use Rattle.crew.specs.Jobs.{total}
 use Rattle.phase_run.specs.Postings.{PostingState}
 use Rattle.phase_run.specs.Seats.{IsOfPhase, AreOfPhase, OnlyTheirs, OwnsWrites}
@@ -31,7 +32,7 @@ pub join-requires-clause-worker : goal.join-requires-clause-worker
 join-requires-clause-worker g c =
     let inv = c.loop-worker.invariant in
     let t = c.args.task.now in
-    let k = task_state t.scalars t.nest.now.loops t.pred.now t.outer t.chunk in
+    let k = task_of t in
     c.finish-seat.ensures.table ∙ ((all-but c.loop-worker.workers.items c.pop.new.self.items c.in-Some.worker c.in-Some.ensures.items (IsOfPhase k c.args.posting.now c.loop-worker.main.view.base) inv.theirs).1).same_table ∙ sym (ap (λ (q : PostingState). q.table) c.posting.view_is)
 
 pub loop-worker-preserved : goal.loop-worker-preserved
@@ -40,7 +41,7 @@ loop-worker-preserved g c =
     let is = c.in-Some.ensures.items in
     let w = c.in-Some.worker in
     let t = c.args.task.now in
-    let k = task_state t.scalars t.nest.now.loops t.pred.now t.outer t.chunk in
+    let k = task_of t in
     let p = c.args.posting.now in
     let m = c.loop-worker.main.view in
     let v = c.finish-seat.result.0.view in
@@ -91,7 +92,7 @@ pub loop-worker-init : goal.loop-worker-init
 loop-worker-init g c =
     let none : vec_len c.args.workers.now - vec_len c.args.workers.now ≡ 0 = omega arith in
     let t = c.args.task.now in
-    let k = task_state t.scalars t.nest.now.loops t.pred.now t.outer t.chunk in
+    let k = task_of t in
     let p = c.args.posting.now in
     record {
       table = refl;

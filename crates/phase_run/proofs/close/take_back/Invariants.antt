@@ -2,7 +2,8 @@ use Rattle.std.proofs.Common.{◌≡◌, ◌+◌, ◌-◌, ◌*◌, ◌≤◌, t
 use Rattle.std.specs.Prelude.{◌^◌, vec_capacity}
 use Rattle.follow_chunk.specs.Followed.{ClosesSmall}
 use Rattle.phases.specs.Laws.{Gathered}
-use Rattle.verified_turns.specs.Workers.{Status, instances_of, task_state}
+use Rattle.follow_chunk.specs.Tasks.{task_of}
+use Rattle.verified_turns.specs.Workers.{Status, instances_of}
 use Rattle.crew.specs.Jobs.{total}
 use Rattle.phase_run.specs.Seats.{AreOfPhase, AreDone, OnlyTheirs, OwnsWrites}
 use Rattle.phase_run.proofs.close.take_back.Given as goal
@@ -17,12 +18,12 @@ invariant-loop-worker g l = record {
   base : l.main.view.base ≡ l.initial.main.view.base;
   plan : l.main.view.plan ≡ l.posting.plan;
   out : OnlyTheirs l.main.view.out l.workers.items;
-  theirs : AreOfPhase (task_state l.task.scalars l.task.nest.now.loops l.task.pred.now l.task.outer l.task.chunk) l.posting l.main.view.base l.workers.items;
+  theirs : AreOfPhase (task_of l.task) l.posting l.main.view.base l.workers.items;
   done : AreDone l.workers.items;
   count : vec_len l.workers ≤ vec_len l.initial.workers;
   room : vec_capacity l.initial.workers ≤ vec_capacity l.workers;
   few : l.steps ≤ (vec_len l.initial.workers - vec_len l.workers) * 2 ^ 36;
-  gathered : Gathered (instances_of (task_state l.task.scalars l.task.nest.now.loops l.task.pred.now l.task.outer l.task.chunk) l.main.view) (ClosesSmall l.task.pred.now) l.posting.lists l.main.view (vec_len l.initial.workers - vec_len l.workers) l.steps;
+  gathered : Gathered (instances_of (task_of l.task) l.main.view) (ClosesSmall l.task.pred.now) l.posting.lists l.main.view (vec_len l.initial.workers - vec_len l.workers) l.steps;
   owned : OwnsWrites l.main.view;
   all : l.steps + total (λ (w : Status g.row.D). w.steps) l.workers.items ≡ total (λ (w : Status g.row.D). w.steps) l.initial.workers.items;
 }

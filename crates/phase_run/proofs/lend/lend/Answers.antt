@@ -5,7 +5,8 @@ use Rattle.core_steps.specs.Numbers.{has}
 use Rattle.plain_lemmas.specs.Lists.{Has}
 use Rattle.orders.specs.Tiles.{flat}
 use Rattle.shared_words.specs.Seats.{memory_words}
-use Rattle.verified_turns.specs.Workers.{task_state, StaysWithin}
+use Rattle.follow_chunk.specs.Tasks.{task_of}
+use Rattle.verified_turns.specs.Workers.{StaysWithin}
 use Rattle.phase_run.specs.Postings.{PostingState}
 use Rattle.phase_run.specs.Seats.{OnlyTheirs}
 use Rattle.phase_run.proofs.LendingLaws.{still-below, lent-base, lent-plan, fresh, long, task, within, one-more, theirs-more}
@@ -14,7 +15,7 @@ use Rattle.phase_run.proofs.lend.lend.Goals as goal
 pub new-requires : goal.new-requires
 new-requires g c =
     let t = c.args.task.now in
-    let k = task_state t.scalars t.nest.now.loops t.pred.now t.outer t.chunk in
+    let k = task_of t in
     let p = c.args.posting.now in
     let first = c.args.main.now.view in
     let m = c.loop-number.main.view in
@@ -40,7 +41,7 @@ new-requires g c =
 pub loop-number-preserved : goal.loop-number-preserved
 loop-number-preserved g c =
     let t = c.args.task.now in
-    let k = task_state t.scalars t.nest.now.loops t.pred.now t.outer t.chunk in
+    let k = task_of t in
     let p = c.args.posting.now in
     let first = c.args.main.now.view in
     let m = c.loop-number.main.view in

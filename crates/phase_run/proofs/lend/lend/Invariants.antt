@@ -1,7 +1,7 @@
 use Rattle.std.proofs.Common.{◌≡◌, ◌-◌, ◌≤◌, ℕ, true, vec_len}
 use Rattle.std.specs.Prelude.{vec_capacity}
 use Rattle.core_steps.specs.Numbers.{has}
-use Rattle.verified_turns.specs.Workers.{task_state}
+use Rattle.follow_chunk.specs.Tasks.{task_of}
 use Rattle.phase_run.specs.Seats.{AreOfPhase, OnlyTheirs}
 use Rattle.phase_run.proofs.lend.lend.Given as goal
 
@@ -14,7 +14,7 @@ invariant-loop-number g l = record {
   room : vec_capacity l.initial.workers ≤ vec_capacity l.workers;
   below : (n : ℕ) → has n l.main.view.out ≡ true → n ≤ l.number;
   out : OnlyTheirs l.main.view.out l.workers.items;
-  lent : AreOfPhase (task_state l.task.scalars l.task.nest.now.loops l.task.pred.now l.task.outer l.task.chunk) l.posting l.initial.main.view.base l.workers.items;
+  lent : AreOfPhase (task_of l.task) l.posting l.initial.main.view.base l.workers.items;
 }
 
 abbrev pub decreases-loop-number : goal.decreases-loop-number

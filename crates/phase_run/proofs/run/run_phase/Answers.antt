@@ -1,6 +1,6 @@
 use Rattle.std.proofs.Common.{◌≡◌, ◌∙◌, ap, sym, subst, ℕ, ◌<◌, List, length, vec_len, w64, to_z, of_z, arith, rules}
 use Rattle.core_steps.specs.declared.view.View.{View}
-use Rattle.verified_turns.specs.Workers.{task_state}
+use Rattle.follow_chunk.specs.Tasks.{task_of}
 use Rattle.phase_run.specs.Postings.{PostingState, IsPostable}
 use Rattle.phase_run.specs.Seats.{AreOfPhase, IsPosted}
 use Rattle.phase_run.proofs.HandingLaws.{still-of-phase, are-done, still-theirs, tiles-are, gains}
@@ -9,7 +9,7 @@ use Rattle.phase_run.proofs.run.run_phase.Goals as goal
 pub close-requires-after_bounds : goal.close-requires-after_bounds
 close-requires-after_bounds g c κs inside =
     let t = c.args.task.now in
-    let k = task_state t.scalars t.nest.now.loops t.pred.now t.outer t.chunk in
+    let k = task_of t in
     let p = c.args.posting.now in
     let v = c.args.main.now.view in
     let m = c.lend.new.main.view in
@@ -39,7 +39,7 @@ close-requires-after_bounds g c κs inside =
 pub returns-clause-handed : goal.returns-clause-handed
 returns-clause-handed g c =
     let t = c.args.task.now in
-    let k = task_state t.scalars t.nest.now.loops t.pred.now t.outer t.chunk in
+    let k = task_of t in
     let p = c.args.posting.now in
     let old = c.lend.new.workers.ok.0 in
     let lent = c.lend.ensures.count in

@@ -5,7 +5,8 @@ use Rattle.domain.specs.Steps.{next}
 use Rattle.core_steps.specs.declared.view.View.{View}
 use Rattle.shared_words.specs.Memories.{shown}
 use Rattle.follow_chunk.specs.Predicted.{scalars_at, interval_at}
-use Rattle.follow_chunk.specs.Tasks.{IsTask}
+use Rattle.follow_chunk.specs.Tasks.{task_of, IsTask}
+use Rattle.follow_chunk.specs.Foreseen.{CanFollow}
 use Rattle.follow_chunk.specs.Verifies.{VerifiesInstance}
 use Rattle.verified_turns.specs.Ports.{own_expectation, MayTouch}
 use Rattle.verified_turns.proofs.SeatMemoryLaws.{length-shown}
@@ -21,7 +22,7 @@ new-port-requires g c =
     let f = c.foreseen-foreseen.result in
     let found = c.foreseen-foreseen.ensures in
     let at : f.forms.now ≡ block_of t x = f.block ∙ ap (λ (s : Table). block_of s f.inst.now) found.pred ∙ ap (λ (z : Instance). block_of t z) found.inst in
-    let may : MayTouch f.forms.now (interval_at t x) v = may-touch g.row.D self.scalars (length v.base) self.nest.now.loops t self.outer self.chunk x c.requires.task c.requires.predicted f.forms.now v at refl c.requires.may in
+    let may : MayTouch f.forms.now (interval_at t x) v = may-touch g.row.D (task_of self) (length v.base) x c.requires.task c.requires.predicted f.forms.now v at refl c.requires.may in
     let asked : MayTouch f.forms.now (interval_at f.pred.now f.inst.now) v =
     subst (λ (s : Table). MayTouch f.forms.now (interval_at s f.inst.now) v) (sym found.pred)
     (subst (λ (y : Instance). MayTouch f.forms.now (interval_at t y) v) (sym found.inst) may) in
@@ -38,7 +39,7 @@ follow_verified-requires g c =
     let at : f.forms.now ≡ block_of t y = f.block ∙ ap (λ (s : Table). block_of s y) found.pred in
     let predicted : Predicted t self.chunk y = subst (λ (z : Instance). Predicted t self.chunk z) (sym found.inst) c.requires.predicted in
     let closes : scalars_at t f.next ≡ scalars_at t (next t y) = found.next ∙ ap (λ (z : Instance). scalars_at t (next t z)) (sym found.inst) in
-    let verifies = verifies-instance g.row.D self.scalars (length v.base) self.nest.now.loops t self.outer self.chunk y c.requires.task predicted f.forms.now at in
+    let verifies = verifies-instance g.row.D (task_of self) (length v.base) y c.requires.task predicted f.forms.now at in
     let port = c.new-port.result in
     let forms : port.foreseen.now.forms.now ≡ f.forms.now = ap (λ z. z.forms.now) c.new-port.ensures.foreseen in
     let pred : port.foreseen.now.pred.now ≡ t = ap (λ z. z.pred.now) c.new-port.ensures.foreseen ∙ found.pred in
@@ -48,6 +49,8 @@ follow_verified-requires g c =
     (subst (λ (s : Table). VerifiesInstance (own_expectation f.forms.now (interval_at s port.foreseen.now.inst.now)) t y) (sym pred)
     (subst (λ (z : Instance). VerifiesInstance (own_expectation f.forms.now (interval_at t z)) t y) (sym inst) verifies)) in
     let seat : port.seat.now.view ≡ v = ap (λ s. s.now.view) c.new-port.ensures.seat in
-    let task : IsTask g.row.D self.scalars self.nest.now.loops t self.outer self.chunk (pos (length (shown port.seat.now.view))) =
-    subst (λ (n : ℕ). IsTask g.row.D self.scalars self.nest.now.loops t self.outer self.chunk (pos n)) (sym (ap (λ (u : View). length (shown u)) seat ∙ length-shown v)) c.requires.task in
+    let task : IsTask g.row.D (task_of self) (pos (length (shown port.seat.now.view))) =
+    subst (λ (n : ℕ). IsTask g.row.D (task_of self) (pos n)) (sym (ap (λ (u : View). length (shown u)) seat ∙ length-shown v)) c.requires.task in
+    let can : CanFollow (task_of self) f (own_expectation port.foreseen.now.forms.now (interval_at port.foreseen.now.pred.now port.foreseen.now.inst.now)) =
+    record { few = c.requires.few; pred = found.pred; next = closes; task = (_, task); predicted = predicted; own = own } in
     search rules

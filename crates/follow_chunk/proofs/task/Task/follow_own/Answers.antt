@@ -1,4 +1,5 @@
 use Rattle.std.proofs.Common.{◌≡◌, [], rules}
+use Rattle.follow_chunk.specs.Tasks.{task_of}
 use Rattle.follow_chunk.specs.Predicted.{scalars_at}
 use Rattle.follow_chunk.proofs.RunningLaws.{none-here}
 use Rattle.follow_chunk.proofs.task.Task.follow_own.Goals as goal
@@ -9,5 +10,5 @@ follow_from-requires g c =
     let task = c.requires.task in
     let x = c.args.foreseen.now.inst.now in
     let zero : self.scalars ≡ 0 = search rules in
-    let begins : [] ≡ scalars_at self.pred.now x = none-here g.row.D self.scalars self.nest.now.loops self.pred.now self.outer self.chunk task.0 task.1 x c.requires.predicted zero in
+    let begins : [] ≡ scalars_at self.pred.now x = none-here g.row.D (task_of self) task.0 task.1 x c.requires.predicted zero in
     search rules

@@ -5,6 +5,7 @@ use Rattle.std.proofs.lemmas.Bool.Decides.{nat_tests}
 use Rattle.affine.specs.Forms.{Affine, value_at}
 use Rattle.domain.specs.Tables.{Level, cut, level_at}
 use Rattle.domain.specs.Instances.{Instance}
+use Rattle.follow_chunk.specs.Tasks.{task_of}
 use Rattle.follow_chunk.specs.Predicted.{value_or_zero}
 use Rattle.follow_chunk.proofs.PlacingLaws.{lower-level, counters-deep}
 use Rattle.follow_chunk.proofs.task.Task.lower.Goals as goal
@@ -15,9 +16,9 @@ overflow_cast-result g c =
     let task = c.requires.task in
     let same = ap (λ (y : Instance). y.at) c.inst.view_is in
     let some : 1 ≤ c.args.depth = (let test = c.if-depth-eq0.false in grind (arith, nat_tests)) in
-    let deep = counters-deep g.row.D self.scalars self.nest.now.loops self.pred.now self.outer self.chunk task.0 task.1 c.args.inst.now c.requires.predicted in
+    let deep = counters-deep g.row.D (task_of self) task.0 task.1 c.args.inst.now c.requires.predicted in
     let around = c.requires.around in
-    let low = lower-level g.row.D self.scalars self.nest.now.loops self.pred.now self.outer self.chunk task.0 task.1 c.args.inst.now.at c.args.depth c.requires.predicted.is.size some (omega arith) in
+    let low = lower-level g.row.D (task_of self) task.0 task.1 c.args.inst.now.at c.args.depth c.requires.predicted.is.size some (omega arith) in
     let form : (level_at self.pred.now c.args.depth).lower ≡ Some c.in-Some.form = sym (ap (λ (l : Level). l.lower) (c.behind-self.view_is ∙ c.level.ensures.level)) ∙ c.in-Some.is in
     let value =
     c.at.ensures ∙ ap (value_at c.in-Some.form) (c.cut.ensures ∙ ap (cut c.args.depth) same)
@@ -31,9 +32,9 @@ returns-in-Some g c =
     let task = c.requires.task in
     let same = ap (λ (y : Instance). y.at) c.inst.view_is in
     let some : 1 ≤ c.args.depth = (let test = c.if-depth-eq0.false in grind (arith, nat_tests)) in
-    let deep = counters-deep g.row.D self.scalars self.nest.now.loops self.pred.now self.outer self.chunk task.0 task.1 c.args.inst.now c.requires.predicted in
+    let deep = counters-deep g.row.D (task_of self) task.0 task.1 c.args.inst.now c.requires.predicted in
     let around = c.requires.around in
-    let low = lower-level g.row.D self.scalars self.nest.now.loops self.pred.now self.outer self.chunk task.0 task.1 c.args.inst.now.at c.args.depth c.requires.predicted.is.size some (omega arith) in
+    let low = lower-level g.row.D (task_of self) task.0 task.1 c.args.inst.now.at c.args.depth c.requires.predicted.is.size some (omega arith) in
     let form : (level_at self.pred.now c.args.depth).lower ≡ Some c.in-Some.form = sym (ap (λ (l : Level). l.lower) (c.behind-self.view_is ∙ c.level.ensures.level)) ∙ c.in-Some.is in
     let value =
     c.at.ensures ∙ ap (value_at c.in-Some.form) (c.cut.ensures ∙ ap (cut c.args.depth) same)
@@ -46,8 +47,8 @@ returns-in-None g c =
     let self = c.args.self.now in
     let task = c.requires.task in
     let some : 1 ≤ c.args.depth = (let test = c.if-depth-eq0.false in grind (arith, nat_tests)) in
-    let deep = counters-deep g.row.D self.scalars self.nest.now.loops self.pred.now self.outer self.chunk task.0 task.1 c.args.inst.now c.requires.predicted in
+    let deep = counters-deep g.row.D (task_of self) task.0 task.1 c.args.inst.now c.requires.predicted in
     let around = c.requires.around in
-    let low = lower-level g.row.D self.scalars self.nest.now.loops self.pred.now self.outer self.chunk task.0 task.1 c.args.inst.now.at c.args.depth c.requires.predicted.is.size some (omega arith) in
+    let low = lower-level g.row.D (task_of self) task.0 task.1 c.args.inst.now.at c.args.depth c.requires.predicted.is.size some (omega arith) in
     let form : (level_at self.pred.now c.args.depth).lower ≡ None = sym (ap (λ (l : Level). l.lower) (c.behind-self.view_is ∙ c.level.ensures.level)) ∙ c.in-None.is in
     sym (ap (λ (f : Option Affine). value_or_zero f (cut c.args.depth c.args.inst.now.at)) form) ∙ sym low

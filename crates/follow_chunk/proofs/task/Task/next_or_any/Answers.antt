@@ -1,4 +1,5 @@
 use Rattle.std.proofs.Common.{◌≡◌, rules}
+use Rattle.follow_chunk.specs.Tasks.{task_of}
 use Rattle.follow_chunk.proofs.RunningLaws.{none-behind}
 use Rattle.follow_chunk.proofs.task.Task.next_or_any.Goals as goal
 
@@ -9,5 +10,5 @@ returns-then-count-eq0 g c =
     let x = c.args.inst.now in
     let p = c.requires.predicted in
     let zero : self.scalars ≡ 0 = search rules in
-    let same = none-behind g.row.D self.scalars self.nest.now.loops self.pred.now self.outer self.chunk task.0 task.1 x p zero in
+    let same = none-behind g.row.D (task_of self) task.0 task.1 x p zero in
     search rules

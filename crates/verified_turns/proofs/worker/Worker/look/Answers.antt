@@ -3,14 +3,15 @@ use Rattle.core_steps.specs.declared.view.View.{View}
 use Rattle.core_steps.specs.Views.{holding_view, knowing_view}
 use Rattle.phases.specs.Workers.{looked_view}
 use Rattle.phases.proofs.WorkerStepLaws.{told-of}
-use Rattle.verified_turns.specs.Workers.{Status, task_state, origin_of}
+use Rattle.follow_chunk.specs.Tasks.{task_of}
+use Rattle.verified_turns.specs.Workers.{Status, origin_of}
 use Rattle.verified_turns.proofs.TurnLaws.{status, at-work, won-keeps, lost-keeps, end-keeps, stop-keeps, origin-kept, more-left}
 use Rattle.verified_turns.proofs.worker.Worker.look.Goals as goal
 
 pub invariant_of-self : goal.invariant_of-self
 invariant_of-self g c =
     let it = c.self.inside in
-    let k = task_state it.task.now.scalars it.task.now.nest.now.loops it.task.now.pred.now it.task.now.outer it.task.now.chunk in
+    let k = task_of it.task.now in
     let v : Status g.row.D = status it.number k (g.W.Walk.lists it.walk) it.seat.table it.seat.view (g.W.Walk.rest it.walk) it.next it.steps it.left it.end in
     let some : 0 < it.left = rw (← c.self.view_is) at c.requires.left in
     let is = at-work v.lists v.rest v.next v.steps v.left v.end c.self.invariant.lasts some in
@@ -22,7 +23,7 @@ invariant_of-self g c =
 pub invariant_of-self-then-tiles-tile : goal.invariant_of-self-then-tiles-tile
 invariant_of-self-then-tiles-tile g c =
     let it = c.self.inside in
-    let k = task_state it.task.now.scalars it.task.now.nest.now.loops it.task.now.pred.now it.task.now.outer it.task.now.chunk in
+    let k = task_of it.task.now in
     let v : Status g.row.D = status it.number k (g.W.Walk.lists it.walk) it.seat.table it.seat.view (g.W.Walk.rest it.walk) it.next it.steps it.left it.end in
     let some : 0 < it.left = rw (← c.self.view_is) at c.requires.left in
     let is = at-work v.lists v.rest v.next v.steps v.left v.end c.self.invariant.lasts some in
@@ -37,7 +38,7 @@ invariant_of-self-then-tiles-tile g c =
 pub invariant_of-self-then-not-claim : goal.invariant_of-self-then-not-claim
 invariant_of-self-then-not-claim g c =
     let it = c.self.inside in
-    let k = task_state it.task.now.scalars it.task.now.nest.now.loops it.task.now.pred.now it.task.now.outer it.task.now.chunk in
+    let k = task_of it.task.now in
     let v : Status g.row.D = status it.number k (g.W.Walk.lists it.walk) it.seat.table it.seat.view (g.W.Walk.rest it.walk) it.next it.steps it.left it.end in
     let some : 0 < it.left = rw (← c.self.view_is) at c.requires.left in
     let is = at-work v.lists v.rest v.next v.steps v.left v.end c.self.invariant.lasts some in
@@ -56,7 +57,7 @@ invariant_of-self-then-not-claim g c =
 pub returns-then-not-claim-clause-origin : goal.returns-then-not-claim-clause-origin
 returns-then-not-claim-clause-origin g c =
     let it = c.self.inside in
-    let k = task_state it.task.now.scalars it.task.now.nest.now.loops it.task.now.pred.now it.task.now.outer it.task.now.chunk in
+    let k = task_of it.task.now in
     let v : Status g.row.D = status it.number k (g.W.Walk.lists it.walk) it.seat.table it.seat.view (g.W.Walk.rest it.walk) it.next it.steps it.left it.end in
     let some : 0 < it.left = rw (← c.self.view_is) at c.requires.left in
     let is = at-work v.lists v.rest v.next v.steps v.left v.end c.self.invariant.lasts some in
@@ -75,7 +76,7 @@ returns-then-not-claim-clause-origin g c =
 pub returns-then-not-claim-clause-more : goal.returns-then-not-claim-clause-more
 returns-then-not-claim-clause-more g c =
     let it = c.self.inside in
-    let k = task_state it.task.now.scalars it.task.now.nest.now.loops it.task.now.pred.now it.task.now.outer it.task.now.chunk in
+    let k = task_of it.task.now in
     let v : Status g.row.D = status it.number k (g.W.Walk.lists it.walk) it.seat.table it.seat.view (g.W.Walk.rest it.walk) it.next it.steps it.left it.end in
     let some : 0 < it.left = rw (← c.self.view_is) at c.requires.left in
     let is = at-work v.lists v.rest v.next v.steps v.left v.end c.self.invariant.lasts some in
@@ -94,7 +95,7 @@ returns-then-not-claim-clause-more g c =
 pub invariant_of-self-2 : goal.invariant_of-self-2
 invariant_of-self-2 g c =
     let it = c.self.inside in
-    let k = task_state it.task.now.scalars it.task.now.nest.now.loops it.task.now.pred.now it.task.now.outer it.task.now.chunk in
+    let k = task_of it.task.now in
     let v : Status g.row.D = status it.number k (g.W.Walk.lists it.walk) it.seat.table it.seat.view (g.W.Walk.rest it.walk) it.next it.steps it.left it.end in
     let some : 0 < it.left = rw (← c.self.view_is) at c.requires.left in
     let is = at-work v.lists v.rest v.next v.steps v.left v.end c.self.invariant.lasts some in
@@ -113,7 +114,7 @@ invariant_of-self-2 g c =
 pub returns-clause-origin : goal.returns-clause-origin
 returns-clause-origin g c =
     let it = c.self.inside in
-    let k = task_state it.task.now.scalars it.task.now.nest.now.loops it.task.now.pred.now it.task.now.outer it.task.now.chunk in
+    let k = task_of it.task.now in
     let v : Status g.row.D = status it.number k (g.W.Walk.lists it.walk) it.seat.table it.seat.view (g.W.Walk.rest it.walk) it.next it.steps it.left it.end in
     let some : 0 < it.left = rw (← c.self.view_is) at c.requires.left in
     let is = at-work v.lists v.rest v.next v.steps v.left v.end c.self.invariant.lasts some in
@@ -132,7 +133,7 @@ returns-clause-origin g c =
 pub returns-clause-more : goal.returns-clause-more
 returns-clause-more g c =
     let it = c.self.inside in
-    let k = task_state it.task.now.scalars it.task.now.nest.now.loops it.task.now.pred.now it.task.now.outer it.task.now.chunk in
+    let k = task_of it.task.now in
     let v : Status g.row.D = status it.number k (g.W.Walk.lists it.walk) it.seat.table it.seat.view (g.W.Walk.rest it.walk) it.next it.steps it.left it.end in
     let some : 0 < it.left = rw (← c.self.view_is) at c.requires.left in
     let is = at-work v.lists v.rest v.next v.steps v.left v.end c.self.invariant.lasts some in

@@ -1,12 +1,12 @@
 use Rattle.std.proofs.Common.{arith}
-use Rattle.verified_turns.specs.Workers.{task_state}
+use Rattle.follow_chunk.specs.Tasks.{task_of}
 use Rattle.verified_turns.proofs.TurnLaws.{new-keeps}
 use Rattle.verified_turns.proofs.worker.Worker.new.Goals as goal
 
 pub invariant_of-result : goal.invariant_of-result
 invariant_of-result g c =
     let t = c.args.task.now in
-    let k = task_state t.scalars t.nest.now.loops t.pred.now t.outer t.chunk in
+    let k = task_of t in
     let tiles = c.tiles.ensures in
     let from = c.from-left.ensures in
     new-keeps c.args.words.now k (g.W.Walk.lists c.args.walk) c.args.seat.view c.requires.task c.requires.predicted c.requires.within c.args.number c.args.seat.table (g.W.Walk.rest c.args.walk) _

@@ -1,14 +1,15 @@
 use Rattle.std.proofs.Common.{◌≡◌, ◌∙◌, refl, ap, ◌+◌, ◌-◌, ◌<◌, arith, rules}
 use Rattle.shared_words.specs.Seats.{SeatState}
 use Rattle.phases.proofs.WorkerStepLaws.{told-of}
-use Rattle.verified_turns.specs.Workers.{Status, task_state}
+use Rattle.follow_chunk.specs.Tasks.{task_of}
+use Rattle.verified_turns.specs.Workers.{Status}
 use Rattle.verified_turns.proofs.TurnLaws.{status, at-work, due-predicted, due-may, instance-keeps, failure-keeps, more-left}
 use Rattle.verified_turns.proofs.worker.Worker.turn.Goals as goal
 
 pub follow_on-requires : goal.follow_on-requires
 follow_on-requires g c =
     let it = c.self.inside in
-    let k = task_state it.task.now.scalars it.task.now.nest.now.loops it.task.now.pred.now it.task.now.outer it.task.now.chunk in
+    let k = task_of it.task.now in
     let v : Status g.row.D = status it.number k (g.W.Walk.lists it.walk) it.seat.table it.seat.view (g.W.Walk.rest it.walk) it.next it.steps it.left it.end in
     let some : 0 < it.left = rw (← c.self.view_is) at c.requires.left in
     let is = at-work v.lists v.rest v.next v.steps v.left v.end c.self.invariant.lasts some in
@@ -25,7 +26,7 @@ follow_on-requires g c =
 pub invariant_of-self-in-Same : goal.invariant_of-self-in-Same
 invariant_of-self-in-Same g c =
     let it = c.self.inside in
-    let k = task_state it.task.now.scalars it.task.now.nest.now.loops it.task.now.pred.now it.task.now.outer it.task.now.chunk in
+    let k = task_of it.task.now in
     let v : Status g.row.D = status it.number k (g.W.Walk.lists it.walk) it.seat.table it.seat.view (g.W.Walk.rest it.walk) it.next it.steps it.left it.end in
     let some : 0 < it.left = rw (← c.self.view_is) at c.requires.left in
     let is = at-work v.lists v.rest v.next v.steps v.left v.end c.self.invariant.lasts some in
@@ -39,7 +40,7 @@ invariant_of-self-in-Same g c =
 pub returns-in-Same-clause-more : goal.returns-in-Same-clause-more
 returns-in-Same-clause-more g c =
     let it = c.self.inside in
-    let k = task_state it.task.now.scalars it.task.now.nest.now.loops it.task.now.pred.now it.task.now.outer it.task.now.chunk in
+    let k = task_of it.task.now in
     let v : Status g.row.D = status it.number k (g.W.Walk.lists it.walk) it.seat.table it.seat.view (g.W.Walk.rest it.walk) it.next it.steps it.left it.end in
     let some : 0 < it.left = rw (← c.self.view_is) at c.requires.left in
     let is = at-work v.lists v.rest v.next v.steps v.left v.end c.self.invariant.lasts some in
@@ -53,7 +54,7 @@ returns-in-Same-clause-more g c =
 pub invariant_of-self-in-Differs : goal.invariant_of-self-in-Differs
 invariant_of-self-in-Differs g c =
     let it = c.self.inside in
-    let k = task_state it.task.now.scalars it.task.now.nest.now.loops it.task.now.pred.now it.task.now.outer it.task.now.chunk in
+    let k = task_of it.task.now in
     let v : Status g.row.D = status it.number k (g.W.Walk.lists it.walk) it.seat.table it.seat.view (g.W.Walk.rest it.walk) it.next it.steps it.left it.end in
     let some : 0 < it.left = rw (← c.self.view_is) at c.requires.left in
     let is = at-work v.lists v.rest v.next v.steps v.left v.end c.self.invariant.lasts some in
