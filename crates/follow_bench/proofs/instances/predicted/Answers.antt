@@ -16,7 +16,7 @@ loop-done-init g c =
     let t = self.pred.now in
     let chunk = self.chunk in
     let task = c.requires.task in
-    let next = tasks-are-chunks g.row.D self.scalars self.nest.now.loops t self.outer chunk task.0 task.1 in
+    let next = tasks-are-chunks g.row.D (task_of self) task.0 task.1 in
     let from = next.from in
     let some = next.some in
     let soon = task.1.soon in
@@ -49,7 +49,7 @@ successor-at-requires g c =
     let task = c.requires.task in
     let below = int_lt-true _ _ (sym c.holds.ensures ∙ c.if-not-holds.false) in
     let p = in-chunk g.row.D t task.1.shape chunk c.loop-done.at c.loop-done.invariant.at below in
-    let can = can-turn g.row.D self.scalars self.nest.now.loops t self.outer chunk task.0 task.1 c.loop-done.at p in
+    let can = can-turn g.row.D (task_of self) task.0 task.1 c.loop-done.at p in
     (search rules, (search rules, (c.requires.few, (p.is.block, can))))
 
 pub loop-done-preserved : goal.loop-done-preserved
