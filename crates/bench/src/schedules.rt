@@ -1,25 +1,21 @@
-//! Schedules a square of points over two loops and writes the exclusive or of the numbers that come of it. It stands
-//! on `transform` alone, and is what bench/schedules.sh measures.
-#![tactic(auto)]
-
+//! Places, tiles and keys of a square of points over two loops.
 use nest_lang::Command;
-use std::io;
 use transform::{Schedule, schedule_of};
 
 /// The side of the square.
 const SIDE: i64 = 1_001;
 
-fn main(rt: HostRuntime) -> io::Result<()> {
+/// The exclusive or of all numbers that come of `skew 2 1 1; tile 1 4; tile 2 4`, and 0 where that is no schedule.
+pub fn scheduled() -> i128 {
     let script = [
         Command::Skew(2, 1, 1),
         Command::Tile(1, 4),
         Command::Tile(2, 4),
     ];
-    if let Some(schedule) = schedule_of::<2>(&script) {
-        let numbers = places(&schedule) ^ tiles(&schedule) ^ phases(&schedule);
-        println!(rt; "{numbers}")?;
+    match schedule_of::<2>(&script) {
+        Some(schedule) => places(&schedule) ^ tiles(&schedule) ^ phases(&schedule),
+        None => 0,
     }
-    Ok(())
 }
 
 /// The places of the square.

@@ -2,7 +2,7 @@ use Rattle.std.proofs.Common.{◌≡◌, sym, subst, length, rules, lit<, lit≤
 use Rattle.domain.specs.Tables.{Table, Level, Block, IsTable}
 use Rattle.domain.specs.Examples.{two_loops}
 use Rattle.domain.proofs.ExampleLaws.{two_loops-is}
-use Rattle.launch_bench.proofs.two_loops.Goals as goal
+use Rattle.bench.proofs.launches.two_loops.Goals as goal
 
 table-of : (levels : List Level) (blocks : List Block) (t : Table) → levels ≡ t.levels → blocks ≡ t.blocks → IsTable 2 t → IsTable 2 (record { levels = levels; blocks = blocks })
 table-of levels blocks t e f h =

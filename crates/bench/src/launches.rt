@@ -1,8 +1,4 @@
-//! Checks whether chunks may be launched: each line of its input has the trip of the inner of two loops, the turns of
-//! the outer one, and how often the chunk is checked. It writes how many instances were checked. It stands on `domain`,
-//! and is what bench/launch.sh measures.
-#![tactic(auto)]
-
+//! Whether chunks over two loops may be launched.
 ghost use Rattle.std.specs.Prelude.{◌≡◌, ◌≤◌, ◌^◌, pos, [], ◌∷◌, length, unsigned_abs};
 ghost use Rattle.domain.specs.Instances.{counter};
 
@@ -10,33 +6,13 @@ use affine::Form;
 use domain::{AccessForm, BlockForms, Chunk, LoopForms, LoopKind, Prediction, launch};
 use nest_lang::Part;
 use std::alloc::{AllocError, Global};
-use std::io;
-use std::io::{BufRead, BufReader};
 
 /// The words of the memory.
 const WORDS: u64 = 1_024;
 
-fn main(rt: HostRuntime) -> io::Result<()> {
-    let alloc = rt.alloc();
-    for line in BufReader::new(alloc, rt.reader())?.lines(alloc) {
-        let line = line?;
-        let mut numbers = line.as_str().split(' ').map(number);
-        let trip = numbers.next().unwrap_or(0);
-        let turns = numbers.next().unwrap_or(0);
-        let rounds = numbers.next().unwrap_or(0);
-        let instances = launched(alloc, trip, turns, rounds)?;
-        println!(rt; "{instances}")?;
-    }
-    Ok(())
-}
-
-/// The number that a word is, or 0 where it is none of 16 bits.
-fn number(word: &str) -> u16 {
-    word.parse::<u16>().unwrap_or(0)
-}
-
-/// The instances that are launched in so many rounds.
-fn launched(alloc: Global, trip: u16, turns: u16, rounds: u16) -> Result<u64, AllocError> {
+/// The instances that are launched in so many rounds, each of a chunk of so many turns of the outer loop, where the inner
+/// one has this trip.
+pub fn launched(alloc: Global, trip: u16, turns: u16, rounds: u16) -> Result<u64, AllocError> {
     let pred = counts(alloc, trip.min(4_096))?;
     let mut instances: u64 = 0;
     for _ in 0..rounds {
