@@ -154,7 +154,7 @@ def check_wrapper(tally):
         tally.holds(call(["--unproved", "chek"])[0] == 64, "--unproved with no such mode")
         status, out, said = call(["run"], "some")
         tally.holds((status, out) == (10, "some\n"), f"the first call: {status} {out!r} {said!r}")
-        tally.holds("--unproved" in said and "1 of 2 crates proved (low); about" in said, f"the first call says {said!r}")
+        tally.holds("--unproved" in said and "1 of 2 crates proved (low); " in said and " left" in said, f"the first call says {said!r}")
         for words, text in [(["run", "x.nest"], ""), (["run"], REFUSED_TEXT)]:
             status, out, said = call(words, text)
             tally.holds((status, out) == (2, "refused 30 Unknown\n") and "line 1, column 31: no name `total`" in said, f"{words}: {status} {out!r} {said!r}")
