@@ -1,4 +1,4 @@
-"""About how many minutes a build still takes.
+"""How long a build still takes, in words.
 
 usage: forecast.py RECORD LANES NOW
 
@@ -52,10 +52,14 @@ def seconds_left(lines, lanes, now):
     return max(ends.values(), default=now) - now
 
 
+def said(minutes):
+    return f"about {minutes} minutes" if minutes > 1 else "about a minute" if minutes else "less than a minute"
+
+
 def main():
     with open(sys.argv[1], encoding="utf-8") as record:
         left = seconds_left(record, int(sys.argv[2]), float(sys.argv[3]))
-    print(round(left / 60) or "less than 1")
+    print(said(round(left / 60)))
 
 
 if __name__ == "__main__":

@@ -5,7 +5,7 @@ counts the same instances, phases and tiles as the program's commit lines in cas
 from dataclasses import dataclass
 
 import nest_text
-from nest_text import Assign, Binary, If, Let, Load, Name, Negative, Number, Store
+from nest_text import Assign, Let, Load, Name, Negative, Number, Store
 
 GREATEST = nest_text.GREATEST
 
@@ -22,10 +22,6 @@ class Instance:
     point: tuple
 
 
-def remainder(a, b):
-    return a - b * quotient(a, b)
-
-
 def quotient(a, b):
     if b == 0:
         raise Stop()
@@ -33,12 +29,23 @@ def quotient(a, b):
     return size if (a < 0) == (b < 0) else -size
 
 
+def remainder(a, b):
+    """With the sign of the dividend; it overflows where the quotient does."""
+    return a - b * checked(quotient(a, b))
+
+
+def checked(value):
+    if not -GREATEST - 1 <= value <= GREATEST:
+        raise Stop()
+    return value
+
+
 OPERATIONS = {
     "+": lambda a, b: a + b,
     "-": lambda a, b: a - b,
     "*": lambda a, b: a * b,
     "/": quotient,
-    "%": lambda a, b: remainder(a, checked(b) if quotient(a, b) <= GREATEST else checked(quotient(a, b))),
+    "%": remainder,
     "==": lambda a, b: int(a == b),
     "!=": lambda a, b: int(a != b),
     "<": lambda a, b: int(a < b),
@@ -46,12 +53,6 @@ OPERATIONS = {
     ">": lambda a, b: int(a > b),
     ">=": lambda a, b: int(a >= b),
 }
-
-
-def checked(value):
-    if not -GREATEST - 1 <= value <= GREATEST:
-        raise Stop()
-    return value
 
 
 class Run:
@@ -128,7 +129,7 @@ class Run:
         self.step()
         lower, upper = self.value(loop.lower), self.value(loop.upper)
         loop.first = lower
-        return len(range(lower, upper, loop.step))
+        return max(0, -((lower - upper) // loop.step))
 
     def goes_on(self, nest, loop, counters, count):
         if loop.is_for:
