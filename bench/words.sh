@@ -1,12 +1,11 @@
 #!/usr/bin/env bash
-# Prints what ten million loads and stores take through a worker's seat and on a plain slice, in one run, and what the
-# test takes whether a plan of 2,000,000 addresses is separate. With valgrind it also counts the instructions of a
-# round (a load and a store), the start taken off.
+# Prints what ten million loads and stores take through a worker's seat and on a plain slice, in one run. With valgrind
+# it also counts the instructions of a round (a load and a store), the start taken off.
 set -eu
 cd "$(dirname "$0")/../crates/words_bench"
 rt run > /dev/null < /dev/null
 program=out/words_bench
-printf 'slice 10000000\nseat 10000000\nslice 10000000\nseat 10000000\nplan 500000\nplan 1000000\nplan 2000000\n' | "$program"
+printf 'slice 10000000\nseat 10000000\nslice 10000000\nseat 10000000\n' | "$program"
 if command -v valgrind > /dev/null; then
   count() { printf '%s\n' "$1" | valgrind --tool=callgrind --callgrind-out-file=/dev/null "$program" 2>&1 | sed -n 's/.*Collected : //p'; }
   for kind in slice seat; do

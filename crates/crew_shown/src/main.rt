@@ -4,6 +4,8 @@
 //! output is that of a `ThreadCrew` that runs them beside each other.
 #![tactic(auto)]
 
+ghost use Rattle.core_steps.specs.Plans.{IsSeparate, IsInside};
+
 mod counts;
 mod meeting;
 mod pair;
@@ -62,7 +64,10 @@ struct Met {
 }
 
 /// Has two workers of this plan meet at a gate, on threads.
-fn meet<R: Threads + Sync>(rt: &R, alloc: Global, plan: &Plan) -> Result<Met, AllocError> {
+fn meet<R: Threads + Sync>(rt: &R, alloc: Global, plan: &Plan) -> Result<Met, AllocError>
+    requires separate { IsSeparate plan.now }
+    requires inside { IsInside 40 plan.now }
+{
     let (noted, in_vain) = (AtomicU64::new(0), AtomicU64::new(0));
     let mut crew = ThreadCrew::new(rt, alloc, Meeting::new(&noted, &in_vain));
     let held = held_once(alloc, plan, Flag::Down, &mut crew)?;
@@ -79,7 +84,10 @@ fn held_once<C: Crew>(
     plan: &Plan,
     flag: Flag,
     crew: &mut C,
-) -> Result<usize, AllocError> {
+) -> Result<usize, AllocError>
+    requires separate { IsSeparate plan.now }
+    requires inside { IsInside 40 plan.now }
+{
     let entered = counters(alloc, plan.tiles.len())?;
     if let Some(tiles) = Tiles::new(plan, entered.as_slice(), flag) {
         claim_all(alloc, &tiles, crew)?;

@@ -1,5 +1,5 @@
 //! The tiles that two workers claim.
-ghost use Rattle.std.specs.Prelude.{◌≡◌, ◌≤◌, length};
+ghost use Rattle.std.specs.Prelude.{◌≡◌, ◌≤◌, IfOk, length};
 ghost use Rattle.core_steps.specs.Plans.{IsSeparate, IsInside};
 
 use core_steps::{Plan, Tile};
@@ -26,10 +26,13 @@ pub struct Tiles<'a> {
 }
 
 impl<'a> Tiles<'a> {
-    /// None where the plan may not be posted over 40 words, or has another number of tiles.
-    pub fn new(plan: &'a Plan, entered: &'a [AtomicU64], flag: Flag) -> Option<Tiles<'a>> {
+    /// None where the plan has more than 65,536 tiles, or another number of them.
+    pub fn new(plan: &'a Plan, entered: &'a [AtomicU64], flag: Flag) -> Option<Tiles<'a>>
+        requires separate { IsSeparate plan.now }
+        requires inside { IsInside 40 plan.now }
+    {
         let tiles = plan.tiles.len();
-        if tiles > 65_536 || tiles != entered.len() || !plan.is_inside(40) || !plan.separate() {
+        if tiles > 65_536 || tiles != entered.len() {
             return None;
         }
         Some(Tiles {
@@ -40,10 +43,14 @@ impl<'a> Tiles<'a> {
     }
 }
 
-/// So many tiles without addresses.
-pub fn plan_of(alloc: Global, tiles: u32) -> Result<Plan, AllocError> {
+/// So many tiles without addresses, which may be posted over 40 words.
+#[tactic(auto, using(shared_words::proofs::EmptyTileLaws::empty_tiles))]
+pub fn plan_of(alloc: Global, tiles: u32) -> Result<Plan, AllocError>
+    ensures separate { IfOk result (λ plan. IsSeparate plan) }
+    ensures inside { IfOk result (λ plan. IsInside 40 plan) }
+{
     let mut all = Vec::new(alloc);
-    for _ in 0..tiles {
+    for _tile in 0..tiles {
         all.push(Tile::new(Vec::new(alloc), Vec::new(alloc)))?;
     }
     Ok(Plan::new(all))

@@ -1,5 +1,5 @@
 -- Phases of copies of the first instance may be posted.
-use Rattle.std.proofs.Common.{◌≡◌, ℕ, zero, suc, ◌*◌, ◌<◌, ◌≤◌, pos, ◌≤ℤ◌, Bool, true, false, ◌||◌, true≢false, List, [], ◌∷◌, length, Some, None, refl, sym, ap, ◌∙◌, subst, ⊎_elim, arith}
+use Rattle.std.proofs.Common.{◌≡◌, ℕ, zero, suc, ◌*◌, ◌<◌, ◌≤◌, lit<, pos, ◌≤ℤ◌, Bool, true, false, ◌||◌, true≢false, List, [], ◌∷◌, length, Some, None, refl, sym, ap, ◌∙◌, subst, ⊎_elim, arith}
 use Rattle.std.proofs.lemmas.Int.{ints}
 use Rattle.atomic_table.specs.Seated.{TableId}
 use Rattle.core_steps.specs.declared.plan.Plan.{Plan}
@@ -19,7 +19,8 @@ use Rattle.follow_chunk.proofs.PremiseLaws.{here, premises-can-hold}
 use Rattle.follow_chunk.specs.Tasks.{TaskState}
 use Rattle.verified_turns.specs.Workers.{StaysWithin}
 use Rattle.phase_run.specs.Postings.{IsPostable}
-use Rattle.turns_bench.specs.Copies.{first, tiles_of, one_store}
+use Rattle.shared_words.proofs.EmptyTileLaws.{AreEmpty, empty-separate, empty-inside}
+use Rattle.turns_bench.specs.Copies.{first, tiles_of, one_store, four_empty}
 use Rattle.turns_bench.proofs.CopyingLaws.{is-first, some-copy, tiles-long, in-tile, in-all, all-long}
 
 abbrev begins : Outer
@@ -87,3 +88,31 @@ module _ (n each workers : ℕ) (plan : Plan) (separate : IsSeparate plan) (insi
 
 pub task-is : (job : TaskState) → job.scalars ≡ 0 → job.loops ≡ one_row → job.pred ≡ row → job.outer ≡ begins → job.chunk ≡ one_turn → job ≡ first_turn
 task-is job a b c d e = λ i. record { scalars = a i; loops = b i; pred = c i; outer = d i; chunk = e i }
+
+-- a plan of one tile is separate, and what this one touches is word 0
+pub one-store-separate : IsSeparate one_store
+one-store-separate zero zero ne a w = absurd (ne refl)
+one-store-separate zero (suc k) ne a w = refl
+one-store-separate (suc j) k ne a w = absurd (true≢false (sym w))
+
+pub one-store-inside : IsInside 40 one_store
+one-store-inside zero zero t = lit< tt
+one-store-inside zero (suc a) t = absurd (true≢false (sym t))
+one-store-inside (suc k) a t = absurd (true≢false (sym t))
+
+pub one-store-writes : (tile : ℕ) → tile < 1 → writes one_store tile 0 ≡ true
+one-store-writes zero below = refl
+one-store-writes (suc tile) below = absurd (omega (arith, below))
+
+four-are-empty : AreEmpty four_empty.tiles
+four-are-empty zero = refl
+four-are-empty (suc zero) = refl
+four-are-empty (suc (suc zero)) = refl
+four-are-empty (suc (suc (suc zero))) = refl
+four-are-empty (suc (suc (suc (suc k)))) = refl
+
+pub four-empty-separate : IsSeparate four_empty
+four-empty-separate = empty-separate four_empty four-are-empty
+
+pub four-empty-inside : IsInside 40 four_empty
+four-empty-inside = empty-inside four_empty 40 four-are-empty

@@ -4,9 +4,8 @@
 //! the steps. It stands on `phase_run`, and is what bench/turns.sh measures.
 #![tactic(auto)]
 
-ghost use Rattle.std.specs.Prelude.{◌≡◌, ◌<◌, ◌≤◌, ℕ, [], ◌∷◌, IfOk, IsTrue, length, true, false, vec_len, vec_capacity};
+ghost use Rattle.std.specs.Prelude.{◌≡◌, ◌<◌, ◌≤◌, ℕ, [], ◌∷◌, IfOk, length, true, false, vec_len, vec_capacity};
 ghost use Rattle.atomic_table.specs.Seated.{TableId};
-ghost use Rattle.core_steps.specs.Plans.{IsSeparate, IsInside};
 ghost use Rattle.domain.specs.Examples.{row};
 ghost use Rattle.follow_chunk.specs.Laws.{one_row};
 ghost use Rattle.follow_chunk.specs.Tasks.{task_of};
@@ -88,7 +87,7 @@ fn worker<C: Crew>(
     requires pred { pred.now ≡ row }
 {
     let plan = one_store(alloc)?;
-    if times > 65_536 || !is_plan(&plan) {
+    if times > 65_536 {
         return Ok(0);
     }
     let task = sample_tasks::task(nest, pred);
@@ -117,9 +116,6 @@ fn phases<C: Crew>(
     requires pred { pred.now ≡ row }
 {
     let plan = four_empty(alloc)?;
-    if !is_plan(&plan) {
-        return Ok(0);
-    }
     let task = sample_tasks::task(nest, pred);
     let walks = Repeats { tiles: 4, each: 0 };
     let asked = Asked {
@@ -191,14 +187,6 @@ fn one_after_another<'a, C: Crew>(
         steps = steps.wrapping_add(ran.unwrap_or(0));
     }
     steps
-}
-
-/// Whether the plan may be posted over 40 words.
-fn is_plan(plan: &Plan) -> bool
-    ensures separate { IsTrue result → IsSeparate plan.now }
-    ensures inside { IsTrue result → IsInside 40 plan.now }
-{
-    plan.is_inside(40) && plan.separate()
 }
 
 /// A plan of one tile, which writes word 0.

@@ -1,8 +1,8 @@
 //! Rounds of a load and a store over a memory of 1,024 words.
-ghost use Rattle.std.specs.Prelude.{◌≡◌, ℕ, ◌<◌, false, [], true, length, IsTrue};
+ghost use Rattle.std.specs.Prelude.{◌≡◌, ℕ, ◌<◌, false, [], true, length, IfOk};
 ghost use Rattle.core_steps.specs.Plans.{IsSeparate, IsInside, writes};
 ghost use Rattle.core_steps.specs.Views.{may_load, may_store};
-ghost use Rattle.words_bench.specs.Reach.{MayTouchAll};
+ghost use Rattle.words_bench.specs.Reach.{MayTouchAll, AreBelow};
 
 use core_steps::{Plan, Tile};
 use shared_words::{MainSeat, SharedWords, WorkSeat};
@@ -49,9 +49,6 @@ fn by_worker(
     requires base { length main.view.base ≡ 1024 }
 {
     let plan = plan_of_all(alloc)?;
-    if !may_be_posted(&plan) || !writes_all(&plan) {
-        return Ok(0);
-    }
     main.post(&words, &plan);
     let mut seat = main.split(&words, 1);
     if !seat.claim(&words, 0) {
@@ -75,29 +72,26 @@ fn by_seat(words: &SharedWords, seat: &mut WorkSeat, rounds: u32) -> i64
 }
 
 /// One tile that writes all words.
-fn plan_of_all(alloc: Global) -> Result<Plan, AllocError> {
+#[tactic(auto, using(crate::proofs::AddressLaws::plan_of_all))]
+fn plan_of_all(alloc: Global) -> Result<Plan, AllocError>
+    ensures one { IfOk result (λ plan. length plan.tiles ≡ 1) }
+    ensures separate { IfOk result (λ plan. IsSeparate plan) }
+    ensures inside { IfOk result (λ plan. IsInside 1024 plan) }
+    ensures all { IfOk result (λ plan. (a : ℕ) → a < 1024 → writes plan 0 a ≡ true) }
+{
     let mut tiles = Vec::new(alloc);
-    let writes: Vec<u64> = (0..u64::from(WORDS)).collect(alloc)?;
-    tiles.push(Tile::new(Vec::new(alloc), writes))?;
+    tiles.push(Tile::new(Vec::new(alloc), all_addresses(alloc)?))?;
     Ok(Plan::new(tiles))
 }
 
-fn may_be_posted(plan: &Plan) -> bool
-    ensures separate { IsTrue result → IsSeparate plan.now }
-    ensures inside { IsTrue result → IsInside 1024 plan.now }
-    ensures one { IsTrue result → length plan.now.tiles ≡ 1 }
+/// The addresses of all words.
+#[tactic(auto, using(crate::proofs::AddressLaws::addresses))]
+fn all_addresses(alloc: Global) -> Result<Vec<u64>, AllocError>
+    ensures { IfOk result (λ addresses. AreBelow 1024 addresses.items) }
 {
-    plan.tiles.len() == 1 && plan.is_inside(WORDS as usize) && plan.separate()
-}
-
-/// Whether tile 0 writes all words.
-fn writes_all(plan: &Plan) -> bool
-    ensures { IsTrue result → ((a : ℕ) → a < 1024 → writes plan.now 0 a ≡ true) }
-{
+    let mut addresses = Vec::new(alloc);
     for address in 0..u64::from(WORDS) {
-        if !plan.writes(0, address) {
-            return false;
-        }
+        addresses.push(address)?;
     }
-    true
+    Ok(addresses)
 }

@@ -1,9 +1,9 @@
 use Rattle.std.proofs.Common.{◌≡◌, ◌∙◌, ◌≤◌, ◌*◌, ◌<◌, ℕ, true, length, ap, sym, subst, arith, rules}
 use Rattle.core_steps.specs.declared.plan.Plan.{Plan}
-use Rattle.core_steps.specs.Plans.{writes}
+use Rattle.core_steps.specs.Plans.{IsSeparate, IsInside, writes}
 use Rattle.follow_chunk.specs.Tasks.{task_of}
 use Rattle.turns_bench.specs.Copies.{one_store}
-use Rattle.turns_bench.proofs.PostingLaws.{postable, task-is, one-writes}
+use Rattle.turns_bench.proofs.PostingLaws.{postable, task-is, one-store-separate, one-store-inside, one-store-writes}
 use Rattle.turns_bench.proofs.worker.Goals as goal
 
 pub over_new_words-requires : goal.over_new_words-requires
@@ -15,7 +15,7 @@ over_new_words-requires g c =
     let times = c.args.times in
     let few = c.if-times-gt65536.false in
     let short : 1 * times ≤ 65536 = omega (arith, few) in
-    let word = λ (tile : ℕ) (below : tile < 1) (some : 0 < times). subst (λ (q : Plan). writes q tile 0 ≡ true) (sym same) (one-writes tile below) in
-    let may = postable 1 times 1 plan (c.is_plan.ensures.separate c.if-not-is_plan.false) (c.is_plan.ensures.inside c.if-not-is_plan.false) (ap (λ (q : Plan). length q.tiles) same) (omega arith) short (omega arith) (omega arith) word
+    let word = λ (tile : ℕ) (below : tile < 1) (some : 0 < times). subst (λ (q : Plan). writes q tile 0 ≡ true) (sym same) (one-store-writes tile below) in
+    let may = postable 1 times 1 plan (subst IsSeparate (sym same) one-store-separate) (subst (IsInside 40) (sym same) one-store-inside) (ap (λ (q : Plan). length q.tiles) same) (omega arith) short (omega arith) (omega arith) word
     (task_of t) (task-is (task_of t) is.scalars (ap (λ n. n.loops) is.nest ∙ c.requires.nest) (is.pred ∙ c.requires.pred) is.outer is.chunk) in
     search rules
