@@ -72,7 +72,6 @@ fn by_seat(words: &SharedWords, seat: &mut WorkSeat, rounds: u32) -> i64
 }
 
 /// One tile that writes all words.
-#[tactic(auto, using(crate::proofs::AddressLaws::plan_of_all))]
 fn plan_of_all(alloc: Global) -> Result<Plan, AllocError>
     ensures one { IfOk result (λ plan. length plan.tiles ≡ 1) }
     ensures separate { IfOk result (λ plan. IsSeparate plan) }
