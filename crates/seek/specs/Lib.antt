@@ -1,0 +1,4 @@
+pub mod ScheduleLists
+pub mod Confirmations
+pub mod Laws
+pub mod Examples
