@@ -1,0 +1,4 @@
+pub mod FaultLaws
+pub mod ClaimLaws
+pub mod RowLaws
+pub mod YesLaws
