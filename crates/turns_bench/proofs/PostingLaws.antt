@@ -1,8 +1,9 @@
 -- Phases of copies of the first instance may be posted.
-use Rattle.std.proofs.Common.{◌≡◌, ℕ, zero, suc, ◌*◌, ◌<◌, ◌≤◌, lit<, pos, ◌≤ℤ◌, Bool, true, false, ◌||◌, true≢false, List, [], ◌∷◌, length, Some, None, refl, sym, ap, ◌∙◌, subst, ⊎_elim, arith}
+use Rattle.std.proofs.Common.{◌≡◌, ℕ, zero, suc, ◌*◌, ◌<◌, ◌≤◌, pos, ◌≤ℤ◌, Bool, true, false, ◌||◌, true≢false, List, [], ◌∷◌, length, Some, None, refl, sym, ap, ◌∙◌, subst, ⊎_elim, arith}
 use Rattle.std.proofs.lemmas.Int.{ints}
 use Rattle.atomic_table.specs.Seated.{TableId}
 use Rattle.core_steps.specs.declared.plan.Plan.{Plan}
+use Rattle.core_steps.proofs.NumberListLaws.{has-snoc}
 use Rattle.core_steps.specs.Numbers.{has as has-number}
 use Rattle.core_steps.specs.Plans.{IsSeparate, IsInside, tile_of, writes}
 use Rattle.domain.specs.Examples.{row}
@@ -96,8 +97,7 @@ one-store-separate zero (suc k) ne a w = refl
 one-store-separate (suc j) k ne a w = absurd (true≢false (sym w))
 
 pub one-store-inside : IsInside 40 one_store
-one-store-inside zero zero t = lit< tt
-one-store-inside zero (suc a) t = absurd (true≢false (sym t))
+one-store-inside zero a t = ⊎_elim (λ e. omega (arith, e)) (λ was. absurd (true≢false (sym was))) (has-snoc a 0 [] t)
 one-store-inside (suc k) a t = absurd (true≢false (sym t))
 
 pub one-store-writes : (tile : ℕ) → tile < 1 → writes one_store tile 0 ≡ true
