@@ -2,6 +2,7 @@
 
 ghost use Rattle.std.specs.Prelude.{◌≡◌, ◌≢◌, [], map, string_bytes};
 ghost use Rattle.std.specs.IoError.{error_kind};
+ghost use Rattle.std.specs.declared.io.ErrorKind.TheVariants.{OutOfMemory};
 ghost use Rattle.nest_top.specs.Calls.{IsCall};
 ghost use Rattle.nest_top.specs.Exits.{exit_code};
 ghost use Rattle.nest_top.specs.declared.status.Status.{Status};
@@ -68,8 +69,8 @@ pub fn crew_behind<T: Threads + Sync, G: Gate>(rt: T, alloc: Global, gate: G) ->
 
 /// The exit where the arguments can't be had: 5 where no memory was found for them, and 65 for every other cause.
 pub fn exit_without_arguments(error: &io::Error) -> u8
-    ensures memory { error_kind error.now ≡ io.ErrorKind.OutOfMemory → result ≡ 5 }
-    ensures other { error_kind error.now ≢ io.ErrorKind.OutOfMemory → result ≡ 65 }
+    ensures memory { error_kind error.now ≡ OutOfMemory → result ≡ 5 }
+    ensures other { error_kind error.now ≢ OutOfMemory → result ≡ 65 }
 {
     match error.kind() {
         io::ErrorKind::OutOfMemory => NO_MEMORY,
